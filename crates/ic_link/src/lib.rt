@@ -1,0 +1,15 @@
+// Stores of links: what each promises of its list of links, and the plain one.
+#![tactic(auto)]
+
+pub mod ends;
+pub mod laws;
+pub mod rows;
+pub mod store;
+
+pub use ends::{ends_at, is_of, one_if_same, other_end};
+pub use laws::{has_room, there_and_back};
+pub use rows::LinkRows;
+pub use store::{Far, LinkStore};
+
+#[cfg(test)]
+mod tests;

@@ -1,0 +1,4 @@
+pub mod NameOrder
+pub mod SameFacts
+pub mod SpotFacts
+pub mod NameTextFacts

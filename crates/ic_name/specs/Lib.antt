@@ -1,0 +1,6 @@
+pub mod Names
+pub mod NameTexts
+pub mod Same
+pub mod Kinds
+pub mod Events
+pub mod Spots

@@ -1,0 +1,22 @@
+// What the parts of a net are called: kinds, names of agents, events, ports, ids, links, and the lines of a history.
+#![tactic(auto)]
+
+pub mod events;
+pub mod ids;
+pub mod kinds;
+pub mod limits;
+pub mod lines;
+pub mod names;
+pub mod ports;
+pub mod rules;
+
+pub use events::{Event, EventName};
+pub use ids::{AgentId, EventId, Link, LinkId, MakerId, Spot};
+pub use kinds::Kind;
+pub use lines::{Call, Line, Reply};
+pub use names::AgentName;
+pub use ports::Port;
+pub use rules::{Profile, RuleEnd};
+
+#[cfg(test)]
+mod tests;

@@ -1,0 +1,12 @@
+pub mod Picks
+pub mod Alikes
+pub mod Degrees
+pub mod Walks
+pub mod Ends
+pub mod Orders
+pub mod Renamed
+pub mod LooseEnds
+pub mod Rotated
+pub mod Sorts
+pub mod EachOnce
+pub mod Seals

@@ -1,0 +1,15 @@
+pub mod Rules
+pub mod Born
+pub mod Starts
+pub mod Sets
+pub mod Wires
+pub mod Active
+pub mod Causes
+pub mod Sound
+pub mod Nets
+pub mod Steps
+pub mod Firings
+pub mod Future
+pub mod Letters
+pub mod Machine
+pub mod Listed

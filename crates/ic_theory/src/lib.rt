@@ -1,0 +1,73 @@
+// Interactions as events over a start: the nets that sets of events leave, the steps, and the machine, with laws.
+#![tactic(auto)]
+
+ghost use Rattle.std.specs.Prelude.{◌≡◌, ◌≢◌, ◌<◌, ◌⊎◌, ◌↔◌, List, [], ◌∷◌, length, Some};
+ghost use Rattle.ic_name.specs.Names.{Name};
+ghost use Rattle.ic_name.specs.Events.{Event};
+ghost use Rattle.ic_name.specs.declared.lines.Call.{Call};
+ghost use Rattle.ic_name.specs.declared.lines.Line.{Line};
+ghost use Rattle.ic_name.specs.declared.lines.Reply.{Reply};
+ghost use Rattle.ic_name.specs.declared.ports.Port.{Port};
+ghost use Rattle.ic_path.specs.Orders.{IsIn, Alike};
+ghost use Rattle.ic_theory.specs.Starts.{Start, IsProper};
+ghost use Rattle.ic_theory.specs.Wires.{IsLoose, IsWire};
+ghost use Rattle.ic_theory.specs.Active.{IsActive};
+ghost use Rattle.ic_theory.specs.Causes.{IsCause};
+ghost use Rattle.ic_theory.specs.Sound.{IsSound};
+ghost use Rattle.ic_theory.specs.Nets.{IsSameNet, net_of};
+ghost use Rattle.ic_theory.specs.Steps.{Meets, plain_step, steps, AreDefined};
+ghost use Rattle.ic_theory.specs.Firings.{IsFired, AreAfterCauses, then_fired};
+ghost use Rattle.ic_theory.specs.Future.{Union, Includes};
+ghost use Rattle.ic_theory.specs.Letters.{Letter, Runs, AreEquivalent};
+ghost use Rattle.ic_theory.specs.Machine.{Standing, State, events, Answers, IsHistory};
+
+/// Each loose port has a partner: the other end of its wire, another port, whose partner it is.
+pub fn wires()
+    ensures loose { (s : Start) (es : List Event) (p : Port) → IsProper s → IsFired s es → IsLoose s es p → (q : Port) × ((net_of s es).partner p ≡ Some q) }
+    ensures back { (s : Start) (es : List Event) (p q : Port) → IsProper s → IsFired s es → (net_of s es).partner p ≡ Some q → (q ≢ p) × ((net_of s es).partner q ≡ Some p) }
+    ensures ends { (s : Start) (es : List Event) (p q : Port) → IsProper s → IsFired s es → (net_of s es).partner p ≡ Some q ↔ IsWire s es p q }
+{}
+
+/// A plain step is defined for the active events, and gives the net of the set with that event.
+pub fn steps_agree()
+    ensures defined { (s : Start) (es : List Event) (e : Event) → IsProper s → IsFired s es → IsActive s es e ↔ Meets (net_of s es) e }
+    ensures same { (s : Start) (es : List Event) (e : Event) → IsProper s → IsFired s es → IsActive s es e → IsSameNet (plain_step (net_of s es) e) (net_of s (e ∷ es)) }
+{}
+
+/// Steps are defined along the causal orders of sound sets and along no other list, and end in the net of the set.
+pub fn orders()
+    ensures defined { (s : Start) (list : List Event) → IsProper s → let set = then_fired [] list in AreDefined (net_of s []) list ↔ (IsSound s set × AreAfterCauses s set set) }
+    ensures ends { (s : Start) (list : List Event) → IsProper s → AreDefined (net_of s []) list → steps (net_of s []) list ≡ net_of s (then_fired [] list) }
+{}
+
+/// Of two firings over one start there is a common one, and events of both that share an agent are one.
+pub fn one_future()
+    ensures union { (s : Start) (es fs : List Event) → IsProper s → IsFired s es → IsFired s fs → Union s es fs }
+    ensures partner { (s : Start) (es fs : List Event) (e f : Event) (n : Name) → IsProper s → IsFired s es → IsFired s fs → IsIn e es → IsIn f fs → (n ≡ e.lead) ⊎ (n ≡ e.other) → (n ≡ f.lead) ⊎ (n ≡ f.other) → e ≡ f }
+{}
+
+/// A firing leaves a sound set, and each sound set can be fired in some order; any order gives one net. Of two sound
+/// sets there is a sound set with the events of both, and in it an event has the causes that it had.
+pub fn sound_sets()
+    ensures left { (s : Start) (es : List Event) → IsProper s → IsFired s es → IsSound s es }
+    ensures fired { (s : Start) (es : List Event) → IsProper s → IsSound s es → (order : List Event) × Alike es order × IsFired s order }
+    ensures net { (s : Start) (es fs : List Event) → IsProper s → IsSound s es → Alike es fs → IsSameNet (net_of s es) (net_of s fs) }
+    ensures union { (s : Start) (es fs : List Event) → IsProper s → IsSound s es → IsSound s fs → (all : List Event) × IsSound s all × Includes all es × Includes all fs }
+    ensures causes { (s : Start) (all es : List Event) (e c : Event) → IsProper s → IsSound s all → Includes all es → IsSound s es → IsIn e es → IsCause s all e c ↔ IsCause s es e c }
+{}
+
+/// Two legal lists of letters over one start are equivalent exactly where their standing sets are equal.
+pub fn consistency()
+    ensures equal_sets { (s : Start) (fs gs : List Event) (ls ms : List Letter) → IsProper s → Runs s [] ls fs → Runs s [] ms gs → AreEquivalent s ls ms ↔ Alike fs gs }
+{}
+
+/// What stands after a legal history is sound, each event with the number of a line of its own, and it determines
+/// what a call answers and what stands then, up to order.
+pub fn machine()
+    ensures sound { (s : Start) (lines : List Line) (st : State) → IsProper s → IsHistory s lines st → IsSound s (events st) }
+    ensures count { (s : Start) (lines : List Line) (st : State) → IsHistory s lines st → st.lines ≡ length lines }
+    ensures below { (s : Start) (lines : List Line) (st : State) (x : Standing) → IsProper s → IsHistory s lines st → IsIn x st.standing → x.line < st.lines }
+    ensures own { (s : Start) (lines : List Line) (st : State) (x y : Standing) → IsProper s → IsHistory s lines st → IsIn x st.standing → IsIn y st.standing → x.line ≡ y.line → x ≡ y }
+    ensures reply { (s : Start) (lines : List Line) (st a a' : State) (call : Call) (r r' : Reply) → IsProper s → IsHistory s lines st → Answers s st call r a → Answers s st call r' a' → r ≡ r' }
+    ensures standing { (s : Start) (lines : List Line) (st a a' : State) (call : Call) (r r' : Reply) → IsProper s → IsHistory s lines st → Answers s st call r a → Answers s st call r' a' → Alike a.standing a'.standing }
+{}
