@@ -1,0 +1,4 @@
+pub mod WordFacts
+pub mod InputFacts
+pub mod AnswerFacts
+pub mod SessionFacts

@@ -1,0 +1,7 @@
+use Rattle.std.proofs.Common.{map}
+use Rattle.ic_lines.specs.Left.{left}
+use Rattle.ic_bench.proofs.AnswerFacts.{HasAnswered}
+use Rattle.ic_bench.proofs.session.answer_all.Given as goal
+
+abbrev pub invariant-loop : goal.invariant-loop
+invariant-loop g l = HasAnswered (map (λ t. t.items) l.fn.names) l.fn.net (left l.fn.input (g.R.Read.remaining l.fn.reader)) (left l.input (g.R.Read.remaining l.reader)) (g.W.Write.contents l.fn.writer) (g.W.Write.contents l.writer)

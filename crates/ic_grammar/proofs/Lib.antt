@@ -1,0 +1,4 @@
+pub mod Spelling
+pub mod LinkEnds
+pub mod Distinct
+pub mod Proper

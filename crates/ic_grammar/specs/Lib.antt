@@ -1,0 +1,4 @@
+pub mod Texts
+pub mod Tokens
+pub mod Grammar
+pub mod Faults

@@ -1,0 +1,12 @@
+-- What an input has left, over a reader.
+use Rattle.std.specs.Prelude.{ℕ, List, Option, drop}
+use Rattle.std.specs.Io.KnownBytes.{prepend_known}
+use Rattle.ic_lines.specs.declared.input.Input.{Input}
+
+-- the bytes that were read and not yet taken
+abbrev pub unread : Input → List ℕ
+unread i = drop i.start i.buffer.items
+
+-- these, and then what the reader has left, where that is known
+abbrev pub left : Input → Option (List ℕ) → Option (List ℕ)
+left i known = prepend_known (unread i) known

@@ -1,0 +1,14 @@
+// Lines of bounded length from a reader, and replies to a writer.
+#![tactic(auto)]
+
+mod feeds;
+pub mod input;
+pub mod output;
+pub mod piece;
+
+pub use input::Input;
+pub use output::write_reply;
+pub use piece::{IoFault, Piece};
+
+#[cfg(test)]
+mod tests;

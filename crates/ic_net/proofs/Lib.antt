@@ -1,0 +1,10 @@
+pub mod FarTableFacts
+pub mod Listings
+pub mod NameCounts
+pub mod StartNets
+pub mod Lookups
+pub mod SameTables
+pub mod SameStarts
+pub mod SortedTables
+pub mod OneListing
+pub mod ActivePairs

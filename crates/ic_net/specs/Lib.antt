@@ -1,0 +1,4 @@
+pub mod Starts
+pub mod FarTables
+pub mod Nets
+pub mod Views

@@ -1,0 +1,59 @@
+-- What a net's tables list.
+use Rattle.std.specs.Prelude.{ℕ, ◌+◌, ◌<◌, ◌≤◌, ◌^◌, zero, suc, Bool, List, [], ◌∷◌, ◌++◌, length, Option, slice_get, if◌then◌else◌}
+use Rattle.std.specs.Ordering.{is_lt}
+use Rattle.ic_name.specs.Names.{Name, start_name}
+use Rattle.ic_name.specs.declared.kinds.Kind.{Kind}
+use Rattle.ic_name.specs.declared.kinds.Kind.TheVariants.{Eps}
+use Rattle.ic_name.specs.declared.ports.Port.{Port}
+use Rattle.ic_name.specs.declared.limits.TheConstants.{MAX_AGENTS}
+use Rattle.ic_name.specs.declared.ports.Port.TheVariants as port
+use Rattle.ic_theory.specs.Listed.{NetAgent as Listed, ListedNet, IsListing, port_cmp, ends_from, led_pair}
+use Rattle.ic_net.specs.declared.agents.Partners.{Partners}
+use Rattle.ic_net.specs.declared.agents.Partners.TheVariants.{One, Three}
+use Rattle.ic_net.specs.declared.agents.NetAgent.{NetAgent}
+
+-- the partners by number
+abbrev pub partner_list : Partners → List Port
+partner_list (One ps) = ps
+partner_list (Three ps) = ps
+
+-- an entry of the table of agents
+abbrev pub listed_agent : Name × NetAgent → Listed
+listed_agent x = record { name = x.0; kind = x.1.kind; partners = partner_list x.1.partners }
+
+-- the values at an agent's ports, by number
+abbrev pub at_ports : {X : Type 0} → Kind → (ℕ → X) → List X
+at_ports Eps f = f 0 ∷ []
+at_ports _ f = f 0 ∷ f 1 ∷ f 2 ∷ []
+
+-- the agents of a start from number k on, the partners of whose ports the function gives
+abbrev pub listed_from : (ℕ → ℕ → Port) → ℕ → List Kind → List Listed
+listed_from partner k [] = []
+listed_from partner k (x ∷ xs) = record { name = start_name k; kind = x; partners = at_ports x (partner k) } ∷ listed_from partner (k + 1) xs
+
+-- the names below n that occur once, with their partners
+abbrev pub frees_upto : (ℕ → Bool) → (ℕ → Port) → ℕ → List (ℕ × Port)
+frees_upto once partner zero = []
+frees_upto once partner (suc n) = frees_upto once partner n ++ (if once n then (n, partner n) ∷ [] else [])
+
+-- what a net keeps: it is listed in one way, and it is of a size that can be counted
+pub record IsNet (l : ListedNet) : Type 0 where
+  pub listing : IsListing l
+  pub few_agents : length l.agents ≤ MAX_AGENTS
+  pub few_frees : length l.frees < 2 ^ 32
+  pub few_rings : l.rings < 2 ^ 63
+
+-- the ports of an agent with their partners, and a name with its partner
+abbrev pub agent_ends : Listed → List (Port × Port)
+agent_ends a = ends_from a.name 0 a.partners
+
+abbrev pub name_end : ℕ × Port → Port × Port
+name_end x = (port.Name x.0, x.1)
+
+-- a port that is less than its partner
+abbrev pub is_lesser_end : Port × Port → Bool
+is_lesser_end x = is_lt (port_cmp x.0 x.1)
+
+-- the active pair that an agent leads, if it does
+abbrev pub pair_led_by : Listed → Option (Name × Name)
+pair_led_by a = led_pair a.name (slice_get a.partners 0)

@@ -1,0 +1,155 @@
+ghost use Rattle.std.specs.Prelude.{◌≡◌, ◌↔◌, ◌≤◌, ◌<◌, ◌^◌, [], length, map, IfOk, IsTrue, option_copied};
+ghost use Rattle.ic_theory.specs.Nets.{net_of, IsSameNet};
+ghost use Rattle.ic_theory.specs.Listed.{IsListing, shown, wires_of, active_pairs};
+ghost use Rattle.ic_net.specs.Views.{shown_agent, shown_free};
+
+use crate::agents::NetAgent;
+use crate::far::far_table;
+use crate::pairs::active_of;
+use crate::same::{same_agents, same_frees};
+use crate::start::Start;
+use crate::tables::{agents_of, frees_of, name_ends};
+use crate::views::{AgentView, FreeView, agent_views_of, free_views_of};
+use crate::wires::{agent_wires, name_wires};
+use ic_name::limits::MAX_AGENTS;
+use ic_name::{AgentName, Kind, Port, Profile};
+use std::alloc::{AllocError, Global};
+use std::collections::BTreeMap;
+use std::marker::Model;
+
+/// A net without its links: its agents by name, the partner of each loose port, a number of rings, and a profile.
+#[derive(Drop)]
+pub struct Net {
+    agents: BTreeMap<AgentName, NetAgent>,
+    frees: BTreeMap<u32, Port>,
+    rings: u64,
+    profile: Profile,
+}
+
+impl Model for Net {
+    ghost use Rattle.std.specs.Prelude.{map};
+    ghost use Rattle.ic_theory.specs.Listed.{ListedNet};
+
+    ghost Value = { ListedNet };
+
+    ghost use Rattle.ic_net.specs.Nets.{listed_agent, IsNet};
+
+    ghost view = { λ n. record { agents = map listed_agent n.agents.entries; frees = n.frees.entries; rings = n.rings; profile = n.profile } };
+
+    ghost invariant = { λ n. IsNet (record { agents = map listed_agent n.agents.entries; frees = n.frees.entries; rings = n.rings; profile = n.profile }) };
+}
+
+impl Net {
+    /// The net of a start, of which no event has been fired.
+    pub fn of_start(alloc: Global, start: &Start) -> Result<Net, AllocError>
+        ensures net { IfOk result (λ n. IsSameNet (shown n) (net_of start.now [])) }
+        ensures agents { IfOk result (λ n. length n.agents ≡ length start.now.kinds) }
+        ensures few_rings { IfOk result (λ n. n.rings ≤ length start.now.joins) }
+    {
+        start.lawful();
+        let (count, names, links) = (start.agents(), start.names().len(), start.links());
+        let table = far_table(alloc, count, names, links)?;
+        let ends = table.ends.as_slice();
+        let times = name_ends(alloc, count, names, links)?;
+        let agents = agents_of(alloc, start.kinds(), names, ends)?;
+        let frees = frees_of(alloc, count, times.as_slice(), ends)?;
+        Ok(Net {
+            agents,
+            frees,
+            rings: table.rings,
+            profile: start.profile(),
+        })
+    }
+
+    /// What holds of every net, for whoever has to show it.
+    pub fn lawful(&self)
+        ensures listing { IsListing self.now }
+        ensures few_agents { length self.now.agents ≤ MAX_AGENTS }
+        ensures few_frees { length self.now.frees < 2 ^ 32 }
+        ensures few_rings { self.now.rings < 2 ^ 63 }
+    {
+        let _ = &self.rings;
+    }
+
+    /// The kind of an agent of the net. It takes no memory.
+    pub fn kind(&self, name: &AgentName) -> Option<Kind>
+        ensures { result ≡ (shown self.now).kind name.now }
+    {
+        match self.agents.get(name) {
+            Some(agent) => Some(agent.kind),
+            None => None,
+        }
+    }
+
+    /// The partner of a loose port; `None` for any other. It takes no memory.
+    pub fn partner(&self, port: &Port) -> Option<&Port>
+        ensures { option_copied result ≡ (shown self.now).partner port.now }
+    {
+        match port {
+            Port::Of(name, number) => match self.agents.get(name) {
+                Some(agent) => agent.partners.as_slice().get(usize::from(*number)),
+                None => None,
+            },
+            Port::Name(number) => self.frees.get(number),
+        }
+    }
+
+    /// The number of agents.
+    pub fn agents(&self) -> usize
+        ensures { result ≡ length self.now.agents }
+    {
+        self.agents.len()
+    }
+
+    /// The number of wires; each joins two loose ports. It takes no memory.
+    pub fn wires(&self) -> u64
+        ensures { result ≡ wires_of self.now }
+    {
+        agent_wires(&self.agents) + name_wires(&self.frees)
+    }
+
+    /// The active pairs: the two agents whose principal ports meet, the lesser one, the lead, first, in order of leads.
+    pub fn active(&self, alloc: Global) -> Result<Vec<(AgentName, AgentName)>, AllocError>
+        ensures { IfOk result (λ pairs. pairs.items ≡ active_pairs self.now) }
+    {
+        active_of(alloc, &self.agents)
+    }
+
+    /// The agents, in order of names.
+    pub fn agent_views(&self, alloc: Global) -> Result<Vec<AgentView<'_>>, AllocError>
+        ensures { IfOk result (λ views. map shown_agent views.items ≡ self.now.agents) }
+    {
+        agent_views_of(alloc, &self.agents)
+    }
+
+    /// The names of the text that are loose ports, in order of numbers.
+    pub fn free_views(&self, alloc: Global) -> Result<Vec<FreeView<'_>>, AllocError>
+        ensures { IfOk result (λ views. map shown_free views.items ≡ self.now.frees) }
+    {
+        free_views_of(alloc, &self.frees)
+    }
+
+    /// Whether two nets are the same, name by name and port by port. It takes no memory.
+    pub fn same(&self, other: &Net) -> bool
+        ensures { IsTrue result ↔ (self.now ≡ other.now) }
+    {
+        self.rings == other.rings
+            && self.profile == other.profile
+            && same_agents(&self.agents, &other.agents)
+            && same_frees(&self.frees, &other.frees)
+    }
+
+    /// The number of rings.
+    pub fn rings(&self) -> u64
+        ensures { result ≡ self.now.rings }
+    {
+        self.rings
+    }
+
+    /// Which ports an annihilation of two gammas joins.
+    pub fn profile(&self) -> Profile
+        ensures { result ≡ self.now.profile }
+    {
+        self.profile
+    }
+}

@@ -1,0 +1,5 @@
+pub mod Lines
+pub mod NetText
+pub mod Numbers
+pub mod Ports
+pub mod Sheets

@@ -1,0 +1,176 @@
+ghost use Rattle.std.specs.Prelude.{◌≡◌, ◌++◌, ◌+◌, ◌<◌, ◌^◌, map, length, codes, decimal, OnOk, All};
+ghost use Rattle.std.specs.List.{flat_map};
+ghost use Rattle.ic_name.specs.Kinds.{arity};
+ghost use Rattle.ic_print.specs.Lines.{ring_line, texts};
+ghost use Rattle.ic_print.specs.NetText.{agent_line, arguments, header, letter, name_text, numbered, port_label, profile_line, ring_lines};
+ghost use Rattle.ic_print.specs.Sheets.{wires_in};
+ghost use Rattle.ic_net.specs.Views.{shown_agent};
+
+use crate::numbered::NumberedAgents;
+use crate::ports::{AgentPort, partner};
+use ic_name::{Kind, Port, Profile};
+use ic_net::AgentView;
+use std::alloc::AllocError;
+
+/// The text of the name of this number.
+pub(crate) fn text_of(names: &[Vec<u8>], number: u32) -> &[u8]
+    ensures { result.now ≡ name_text (texts names.now) number }
+{
+    match names.get(number as usize) {
+        Some(text) => text.as_slice(),
+        None => &[],
+    }
+}
+
+fn put_decimal(out: &mut Vec<u8>, n: u64) -> Result<(), AllocError>
+    ensures { OnOk result (out.new.items ≡ out.old.items ++ decimal n) }
+{
+    let text = format!(in *out.allocator(); "{n}")?;
+    out.extend_from_slice(text.as_bytes())
+}
+
+fn put_numbered(out: &mut Vec<u8>, number: u64) -> Result<(), AllocError>
+    ensures { OnOk result (out.new.items ≡ out.old.items ++ numbered number) }
+{
+    out.extend_from_slice(b"_")?;
+    put_decimal(out, number)
+}
+
+/// Writes the wire at an agent's port: the free name at its other end, or else its number.
+fn put_port<'a>(
+    out: &mut Vec<u8>,
+    sheet: &NumberedAgents<'a>,
+    names: &[Vec<u8>],
+    agent: &AgentView<'a>,
+    port: u8,
+) -> Result<(), AllocError>
+    requires { port < length agent.now.partners.now }
+    ensures { OnOk result (out.new.items ≡ out.old.items ++ port_label (texts names.now) (wires_in sheet.now) (shown_agent agent.now) port) }
+{
+    match partner(agent, port) {
+        Port::Name(number) => out.extend_from_slice(text_of(names, *number)),
+        Port::Of(name, number) => {
+            let here = AgentPort {
+                name: agent.name,
+                number: port,
+            };
+            let there = AgentPort {
+                name,
+                number: *number,
+            };
+            put_numbered(out, sheet.number(here.wire_to(there)))
+        }
+    }
+}
+
+fn put_letter(out: &mut Vec<u8>, kind: Kind) -> Result<(), AllocError>
+    ensures { OnOk result (out.new.items ≡ out.old.items ++ letter kind) }
+{
+    match kind {
+        Kind::Gamma => out.extend_from_slice(b"G"),
+        Kind::Delta => out.extend_from_slice(b"D"),
+        Kind::Eps => out.extend_from_slice(b"E"),
+    }
+}
+
+/// Writes the parentheses of a gamma or delta, with its auxiliary ports.
+fn put_arguments<'a>(
+    out: &mut Vec<u8>,
+    sheet: &NumberedAgents<'a>,
+    names: &[Vec<u8>],
+    agent: &AgentView<'a>,
+) -> Result<(), AllocError>
+    requires { length agent.now.partners.now ≡ arity agent.now.kind + 1 }
+    ensures { OnOk result (out.new.items ≡ out.old.items ++ arguments (texts names.now) (wires_in sheet.now) (shown_agent agent.now) agent.now.kind) }
+{
+    match agent.kind {
+        Kind::Eps => Ok(()),
+        Kind::Gamma | Kind::Delta => {
+            out.extend_from_slice(b"(")?;
+            put_port(out, sheet, names, agent, 1)?;
+            out.extend_from_slice(b",")?;
+            put_port(out, sheet, names, agent, 2)?;
+            out.extend_from_slice(b")")
+        }
+    }
+}
+
+fn put_line<'a>(
+    out: &mut Vec<u8>,
+    sheet: &NumberedAgents<'a>,
+    names: &[Vec<u8>],
+    agent: &AgentView<'a>,
+) -> Result<(), AllocError>
+    requires { length agent.now.partners.now ≡ arity agent.now.kind + 1 }
+    ensures { OnOk result (out.new.items ≡ out.old.items ++ agent_line (texts names.now) (wires_in sheet.now) (shown_agent agent.now)) }
+{
+    put_letter(out, agent.kind)?;
+    put_arguments(out, sheet, names, agent)?;
+    out.extend_from_slice(b" = ")?;
+    put_port(out, sheet, names, agent, 0)?;
+    out.extend_from_slice(b";\n")
+}
+
+/// Writes the lines of the agents.
+pub(crate) fn put_agents(
+    out: &mut Vec<u8>,
+    sheet: &NumberedAgents<'_>,
+    names: &[Vec<u8>],
+) -> Result<(), AllocError>
+    requires { All (λ a. length a.partners ≡ arity a.kind + 1) (map shown_agent sheet.now.agents.now) }
+    ensures { OnOk result (out.new.items ≡ out.old.items ++ flat_map (agent_line (texts names.now) (wires_in sheet.now)) (map shown_agent sheet.now.agents.now)) }
+{
+    for agent in sheet.agents() {
+        put_line(out, sheet, names, agent)?;
+    }
+    Ok(())
+}
+
+/// Writes the first line, which counts agents, wires and rings.
+pub(crate) fn put_header(
+    out: &mut Vec<u8>,
+    agents: u64,
+    wires: u64,
+    rings: u64,
+) -> Result<(), AllocError>
+    ensures { OnOk result (out.new.items ≡ out.old.items ++ header agents wires rings) }
+{
+    out.extend_from_slice(b"# agents ")?;
+    put_decimal(out, agents)?;
+    out.extend_from_slice(b" wires ")?;
+    put_decimal(out, wires)?;
+    out.extend_from_slice(b" rings ")?;
+    put_decimal(out, rings)?;
+    out.extend_from_slice(b"\n")
+}
+
+/// Writes the line of the profile, if it has one.
+pub(crate) fn put_profile(out: &mut Vec<u8>, profile: Profile) -> Result<(), AllocError>
+    ensures { OnOk result (out.new.items ≡ out.old.items ++ profile_line profile) }
+{
+    match profile {
+        Profile::Classic => Ok(()),
+        Profile::Straight => out.extend_from_slice(b"@straight;\n"),
+    }
+}
+
+fn put_ring(out: &mut Vec<u8>, number: u64) -> Result<(), AllocError>
+    ensures { OnOk result (out.new.items ≡ out.old.items ++ ring_line number) }
+{
+    put_numbered(out, number)?;
+    out.extend_from_slice(b" = ")?;
+    put_numbered(out, number)?;
+    out.extend_from_slice(b";\n")
+}
+
+/// Writes the lines of the rings, numbered from `first` on.
+#[tactic(auto, using(crate::proofs::Rings::one_ring, crate::proofs::Rings::no_rings))]
+pub(crate) fn put_rings(out: &mut Vec<u8>, first: u64, rings: u64) -> Result<(), AllocError>
+    requires { first + rings < 2 ^ 64 }
+    ensures { OnOk result (out.new.items ≡ out.old.items ++ ring_lines first rings) }
+{
+    for i in 0..rings {
+        put_ring(out, first + i)?;
+    }
+    Ok(())
+}

@@ -1,0 +1,33 @@
+use Rattle.std.proofs.Common.{◌≡◌, ◌≤◌, None, Ok, length, map, true, option_map, sym, ap, ◌∙◌, arith}
+use Rattle.std.specs.Prelude.{count_by, find}
+use Rattle.ic_grammar.specs.declared.limits.TheConstants.{MAX_FREE_NAMES}
+use Rattle.ic_text.specs.Names.{is_free, is_reserved_free}
+use Rattle.ic_text.specs.Table.{first_of}
+use Rattle.ic_text.specs.Reading.{is_at_rest}
+use Rattle.ic_text.specs.Views.{state_of}
+use Rattle.ic_text.proofs.Finishing.{rests, finishes, makes_start}
+use Rattle.ic_text.proofs.builder.Builder.finish.Goals as goal
+
+pub make-requires : goal.make-requires
+make-requires c =
+    let s = state_of c.args.self in
+    let rest : is_at_rest s.stack s.side ≡ true =
+    rests c.args.self.stack.items _ s.side c.args.self.stack.ok.0 (sym c.is_empty.ensures ∙ c.if-not-is_empty.false) (sym c.is_left.ensures ∙ c.if-not-is_left.false) in
+    let none : option_map first_of (find is_reserved_free s.seen) ≡ None = sym c.reserved.ensures ∙ c.in_default.is in
+    let few : count_by is_free s.seen ≤ MAX_FREE_NAMES = omega (arith, c.free.ensures, c.if-free-gt-MAX_FREE_NAMES.false) in
+    let joins = c.into_vec-links.ensures.joins in
+    let texts = c.in_ok-names.ensures in
+    let done = finishes (length c.args.text.now) s c.into_vec-links.result.items (map (λ t. t.items) c.in_ok-names.names.items) rest none few joins texts in
+    makes_start c.args.text.now s c.into_vec-links.result.items (map (λ t. t.items) c.in_ok-names.names.items) c.requires.read c.requires.within c.requires.short done c.into_vec-links.ensures.of_start texts
+
+pub returns : goal.returns
+returns c =
+    let s = state_of c.args.self in
+    let rest : is_at_rest s.stack s.side ≡ true =
+    rests c.args.self.stack.items _ s.side c.args.self.stack.ok.0 (sym c.is_empty.ensures ∙ c.if-not-is_empty.false) (sym c.is_left.ensures ∙ c.if-not-is_left.false) in
+    let none : option_map first_of (find is_reserved_free s.seen) ≡ None = sym c.reserved.ensures ∙ c.in_default.is in
+    let few : count_by is_free s.seen ≤ MAX_FREE_NAMES = omega (arith, c.free.ensures, c.if-free-gt-MAX_FREE_NAMES.false) in
+    let joins = c.into_vec-links.ensures.joins in
+    let texts = c.in_ok-names.ensures in
+    let done = finishes (length c.args.text.now) s c.into_vec-links.result.items (map (λ t. t.items) c.in_ok-names.names.items) rest none few joins texts in
+    done ∙ ap Ok (sym c.make.ensures)

@@ -1,0 +1,256 @@
+ghost use Rattle.std.specs.Prelude.{◌≡◌, ◌<◌, ◌≤◌, ◌^◌, [], length, IfOk};
+ghost use Rattle.ic_grammar.specs.declared.limits.TheConstants.{MAX_TEXT};
+ghost use Rattle.ic_grammar.specs.Tokens.{symbol, name, items, between};
+ghost use Rattle.ic_text.specs.Reading.{Gives, initial, put, mark, advance, run, finish, is_at_rest, IsWithin};
+ghost use Rattle.ic_text.specs.Ends.{port_of_end};
+ghost use Rattle.ic_text.specs.Views.{token_of, side_of, state_of, GoesOn};
+
+use crate::fault::TextFault;
+use crate::lexer::Lexeme;
+use crate::links::{End, Links};
+use crate::names::Names;
+use ic_grammar::Refusal;
+use ic_grammar::limits::{MAX_FREE_NAMES, MAX_NAME, MAX_NESTING};
+use ic_name::limits::MAX_START_AGENTS;
+use ic_name::{Kind, Profile};
+use ic_net::Start;
+use std::alloc::{AllocError, Global};
+
+/// What comes next in the parentheses of a symbol.
+#[derive(Clone, Copy)]
+pub enum Phase {
+    Opening,
+    First,
+    Comma,
+    Second,
+    Closing,
+}
+
+/// A symbol whose parentheses are not yet closed.
+#[derive(Clone, Copy)]
+pub struct Frame {
+    pub agent: u32,
+    pub phase: Phase,
+}
+
+/// What comes next in an equation, outside all parentheses.
+#[derive(Clone, Copy)]
+pub enum Side {
+    Left,
+    Equals(End),
+    Right(End),
+    Semicolon,
+}
+
+/// What has been read of a text.
+#[derive(Drop)]
+pub struct Builder<'a> {
+    kinds: Vec<Kind>,
+    links: Links,
+    names: Names<'a>,
+    stack: Vec<Frame>,
+    side: Side,
+}
+
+impl<'a> Builder<'a> {
+    /// Nothing has been read.
+    pub fn new(alloc: Global) -> Builder<'a>
+        ensures { state_of result ≡ initial }
+    {
+        Builder {
+            kinds: Vec::new(alloc),
+            links: Links::new(alloc),
+            names: Names::new(alloc),
+            stack: Vec::new(alloc),
+            side: Side::Left,
+        }
+    }
+
+    /// A term with this root comes, if one may come here.
+    #[tactic(auto, using(crate::proofs::Steps::top))]
+    fn put(&mut self, root: End) -> Result<bool, AllocError>
+        requires { length self.old.links < 2 ^ 32 }
+        ensures { IfOk result (GoesOn (put (port_of_end root) (state_of self.old)) (state_of self.new)) }
+    {
+        match self.stack.pop() {
+            None => match self.side {
+                Side::Left => {
+                    self.side = Side::Equals(root);
+                    Ok(true)
+                }
+                Side::Right(left) => {
+                    self.links.push(left, root)?;
+                    self.side = Side::Semicolon;
+                    Ok(true)
+                }
+                Side::Equals(_) | Side::Semicolon => Ok(false),
+            },
+            Some(Frame { agent, phase }) => match phase {
+                Phase::First => {
+                    self.links.push(End::Agent(agent, 1), root)?;
+                    self.stack.push(Frame {
+                        agent,
+                        phase: Phase::Comma,
+                    })?;
+                    Ok(true)
+                }
+                Phase::Second => {
+                    self.links.push(End::Agent(agent, 2), root)?;
+                    self.stack.push(Frame {
+                        agent,
+                        phase: Phase::Closing,
+                    })?;
+                    Ok(true)
+                }
+                Phase::Opening | Phase::Comma | Phase::Closing => Ok(false),
+            },
+        }
+    }
+
+    /// A mark comes, if it may come here.
+    #[tactic(auto, using(crate::proofs::Steps::top))]
+    fn mark(&mut self, piece: Lexeme<'_>) -> Result<bool, AllocError>
+        ensures { IfOk result (GoesOn (mark (token_of piece.entry) (state_of self.old)) (state_of self.new)) }
+    {
+        match self.stack.pop() {
+            None => match (self.side, piece) {
+                (Side::Equals(left), Lexeme::Equals) => {
+                    self.side = Side::Right(left);
+                    Ok(true)
+                }
+                (Side::Semicolon, Lexeme::Semicolon) => {
+                    self.side = Side::Left;
+                    Ok(true)
+                }
+                _ => Ok(false),
+            },
+            Some(Frame { agent, phase }) => match (phase, piece) {
+                (Phase::Opening, Lexeme::Opening) => {
+                    self.stack.push(Frame {
+                        agent,
+                        phase: Phase::First,
+                    })?;
+                    Ok(true)
+                }
+                (Phase::Comma, Lexeme::Comma) => {
+                    self.stack.push(Frame {
+                        agent,
+                        phase: Phase::Second,
+                    })?;
+                    Ok(true)
+                }
+                (Phase::Closing, Lexeme::Closing) => Ok(true),
+                _ => Ok(false),
+            },
+        }
+    }
+
+    /// A symbol comes.
+    #[tactic(auto, unfolding(crate::specs::Reading::advance, crate::specs::Reading::step, crate::specs::Reading::over))]
+    fn take_symbol(&mut self, at: usize, kind: Kind) -> Result<(), TextFault>
+        requires within { IsWithin (state_of self.old) at }
+        requires early { at < 2 ^ 32 }
+        ensures { Gives (λ _. state_of self.new) result (advance (state_of self.old) at (symbol kind)) }
+    {
+        let number = self.kinds.len();
+        let depth = self.stack.len();
+        let agent = number as u32;
+        self.kinds.push(kind)?;
+        if !self.put(End::Agent(agent, 0))? {
+            return Err(TextFault::Refused(Refusal::Syntax(at)));
+        }
+        if number >= MAX_START_AGENTS {
+            return Err(TextFault::Refused(Refusal::TooManyAgents(at)));
+        }
+        if depth >= MAX_NESTING {
+            return Err(TextFault::Refused(Refusal::TooNested(at)));
+        }
+        match kind {
+            Kind::Eps => {}
+            Kind::Gamma | Kind::Delta => {
+                self.stack.push(Frame {
+                    agent,
+                    phase: Phase::Opening,
+                })?;
+            }
+        }
+        Ok(())
+    }
+
+    /// A name comes.
+    #[tactic(auto, unfolding(crate::specs::Reading::advance, crate::specs::Reading::step, crate::specs::Reading::over))]
+    fn take_name(&mut self, at: usize, text: &'a [u8]) -> Result<(), TextFault>
+        requires within { IsWithin (state_of self.old) at }
+        requires early { at < 2 ^ 32 }
+        ensures { Gives (λ _. state_of self.new) result (advance (state_of self.old) at (name text.entry.now)) }
+    {
+        let occurrence = self.names.enter(text, at)?;
+        if !self.put(End::Name(occurrence.number as u32))? {
+            return Err(TextFault::Refused(Refusal::Syntax(at)));
+        }
+        if text.len() > MAX_NAME {
+            return Err(TextFault::Refused(Refusal::NameTooLong(at)));
+        }
+        if occurrence.before >= 2 {
+            return Err(TextFault::Refused(Refusal::Thrice(at)));
+        }
+        Ok(())
+    }
+
+    /// A token comes, which begins at the byte `at`.
+    #[tactic(auto, unfolding(crate::specs::Reading::advance, crate::specs::Reading::step, crate::specs::Reading::over))]
+    pub fn take(&mut self, at: usize, piece: Lexeme<'a>) -> Result<(), TextFault>
+        requires within { IsWithin (state_of self.old) at }
+        requires early { at < 2 ^ 32 }
+        ensures { Gives (λ _. state_of self.new) result (advance (state_of self.old) at (token_of piece.entry)) }
+    {
+        match piece {
+            Lexeme::Symbol(kind) => self.take_symbol(at, kind),
+            Lexeme::Name(text) => self.take_name(at, text),
+            Lexeme::Bad => Err(TextFault::Refused(Refusal::BadByte(at))),
+            Lexeme::Opening
+            | Lexeme::Closing
+            | Lexeme::Comma
+            | Lexeme::Equals
+            | Lexeme::Semicolon
+            | Lexeme::Digit => {
+                if self.mark(piece)? {
+                    Ok(())
+                } else {
+                    Err(TextFault::Refused(Refusal::Syntax(at)))
+                }
+            }
+        }
+    }
+
+    /// The text ends.
+    #[tactic(auto, unfolding(crate::specs::Reading::finish))]
+    pub fn finish(self, alloc: Global, text: &[u8]) -> Result<Start, TextFault>
+        requires read { run initial (items between 0 text.now) ≡ Ok (state_of self) }
+        requires within { IsWithin (state_of self) (length text.now) }
+        requires short { length text.now ≤ MAX_TEXT }
+        ensures { Gives (λ s. s) result (finish (length text.now) (state_of self.entry)) }
+    {
+        if !self.stack.is_empty() || !self.side.is_left() {
+            return Err(TextFault::Refused(Refusal::Syntax(text.len())));
+        }
+        if let Some(first) = self.names.reserved() {
+            return Err(TextFault::Refused(Refusal::ReservedFree(first)));
+        }
+        if self.names.free() > MAX_FREE_NAMES {
+            return Err(TextFault::Refused(Refusal::TooManyFree));
+        }
+        let names = self.names.texts(alloc)?;
+        let links = self.links.into_vec();
+        Ok(Start::make(self.kinds, links, names, Profile::Classic))
+    }
+}
+
+impl Side {
+    /// Whether an equation may begin.
+    fn is_left(&self) -> bool
+        ensures { result ≡ is_at_rest [] (side_of self.now) }
+    {
+        matches!(self, Side::Left)
+    }
+}

@@ -1,0 +1,17 @@
+// Texts of nets: what a text denotes, and what is wrong with it.
+#![tactic(auto)]
+
+mod builder;
+pub mod fault;
+mod lexer;
+mod links;
+mod names;
+pub mod read;
+mod seen;
+
+pub use fault::TextFault;
+pub use ic_grammar::Refusal;
+pub use read::read_net;
+
+#[cfg(test)]
+mod tests;

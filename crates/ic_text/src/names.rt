@@ -1,0 +1,129 @@
+ghost use Rattle.std.specs.Prelude.{◌≡◌, ◌≤◌, [], length, IfOk, map, count_by, find, option_map, ◌==◌, ◌&&◌};
+ghost use Rattle.ic_grammar.specs.Texts.{is_reserved};
+ghost use Rattle.ic_text.specs.Names.{enter, number, times, is_free, is_reserved_free};
+ghost use Rattle.ic_text.specs.Table.{first_of};
+
+use crate::seen::{Occurrence, Seen};
+use std::alloc::{AllocError, Global};
+use std::collections::HashMap;
+use std::marker::Model;
+
+/// The names of a text, numbered by first occurrence.
+#[derive(Drop)]
+pub struct Names<'a> {
+    seen: Vec<Seen<'a>>,
+    places: HashMap<&'a [u8], usize>,
+}
+
+impl<'a> Model for Names<'a> {
+    ghost use Rattle.std.specs.Prelude.{◌≡◌, ℕ, List};
+    ghost use Rattle.std.specs.Str.{bytes_eq};
+    ghost use Rattle.std.specs.HashMap.{get_by};
+    ghost use Rattle.ic_text.specs.Names.{Entry, place};
+    ghost use Rattle.ic_text.specs.Table.{names_of};
+
+    ghost Value = { List Entry };
+
+    ghost view = { λ n. names_of n.seen.items };
+
+    ghost invariant = { λ n. (x : List ℕ) → get_by (λ k. bytes_eq x k.now) n.places ≡ place x (names_of n.seen.items) };
+}
+
+impl<'a> Names<'a> {
+    /// No name has occurred.
+    pub fn new(alloc: Global) -> Names<'a>
+        ensures { result ≡ [] }
+    {
+        Names {
+            seen: Vec::new(alloc),
+            places: HashMap::new(alloc),
+        }
+    }
+
+    /// One more occurrence of a name, which begins at the byte `first`.
+    pub fn enter(&mut self, text: &'a [u8], first: usize) -> Result<Occurrence, AllocError>
+        requires { times text.now self.old ≤ 2 }
+        ensures number { IfOk result (λ o. o.number ≡ number text.now self.old) }
+        ensures within { IfOk result (λ o. o.number ≤ length self.old) }
+        ensures before { IfOk result (λ o. o.before ≡ times text.now self.old) }
+        ensures entered { IfOk result (λ _. self.new ≡ enter text.now first self.old) }
+    {
+        match self.places.get(text).copied() {
+            Some(number) => {
+                let name = &mut self.seen[number];
+                let before = name.times;
+                name.times = before + 1;
+                Ok(Occurrence { number, before })
+            }
+            None => {
+                let number = self.seen.len();
+                self.seen.push(Seen {
+                    text,
+                    first,
+                    times: 1,
+                })?;
+                match self.places.insert(text, number) {
+                    Ok(_) => Ok(Occurrence { number, before: 0 }),
+                    Err(_) => {
+                        let _ = self.seen.pop();
+                        Err(AllocError)
+                    }
+                }
+            }
+        }
+    }
+
+    /// How many names occur once.
+    #[tactic(auto, using(crate::proofs::Table::count_free))]
+    pub fn free(&self) -> usize
+        ensures { result ≡ count_by is_free self.now }
+    {
+        self.seen.iter().filter(|n| n.times == 1).count()
+    }
+
+    /// The offset of the first name that occurs once and begins with `_`.
+    #[tactic(auto, using(crate::proofs::Table::first_reserved_is))]
+    pub fn reserved(&self) -> Option<usize>
+        ensures { result ≡ option_map first_of (find is_reserved_free self.now) }
+    {
+        first_reserved(&self.seen)
+    }
+
+    /// The texts of the names by number.
+    #[tactic(auto, using(crate::proofs::Table::texts_are))]
+    pub fn texts(&self, alloc: Global) -> Result<Vec<Vec<u8>>, AllocError>
+        ensures { IfOk result (λ v. map (λ t. t.items) v.items ≡ map (λ n. n.text) self.now) }
+    {
+        texts_of(alloc, &self.seen)
+    }
+}
+
+/// The place of the first name that occurs once and begins with `_`.
+fn first_reserved(seen: &[Seen<'_>]) -> Option<usize>
+    ensures { result ≡ option_map (λ n. n.first) (find (λ n. (n.times == 1) && is_reserved n.text.now) seen.now) }
+{
+    seen.iter()
+        .find(|n| n.times == 1 && is_reserved(n.text))
+        .map(|n| n.first)
+}
+
+/// Copies of the names' bytes.
+fn texts_of(alloc: Global, seen: &[Seen<'_>]) -> Result<Vec<Vec<u8>>, AllocError>
+    ensures { IfOk result (λ v. map (λ t. t.items) v.items ≡ map (λ n. n.text.now) seen.now) }
+{
+    let mut texts = Vec::new(alloc);
+    for n in seen {
+        texts.push(Vec::from_slice(alloc, n.text)?)?;
+    }
+    Ok(texts)
+}
+
+/// Whether a name begins with `_`.
+fn is_reserved(text: &[u8]) -> bool
+    ensures { result ≡ is_reserved text.now }
+{
+    match text {
+        [] => false,
+        [b, ..] => *b == b'_',
+    }
+}
