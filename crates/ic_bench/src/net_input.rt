@@ -5,7 +5,7 @@ ghost use Rattle.ic_bench.specs.NetInput.{ReadsNet};
 
 use ic_grammar::limits::MAX_TEXT;
 use ic_lines::{Input, IoFault, Piece};
-use std::alloc::Global;
+use std::alloc::{AllocError, Global};
 use std::io::Read;
 
 /// The net text of a session: all in front of the bar.
@@ -52,7 +52,7 @@ pub fn read_net_text<R: Read>(
 }
 
 /// Puts a line at the end, as it stood in the input.
-fn append(text: &mut Vec<u8>, line: &[u8], ended: bool) -> Result<(), IoFault>
+fn append(text: &mut Vec<u8>, line: &[u8], ended: bool) -> Result<(), AllocError>
     ensures { OnOk result (text.new.items ≡ text.old.items ++ whole_line (record { bytes = line.now; ended = ended })) }
 {
     text.extend_from_slice(line)?;

@@ -1,13 +1,13 @@
 -- The order of names is total, and only a name itself is equal to it.
-use Rattle.std.proofs.Common.{◌≡◌, ℕ, List, Bool, true, length, refl, sym, ◌∙◌, ap, ◌≢◌, [], ◌∷◌, rules}
+use Rattle.std.proofs.Common.{◌≡◌, ℕ, List, refl, sym, ◌∙◌, ap, ◌≢◌, [], ◌∷◌, rules}
 use Rattle.std.specs.declared.cmp.Ordering.{Ordering}
 use Rattle.std.specs.declared.cmp.Ordering.TheVariants.{Less, Equal, Greater}
-use Rattle.std.specs.Ordering.{on, then_cmp, nat_cmp, ordering_then, ordering_reverse, is_eq, eq_by_cmp}
+use Rattle.std.specs.Ordering.{nat_cmp, ordering_then, ordering_reverse}
 use Rattle.std.specs.Cmp.{IsTotalOrder}
 use Rattle.std.specs.Cmp.Rules.{comparing}
-use Rattle.std.specs.Cmp.Lexicographic.{slice_cmp, texts_ties}
+use Rattle.std.specs.Cmp.Lexicographic.{slice_cmp}
 use Rattle.std.proofs.lemmas.Cmp.{ranked, tied_itself}
-use Rattle.ic_name.specs.Names.{Name, depth, name_cmp}
+use Rattle.ic_name.specs.Names.{Name, name_cmp}
 
 pub name_cmp_total : IsTotalOrder name_cmp
 name_cmp_total = search (comparing, rules)

@@ -1,5 +1,5 @@
 -- The tests for names and ports say what they are to say.
-use Rattle.std.proofs.Common.{◌≡◌, ℕ, ◌&&◌, Bool, true, false, List, [], ◌∷◌, refl, ap, eqb}
+use Rattle.std.proofs.Common.{◌≡◌, ℕ, true, List, [], ◌∷◌, refl, ap, eqb}
 use Rattle.std.proofs.lemmas.Bool.{eqb-true, eq-eqb, and_from, and_parts}
 use Rattle.ic_name.specs.Names.{Name}
 use Rattle.ic_name.specs.Same.{same_digits, same_name, same_port}

@@ -1,14 +1,12 @@
 -- The tests for spots and ids decide equality.
-use Rattle.std.proofs.Common.{◌≡◌, ℕ, Bool, true, false, ◌&&◌, ◌==◌, refl, sym, ◌∙◌, ap, eq-eqb}
+use Rattle.std.proofs.Common.{◌≡◌, Bool, true, false, ◌&&◌, refl, ap, eq-eqb}
 use Rattle.std.proofs.lemmas.Bool.{eqb-true}
-use Rattle.ic_name.specs.declared.ids.AgentId.{AgentId}
-use Rattle.ic_name.specs.declared.ids.EventId.{EventId}
 use Rattle.ic_name.specs.declared.ids.Spot.{Spot}
 use Rattle.ic_name.specs.declared.ids.Spot.TheVariants.{Agent, Name}
 use Rattle.ic_name.specs.declared.ids.MakerId.{MakerId}
 use Rattle.ic_name.specs.declared.ids.MakerId.TheVariants.{Start, Event}
 use Rattle.ic_name.specs.declared.ids.LinkId.{LinkId}
-use Rattle.ic_name.specs.Spots.{same_agent, same_event, same_spot, same_maker, same_link}
+use Rattle.ic_name.specs.Spots.{same_spot, same_maker, same_link}
 
 both : (a b : Bool) → a && b ≡ true → (a ≡ true) × (b ≡ true)
 both true b h = (refl, h)

@@ -1,5 +1,5 @@
 -- Events: two agents that meet, the lesser one first.
-use Rattle.std.specs.Prelude.{◌≡◌, ℕ, if◌then◌else◌, refl}
+use Rattle.std.specs.Prelude.{if◌then◌else◌}
 use Rattle.std.specs.Ordering.{is_gt}
 use Rattle.ic_name.specs.Names.{Name, name_cmp}
 use Rattle.ic_name.specs.declared.kinds.Kind.{Kind}

@@ -4,3 +4,5 @@ pub mod Same
 pub mod Kinds
 pub mod Events
 pub mod Spots
+pub mod Faults
+pub mod NameShapes

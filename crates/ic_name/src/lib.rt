@@ -2,15 +2,19 @@
 #![tactic(auto)]
 
 pub mod events;
+pub mod faults;
 pub mod ids;
 pub mod kinds;
+pub mod laws;
 pub mod limits;
 pub mod lines;
 pub mod names;
 pub mod ports;
 pub mod rules;
+mod shapes;
 
 pub use events::{Event, EventName};
+pub use faults::{ChildFault, NameFault};
 pub use ids::{AgentId, EventId, Link, LinkId, MakerId, Spot};
 pub use kinds::Kind;
 pub use lines::{Call, Line, Reply};

@@ -1,12 +1,14 @@
-ghost use Rattle.std.specs.Prelude.{◌≡◌, ◌<◌, ◌≤◌, ◌↔◌, ◌++◌, IsTrue, IsSome, IfSome, IfOk, OnOk, OnErr};
+ghost use Rattle.std.specs.Prelude.{◌≡◌, ◌<◌, ◌≤◌, ◌↔◌, ◌++◌, IsTrue, IsSome, IfSome, IfOk, IsErrOf, IsOkUnless, Err, ℕ, OnOk, OnErr};
 ghost use Rattle.std.proofs.Common.{rules};
 ghost use Rattle.std.specs.Cmp.{partial_order_from_own_ties};
 ghost use Rattle.std.specs.Cmp.Rules.{comparing};
 ghost use Rattle.std.specs.Ordering.{as_partial_cmp, eq_by_cmp};
-ghost use Rattle.ic_name.specs.NameTexts.{name_text};
-ghost use Rattle.ic_name.specs.Names.{Name, IsName, depth as depth_of, name_cmp, start_name};
+ghost use Rattle.ic_name.specs.NameTexts.{name_text, IsBadAt, IsDeepText, IsShallowText, Reads};
+ghost use Rattle.ic_name.specs.Names.{Name, IsName, depth as depth_of, name_cmp, start_name, child_name};
 
+use crate::faults::{ChildFault, NameFault};
 use crate::limits::{MAX_DEPTH, MAX_START_AGENTS};
+use crate::shapes::Shape;
 use smallvec::SmallVec;
 use std::alloc::{AllocError, Global};
 use std::cmp::Ordering;
@@ -88,6 +90,57 @@ impl AgentName {
             start: self.start,
             digits,
         })
+    }
+
+    /// The name of the child with this digit. It is `Deep` where the name has `MAX_DEPTH` digits, and only there.
+    pub fn child(&self, digit: u8) -> Result<AgentName, ChildFault>
+        requires { digit < 4 }
+        ensures ok { IfOk result (λ name. name ≡ child_name self.now digit) }
+        ensures deep { IsErrOf result ChildFault.Deep ↔ (depth_of self.now ≡ MAX_DEPTH) }
+    {
+        if self.digits.len() == MAX_DEPTH {
+            return Err(ChildFault::Deep);
+        }
+        let name = self.copy().map_err(|_| ChildFault::Memory)?;
+        name.with_digit(digit).map_err(|_| ChildFault::Memory)
+    }
+
+    fn with_digit(mut self, digit: u8) -> Result<AgentName, AllocError>
+        requires small { digit < 4 }
+        requires room { depth_of self < MAX_DEPTH }
+        ensures { IfOk result (λ name. name ≡ child_name self digit) }
+    {
+        self.digits.push(digit)?;
+        Ok(self)
+    }
+
+    /// The name that the bytes write: a start number without leading zeros, then a dot and a digit from 0 to 3 for each
+    /// generation.
+    ///
+    /// It is `BadName` where the bytes are no such text, with the offset of the first byte with which they begin none,
+    /// or their length where they break off. It is `Deep` for such a text with more than `MAX_DEPTH` digits. Only
+    /// the text of a name can be `Memory`.
+    pub fn read(alloc: Global, bytes: &[u8]) -> Result<AgentName, NameFault>
+        ensures ok { IfOk result (λ name. bytes.now ≡ name_text name) }
+        ensures bad { (k : ℕ) → (result ≡ Err (NameFault.BadName k)) ↔ IsBadAt bytes.now k }
+        ensures deep { IsErrOf result NameFault.Deep ↔ IsDeepText bytes.now }
+        ensures named { IsOkUnless result NameFault.Memory ↔ IsShallowText bytes.now }
+        ensures reads { Reads bytes.now result }
+    {
+        let shape = match Shape::of(bytes) {
+            Ok(shape) => shape,
+            Err(offset) => return Err(NameFault::BadName(offset)),
+        };
+        if shape.generations > MAX_DEPTH {
+            return Err(NameFault::Deep);
+        }
+        match shape.digits(alloc, bytes) {
+            Ok(digits) => Ok(AgentName {
+                start: shape.start,
+                digits,
+            }),
+            Err(_) => Err(NameFault::Memory),
+        }
     }
 
     /// Writes the text of the name at the end of `out`: the start number in decimal, then a dot and a digit for

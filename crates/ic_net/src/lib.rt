@@ -6,6 +6,7 @@ mod far;
 pub mod laws;
 pub mod net;
 mod pairs;
+pub mod rule;
 mod same;
 pub mod start;
 mod tables;
@@ -14,6 +15,7 @@ mod wires;
 
 pub use ic_name::{Kind, Profile};
 pub use net::Net;
+pub use rule::{Born, outcome};
 pub use start::Start;
 pub use views::{AgentView, FreeView};
 

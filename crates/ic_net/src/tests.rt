@@ -3,7 +3,7 @@ ghost use Rattle.ic_name.specs.declared.ids.Spot.TheVariants as spots;
 ghost use Rattle.ic_name.specs.declared.ids.MakerId.TheVariants as maker;
 
 use super::*;
-use ic_name::{AgentId, AgentName, Link, LinkId, MakerId, Port, Spot};
+use ic_name::{AgentId, AgentName, Link, LinkId, MakerId, Port, RuleEnd, Spot};
 use std::test::Fail;
 
 fn port(slot: u32, port: u8) -> Spot
@@ -108,5 +108,23 @@ fn a_net_shows_its_parts_in_order(rt: HostRuntime) -> Result<(), Fail> {
     assert_eq!(rt; frees[1].number, 2);
     laws::one_listing();
     laws::active_pairs_are_active();
+    Ok(())
+}
+
+#[test]
+fn gamma_and_delta_pass_through_one_another(rt: HostRuntime) -> Result<(), Fail> {
+    let born = outcome(Kind::Gamma, Kind::Delta, Profile::Classic);
+    assert_eq!(rt;
+        born.children,
+        [Kind::Delta, Kind::Delta, Kind::Gamma, Kind::Gamma].as_slice()
+    );
+    assert_eq!(rt; born.links.len(), 8);
+    assert_eq!(rt; born.links[1], (RuleEnd::Child(1, 0), RuleEnd::Lead(2)));
+    assert_eq!(rt; born.links[5], (RuleEnd::Child(0, 2), RuleEnd::Child(3, 1)));
+    assert!(rt;
+        outcome(Kind::Eps, Kind::Eps, Profile::Classic)
+            .links
+            .is_empty()
+    );
     Ok(())
 }

@@ -1,4 +1,3 @@
-use Rattle.std.proofs.Common.{◌≡◌}
 use Rattle.ic_name.proofs.NameTextFacts.{digits_text-more}
 use Rattle.ic_name.proofs.names.AgentName.text.Goals as goal
 
