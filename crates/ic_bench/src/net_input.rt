@@ -1,5 +1,6 @@
-ghost use Rattle.std.specs.Prelude.{◌≡◌, ◌++◌, IfOk, IfSome, OnOk};
+ghost use Rattle.std.specs.Prelude.{◌≡◌, ◌++◌, IfErr, IfOk, IfSome, OnOk};
 ghost use Rattle.ic_lines.specs.Left.{left};
+ghost use Rattle.ic_lines.specs.Faults.{IsReadFault};
 ghost use Rattle.ic_bench.specs.InputLines.{is_bar, whole_line};
 ghost use Rattle.ic_bench.specs.NetInput.{ReadsNet};
 
@@ -23,17 +24,19 @@ fn is_bar(line: &[u8]) -> bool
     matches!(line, b"---" | b"---\r")
 }
 
-/// Reads the net text of a session, and the bar behind it.
+/// Reads the net text of a session, and the bar behind it. `IoFault::Read` where the reader fails or no call of it is
+/// left, `IoFault::Memory` where there is no memory.
 pub fn read_net_text<R: Read>(
     alloc: Global,
     input: &mut Input,
     reader: &mut R,
 ) -> Result<NetInput, IoFault>
-    ensures { IfOk result (λ net. IfSome (left input.old (R.remaining reader.old)) (λ bytes. ReadsNet net bytes (left input.new (R.remaining reader.new)))) }
+    ensures read { IfOk result (λ net. IfSome (left input.old (R.remaining reader.old)) (λ bytes. ReadsNet net bytes (left input.new (R.remaining reader.new)))) }
+    ensures fault { IfErr result (IsReadFault input.old.reads input.new.reads) }
 {
     let mut text = Vec::new(alloc);
     let mut line = Vec::new(alloc);
-    for _ in 0..u64::MAX {
+    loop {
         match input.next_line(reader, &mut line, MAX_TEXT)? {
             Piece::End => return Ok(NetInput::Whole(text)),
             Piece::TooLong => return Ok(NetInput::TooLong),
@@ -48,7 +51,6 @@ pub fn read_net_text<R: Read>(
             }
         }
     }
-    Err(IoFault::Read)
 }
 
 /// Puts a line at the end, as it stood in the input.

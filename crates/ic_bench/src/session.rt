@@ -1,6 +1,8 @@
-ghost use Rattle.std.specs.Prelude.{◌≡◌, map, IfOk, IfSome, OnOk, IsSomeAnd};
+ghost use Rattle.std.specs.Prelude.{◌≡◌, ◌≢◌, ◌<◌, ◌≤◌, map, IfErr, IfOk, IfSome, IsSome, OnOk};
 ghost use Rattle.std.specs.Io.KnownBytes.{Appends};
-ghost use Rattle.ic_lines.specs.Left.{left};
+ghost use Rattle.ic_lines.specs.Left.{left, work};
+ghost use Rattle.ic_lines.specs.Faults.{IsReadFault};
+ghost use Rattle.ic_lines.specs.declared.piece.IoFault.TheVariants.{Read};
 ghost use Rattle.ic_bench.specs.InputLines.{lines};
 ghost use Rattle.ic_bench.specs.Commands.{command_of};
 ghost use Rattle.ic_bench.specs.Replies.{reply, replies, refusal_line};
@@ -59,7 +61,8 @@ pub fn run_session<R: Read, W: Write>(
 
 /// Names the fault of a net text.
 fn refuse<W: Write>(alloc: Global, refusal: Refusal, writer: &mut W) -> Result<Status, IoFault>
-    ensures { IfOk result (λ status. (status ≡ NetRefused) × Appends (W.contents writer.old) (W.contents writer.new) (refusal_line refusal)) }
+    ensures named { IfOk result (λ status. (status ≡ NetRefused) × Appends (W.contents writer.old) (W.contents writer.new) (refusal_line refusal)) }
+    ensures fault { IfErr result (λ fault. fault ≢ Read) }
 {
     let line = refusal_line(alloc, refusal)?;
     write_reply(writer, &line)?;
@@ -75,11 +78,12 @@ fn answer_all<R: Read, W: Write>(
     reader: &mut R,
     writer: &mut W,
 ) -> Result<(), IoFault>
-    ensures { OnOk result (IfSome (left input.old (R.remaining reader.old))
+    ensures answered { OnOk result (IfSome (left input.old (R.remaining reader.old))
         (λ bytes. Appends (W.contents writer.old) (W.contents writer.new) (replies (map (λ t. t.items) names.now) net.now (lines bytes)))) }
+    ensures fault { IfErr result (λ fault. fault ≡ Read → IsReadFault input.old.reads input.new.reads Read) }
 {
     let mut line = Vec::new(alloc);
-    for _ in 0..u64::MAX {
+    loop {
         match next_command(input, reader, &mut line)? {
             Some(command) => {
                 let text = reply(alloc, net, names, command)?;
@@ -88,7 +92,6 @@ fn answer_all<R: Read, W: Write>(
             None => return Ok(()),
         }
     }
-    Err(IoFault::Read)
 }
 
 /// The command of the next line; `None` where the input has ended. `line` is room for a line.
@@ -97,8 +100,11 @@ fn next_command<R: Read>(
     reader: &mut R,
     line: &mut Vec<u8>,
 ) -> Result<Option<Command>, IoFault>
-    ensures { IfOk result (λ command. IfSome (left input.old (R.remaining reader.old))
+    ensures taken { IfOk result (λ command. IfSome (left input.old (R.remaining reader.old))
         (λ bytes. TakesCommand command bytes (left input.new (R.remaining reader.new)))) }
+    ensures less { IfOk result (λ command. IsSome command → work input.new < work input.old) }
+    ensures fewer { input.new.reads ≤ input.old.reads }
+    ensures fault { IfErr result (IsReadFault input.old.reads input.new.reads) }
 {
     match input.next_line(reader, line, MAX_COMMAND + 1)? {
         Piece::Line(_) => Ok(Some(command_of(line))),

@@ -1,7 +1,9 @@
 use crate::command::{Command, command_of};
+use crate::laws;
 use crate::net_input::{NetInput, read_net_text};
 use crate::reply::{refusal_line, reply};
 use crate::session::{Status, run_session};
+use crate::words::next_word;
 use ic_grammar::Refusal;
 use ic_lines::{Input, IoFault};
 use ic_net::Net;
@@ -61,6 +63,21 @@ fn an_active_gamma_and_delta(rt: HostRuntime) -> Result<(), Fail> {
             output
         )?
     );
+    Ok(())
+}
+
+#[test]
+fn lines_and_words_are_cut_where_they_end(rt: HostRuntime) -> Result<(), Fail> {
+    laws::lines_end_at_feeds();
+    laws::words_end_at_blanks();
+    match next_word(b" \tnet  #") {
+        Some((word, behind)) => {
+            assert_eq!(rt; word, b"net".as_slice());
+            assert_eq!(rt; behind, b"  #".as_slice());
+        }
+        None => return Err("a word".into()),
+    }
+    assert!(rt; next_word(b" \t ").is_none());
     Ok(())
 }
 

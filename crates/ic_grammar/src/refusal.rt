@@ -10,31 +10,31 @@ use thiserror::Error;
 #[derive(Clone, Copy, Debug, PartialEq, Eq, Error)]
 pub enum Refusal {
     /// The text has more than `MAX_TEXT` bytes.
-    #[error("too long: a net text has at most 1,048,576 bytes")]
+    #[error("too long: the text has more than 1,048,576 bytes; expected at most so many")]
     TooLong,
     /// A byte that no token has, or in a comment one that may not stand there.
-    #[error("bad byte: the byte at {0} may not stand in a net text")]
+    #[error("bad byte: the byte at {0} begins no token; expected a name, `G`, `D`, `E`, one of `(`, `)`, `,`, `=` and `;`, a blank, or `#` and a comment of printable ASCII")]
     BadByte(usize),
     /// A token with which the text so far begins no text of the grammar, or the end of the text within an equation.
-    #[error("syntax: what stands at byte {0} cannot stand there")]
+    #[error("syntax: what stands at byte {0}, or the end of the text there, cannot come next; expected equations `TERM = TERM;`, each term a name, `E`, `G(TERM,TERM)` or `D(TERM,TERM)`")]
     Syntax(usize),
     /// A name of more than `MAX_NAME` bytes.
-    #[error("name too long: the name at byte {0} has more than 32 bytes")]
+    #[error("name too long: the name at byte {0} has more than 32 bytes; expected at most 32")]
     NameTooLong(usize),
     /// A third occurrence of a name.
-    #[error("thrice: the name at byte {0} has occurred twice before")]
+    #[error("thrice: the name at byte {0} occurs for the third time; expected each name once or twice")]
     Thrice(usize),
     /// A symbol after `MAX_START_AGENTS` others.
-    #[error("too many agents: the symbol at byte {0} comes after 65,535 others")]
+    #[error("too many agents: the symbol at byte {0} comes after 65,535 others; expected at most 65,535 in all")]
     TooManyAgents(usize),
     /// A symbol within the parentheses of `MAX_NESTING` others.
-    #[error("too nested: the symbol at byte {0} stands within 256 others")]
+    #[error("too nested: the symbol at byte {0} stands within 256 others; expected at most 255 round a symbol")]
     TooNested(usize),
     /// A name that begins with `_` and occurs once.
-    #[error("reserved: the name at byte {0} begins with `_` and occurs only once")]
+    #[error("reserved: the name at byte {0} begins with `_` and occurs once; expected it twice, or another name")]
     ReservedFree(usize),
     /// More than `MAX_FREE_NAMES` names occur once.
-    #[error("too many free names: at most 1,024 names may occur once")]
+    #[error("too many free names: more than 1,024 names occur once; expected at most so many")]
     TooManyFree,
 }
 

@@ -1,3 +1,4 @@
 pub mod FirstLines
 pub mod Writes
 pub mod Taken
+pub mod Work

@@ -29,6 +29,11 @@ behind_line xs = drop_through 10 xs
 abbrev pub Fills : Bool → List ℕ → Option (List ℕ) → Option (List ℕ) → Type 0
 Fills more bytes old new = Consumes old new bytes × MatchBool more (0 < length bytes) ((bytes ≡ []) × IsAtEnd new)
 
+-- a line was taken
+abbrev pub is_line : Piece → Bool
+is_line (Line ended) = true
+is_line _ = false
+
 -- what was taken from the bytes that were left: a whole line of at most so many bytes; a part of a longer line, with
 -- the rest of it still there; or nothing, at the end
 abbrev pub Takes : Piece → List ℕ → ℕ → List ℕ → Option (List ℕ) → Type 0

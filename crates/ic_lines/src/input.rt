@@ -1,4 +1,5 @@
 ghost use Rattle.std.specs.Prelude.{◌≤◌, length};
+ghost use Rattle.ic_lines.specs.declared.input.TheConstants.{CHUNK};
 
 use crate::feeds::line_len;
 use crate::piece::{Front, IoFault, Piece};
@@ -15,12 +16,14 @@ pub struct Input {
     start: usize,
     reads: u32,
     ghost inside: { start ≤ length buffer.items },
+    ghost small: { length buffer.items ≤ CHUNK },
 }
 
 impl Input {
-    ghost use Rattle.std.specs.Prelude.{◌≡◌, ◌+◌, ◌≤◌, [], length, IfOk, IfSome, OnOk, Some};
-    ghost use Rattle.ic_lines.specs.Lines.{Fills, Takes, TakesFront, behind_line};
-    ghost use Rattle.ic_lines.specs.Left.{unread, left};
+    ghost use Rattle.std.specs.Prelude.{◌≡◌, ◌+◌, ◌<◌, ◌≤◌, [], length, IfErr, IfOk, IfSome, MatchBool, OnOk, Some};
+    ghost use Rattle.ic_lines.specs.Lines.{Fills, Takes, TakesFront, behind_line, is_line};
+    ghost use Rattle.ic_lines.specs.Left.{unread, left, work};
+    ghost use Rattle.ic_lines.specs.Faults.{IsReadFault};
 
     /// An input of which nothing has been read. It makes at most `reads` calls of `read`.
     pub fn new(alloc: Global, reads: u32) -> Result<Input, AllocError>
@@ -46,6 +49,8 @@ impl Input {
     fn fill<R: Read>(&mut self, reader: &mut R) -> Result<bool, IoFault>
         ensures filled { IfOk result (λ more. Fills more (unread self.new) (R.remaining reader.old) (R.remaining reader.new)) }
         ensures counted { OnOk result (self.new.reads + 1 ≡ self.old.reads) }
+        ensures fewer { self.new.reads ≤ self.old.reads }
+        ensures fault { IfErr result (IsReadFault self.old.reads self.new.reads) }
     {
         if self.reads == 0 {
             return Err(IoFault::Read);
@@ -76,6 +81,9 @@ impl Input {
         ensures short { OnOk result (length line.new.items ≤ most) }
         ensures taken { IfOk result (λ piece. IfSome (left self.old (R.remaining reader.old))
             (λ old. Takes piece line.new.items most old (left self.new (R.remaining reader.new)))) }
+        ensures less { IfOk result (λ piece. MatchBool (is_line piece) (work self.new < work self.old) (work self.new ≤ work self.old)) }
+        ensures fewer { self.new.reads ≤ self.old.reads }
+        ensures fault { IfErr result (IsReadFault self.old.reads self.new.reads) }
     {
         line.clear();
         loop {
@@ -96,8 +104,11 @@ impl Input {
 
     /// Drops what is left of a line, its line feed included. It takes no memory but the buffer's.
     pub fn skip_line<R: Read>(&mut self, reader: &mut R) -> Result<(), IoFault>
-        ensures { OnOk result (IfSome (left self.old (R.remaining reader.old))
+        ensures skipped { OnOk result (IfSome (left self.old (R.remaining reader.old))
             (λ old. left self.new (R.remaining reader.new) ≡ Some (behind_line old))) }
+        ensures less { OnOk result (work self.new < work self.old) }
+        ensures fewer { self.new.reads ≤ self.old.reads }
+        ensures fault { IfErr result (IsReadFault self.old.reads self.new.reads) }
     {
         loop {
             let bytes = self.unread();
@@ -117,7 +128,8 @@ impl Input {
         requires { length line.old.items ≤ most }
         ensures short { OnOk result (length line.new.items ≤ most) }
         ensures front { IfOk result (λ front. TakesFront front (unread self.old) (unread self.new) line.old.items line.new.items most) }
-        ensures reads { OnOk result (self.new.reads ≡ self.old.reads) }
+        ensures reads { self.new.reads ≡ self.old.reads }
+        ensures fault { IfErr result (λ fault. fault ≡ IoFault.Memory) }
     {
         let bytes = self.unread();
         let count = line_len(bytes);

@@ -1,6 +1,7 @@
 // What the parts of a net are called: kinds, names of agents, events, ports, ids, links, and the lines of a history.
 #![tactic(auto)]
 
+pub mod event_names;
 pub mod events;
 pub mod faults;
 pub mod ids;
@@ -13,7 +14,8 @@ pub mod ports;
 pub mod rules;
 mod shapes;
 
-pub use events::{Event, EventName};
+pub use event_names::EventName;
+pub use events::Event;
 pub use faults::{ChildFault, NameFault};
 pub use ids::{AgentId, EventId, Link, LinkId, MakerId, Spot};
 pub use kinds::Kind;

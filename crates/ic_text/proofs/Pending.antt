@@ -41,34 +41,34 @@ pend [] x r = pend_on x r.0 r.1
 pend (f ∷ fs) x r = pend_at f.phase r.0 r.1 (pend fs x r.2)
 
 -- their links
-abbrev pub todo_on : (List ℕ → ℕ) → ℕ → Side → Term → List Equation → List (Port × Port)
-todo_on N n sides.Left t es = text_links N n es
-todo_on N n (sides.Equals l) t es = (l, root N n t) ∷ links N n t (text_links N (behind t n) es)
-todo_on N n (sides.Right l) t es = (l, root N n t) ∷ links N n t (text_links N (behind t n) es)
-todo_on N n sides.Semicolon t es = text_links N n es
+abbrev pub rest_on : (List ℕ → ℕ) → ℕ → Side → Term → List Equation → List (Port × Port)
+rest_on N n sides.Left t es = text_links N n es
+rest_on N n (sides.Equals l) t es = (l, root N n t) ∷ links N n t (text_links N (behind t n) es)
+rest_on N n (sides.Right l) t es = (l, root N n t) ∷ links N n t (text_links N (behind t n) es)
+rest_on N n sides.Semicolon t es = text_links N n es
 
 -- the links of a second argument, and what is below
 abbrev pub second : (List ℕ → ℕ) → ℕ → ℕ → Term → (ℕ → List (Port × Port)) → List (Port × Port)
 second N n a t below = (port_of a 2, root N n t) ∷ links N n t (below (behind t n))
 
 -- the same within parentheses
-abbrev pub todo_at : (List ℕ → ℕ) → ℕ → Phase → ℕ → Term → Term → (ℕ → List (Port × Port)) → List (Port × Port)
-todo_at N n phases.Opening a s t below = (port_of a 1, root N n s) ∷ links N n s (second N (behind s n) a t below)
-todo_at N n phases.First a s t below = (port_of a 1, root N n s) ∷ links N n s (second N (behind s n) a t below)
-todo_at N n phases.Comma a s t below = second N n a t below
-todo_at N n phases.Second a s t below = second N n a t below
-todo_at N n phases.Closing a s t below = below n
+abbrev pub rest_at : (List ℕ → ℕ) → ℕ → Phase → ℕ → Term → Term → (ℕ → List (Port × Port)) → List (Port × Port)
+rest_at N n phases.Opening a s t below = (port_of a 1, root N n s) ∷ links N n s (second N (behind s n) a t below)
+rest_at N n phases.First a s t below = (port_of a 1, root N n s) ∷ links N n s (second N (behind s n) a t below)
+rest_at N n phases.Comma a s t below = second N n a t below
+rest_at N n phases.Second a s t below = second N n a t below
+rest_at N n phases.Closing a s t below = below n
 
 -- the same of a whole place
-abbrev pub todo : (List ℕ → ℕ) → ℕ → (fs : List Frame) → Side → Rest fs → List (Port × Port)
-todo N n [] x r = todo_on N n x r.0 r.1
-todo N n (f ∷ fs) x r = todo_at N n f.phase f.agent r.0 r.1 (λ m. todo N m fs x r.2)
+abbrev pub rest_links : (List ℕ → ℕ) → ℕ → (fs : List Frame) → Side → Rest fs → List (Port × Port)
+rest_links N n [] x r = rest_on N n x r.0 r.1
+rest_links N n (f ∷ fs) x r = rest_at N n f.phase f.agent r.0 r.1 (λ m. rest_links N m fs x r.2)
 
 -- what comes at a place is what comes behind a token, and that token
 pub record Comes (N : List ℕ → ℕ) (n : ℕ) (s : State) (ts : List Token) (js : List (Port × Port)) : Type 0 where
   pub rest : Rest s.stack
   pub tokens : pend s.stack s.side rest ≡ ts
-  pub joins : s.joins ++ todo N n s.stack s.side rest ≡ js
+  pub joins : s.joins ++ rest_links N n s.stack s.side rest ≡ js
 
 -- a state by its parts
 abbrev mk : List Kind → List (Port × Port) → List Entry → List Frame → Side → State
@@ -80,7 +80,7 @@ record Back (N : List ℕ → ℕ) (n : ℕ) (tm : Term) (s m : State) (r : Rest
   added : List (Port × Port)
   joined : m.joins ≡ s.joins ++ added
   spelled : pend s.stack s.side before ≡ spell tm (pend m.stack m.side r)
-  linked : todo N n s.stack s.side before ≡ added ++ links N n tm (todo N (behind tm n) m.stack m.side r)
+  linked : rest_links N n s.stack s.side before ≡ added ++ links N n tm (rest_links N (behind tm n) m.stack m.side r)
 
 -- within parentheses
 back_at : (N : List ℕ → ℕ) (n : ℕ) (tm : Term) (ks : List Kind) (js : List (Port × Port)) (ns : List Entry) (a : ℕ) (p : Phase) (fs : List Frame) (x : Side) (m : State)
@@ -127,21 +127,21 @@ put_back N n tm s m e = back_in N n tm s.kinds s.joins s.seen s.stack s.side m e
 
 -- what comes where a term was put
 comes_put : (N : List ℕ → ℕ) (n : ℕ) (tm : Term) (s m : State) (r : Rest m.stack) → Back N n tm s m r
-    → Comes N n s (spell tm (pend m.stack m.side r)) (m.joins ++ links N n tm (todo N (behind tm n) m.stack m.side r))
+    → Comes N n s (spell tm (pend m.stack m.side r)) (m.joins ++ links N n tm (rest_links N (behind tm n) m.stack m.side r))
 comes_put N n tm s m r b = record {
   rest = b.before;
   tokens = b.spelled;
   joins =
       ap (λ (js : List (Port × Port)). s.joins ++ js) b.linked
-      ∙ sym (append_assoc s.joins b.added (links N n tm (todo N (behind tm n) m.stack m.side r)))
-      ∙ ap (λ (js : List (Port × Port)). js ++ links N n tm (todo N (behind tm n) m.stack m.side r)) (sym b.joined);
+      ∙ sym (append_assoc s.joins b.added (links N n tm (rest_links N (behind tm n) m.stack m.side r)))
+      ∙ ap (λ (js : List (Port × Port)). js ++ links N n tm (rest_links N (behind tm n) m.stack m.side r)) (sym b.joined);
 }
 
 -- what comes before a mark is the mark and what comes behind it
 record BackMark (N : List ℕ → ℕ) (n : ℕ) (t : Token) (s m : State) (r : Rest m.stack) : Type 0 where
   before : Rest s.stack
   spelled : pend s.stack s.side before ≡ t ∷ pend m.stack m.side r
-  linked : s.joins ++ todo N n s.stack s.side before ≡ m.joins ++ todo N n m.stack m.side r
+  linked : s.joins ++ rest_links N n s.stack s.side before ≡ m.joins ++ rest_links N n m.stack m.side r
 
 -- within parentheses
 mark_at_back : (N : List ℕ → ℕ) (n : ℕ) (t : Token) (ks : List Kind) (js : List (Port × Port)) (ns : List Entry) (a : ℕ) (p : Phase) (fs : List Frame) (x : Side) (m : State)

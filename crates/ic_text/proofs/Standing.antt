@@ -22,7 +22,7 @@ use Rattle.ic_grammar.specs.Grammar.{eps, text_of, names, occurs, port_of}
 use Rattle.ic_grammar.specs.Faults.{At, IsFront, is_fork, is_closing, depth, Stands}
 use Rattle.ic_text.specs.Reading.{◌>>=◌, State, initial, step, over, advance, run, judge, misplaced, put, put_at, put_on, put_in, put_symbol, push_open, mark_at, mark_on, mark_in, with_stack, with_side}
 use Rattle.ic_text.proofs.Steps.{some_is}
-use Rattle.ic_text.proofs.Pending.{Rest, pend, todo}
+use Rattle.ic_text.proofs.Pending.{Rest, pend, rest_links}
 use Rattle.ic_text.proofs.Taken.{forth}
 use Rattle.ic_text.proofs.Sound.{Runs, runs, runs_back, runs_fold, runs_symbols, tokens_of, numbers, bind_ok, times_enter}
 
@@ -97,7 +97,7 @@ any_rest (f ∷ fs) = (eps, eps, any_rest fs)
 pub is_front : (before : List Item) (m : State) → Runs initial before m → IsFront (tokens_of before)
 is_front before m g =
     let r = any_rest m.stack in
-    let c = runs_back before initial m g (pend m.stack m.side r) (m.joins ++ todo (numbers m) (length m.kinds) m.stack m.side r) (record { rest = r; tokens = refl; joins = refl }) in
+    let c = runs_back before initial m g (pend m.stack m.side r) (m.joins ++ rest_links (numbers m) (length m.kinds) m.stack m.side r) (record { rest = r; tokens = refl; joins = refl }) in
     record { equations = c.rest.1; rest = pend m.stack m.side r; parts = c.tokens }
 
 -- ---- how deep the symbols are

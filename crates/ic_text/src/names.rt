@@ -5,20 +5,21 @@ ghost use Rattle.ic_text.specs.Table.{first_of};
 
 use crate::seen::{Occurrence, Seen};
 use std::alloc::{AllocError, Global};
-use std::collections::HashMap;
+use std::collections::BTreeMap;
 use std::marker::Model;
 
 /// The names of a text, numbered by first occurrence.
 #[derive(Drop)]
 pub struct Names<'a> {
     seen: Vec<Seen<'a>>,
-    places: HashMap<&'a [u8], usize>,
+    places: BTreeMap<&'a [u8], usize>,
 }
 
 impl<'a> Model for Names<'a> {
     ghost use Rattle.std.specs.Prelude.{◌≡◌, ℕ, List};
-    ghost use Rattle.std.specs.Str.{bytes_eq};
-    ghost use Rattle.std.specs.HashMap.{get_by};
+    ghost use Rattle.std.specs.BTreeMap.{get_by};
+    ghost use Rattle.std.specs.Ordering.{nat_cmp};
+    ghost use Rattle.std.specs.Cmp.Lexicographic.{slice_cmp};
     ghost use Rattle.ic_text.specs.Names.{Entry, place};
     ghost use Rattle.ic_text.specs.Table.{names_of};
 
@@ -26,7 +27,7 @@ impl<'a> Model for Names<'a> {
 
     ghost view = { λ n. names_of n.seen.items };
 
-    ghost invariant = { λ n. (x : List ℕ) → get_by (λ k. bytes_eq x k.now) n.places ≡ place x (names_of n.seen.items) };
+    ghost invariant = { λ n. (x : List ℕ) → get_by (λ k. slice_cmp nat_cmp x k.now) n.places ≡ place x (names_of n.seen.items) };
 }
 
 impl<'a> Names<'a> {
@@ -36,7 +37,7 @@ impl<'a> Names<'a> {
     {
         Names {
             seen: Vec::new(alloc),
-            places: HashMap::new(alloc),
+            places: BTreeMap::new(alloc),
         }
     }
 

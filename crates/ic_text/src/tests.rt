@@ -133,10 +133,10 @@ fn a_ring_and_nothing(rt: HostRuntime) -> Result<(), TextFault> {
 
 #[test]
 fn a_refusal_says_what_is_wrong(rt: HostRuntime) -> Result<(), Fail> {
-    let syntax = format!(in rt.alloc(); "{}", TextFault::Refused(Refusal::Syntax(6)))?;
+    let thrice = format!(in rt.alloc(); "{}", TextFault::Refused(Refusal::Thrice(6)))?;
     assert_eq!(rt;
-        syntax.as_str(),
-        "syntax: what stands at byte 6 cannot stand there"
+        thrice.as_str(),
+        "thrice: the name at byte 6 occurs for the third time; expected each name once or twice"
     );
     let memory = format!(in rt.alloc(); "{}", TextFault::Memory)?;
     assert_eq!(rt; memory.as_str(), "out of memory");

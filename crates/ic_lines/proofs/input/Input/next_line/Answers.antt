@@ -1,6 +1,7 @@
-use Rattle.std.proofs.Common.{◌≡◌, ◌∙◌, sym, []}
+use Rattle.std.proofs.Common.{◌≡◌, ◌∙◌, sym, [], arith, rules}
 use Rattle.std.proofs.lemmas.Bool.{eqb-true}
 use Rattle.ic_lines.proofs.Taken.{whole_taken, longer_taken, part_taken, end_taken, no_bytes}
+use Rattle.ic_lines.proofs.Work.{filled_less, whole_less, part_less, same_work, fault_later}
 use Rattle.ic_lines.proofs.input.Input.next_line.Goals as goal
 
 pub returns-in-Whole-clause-taken : goal.returns-in-Whole-clause-taken
@@ -32,4 +33,47 @@ pub loop-self-preserved : goal.loop-self-preserved
 loop-self-preserved g c =
     let f = rw c.in-Part.is at c.in_ok-take_front.ensures.front in
     let part = part_taken _ _ _ _ [] _ _ _ c.loop-self.invariant.taken c.loop-self.invariant.one_line f.0 f.1 c.in_ok-fill.ensures.filled.0 in
-    record { short = c.in_ok-take_front.ensures.short; one_line = part.0; taken = part.1 }
+    let once = filled_less c.take_front.new.self c.fill.new.self c.in_ok-fill.ensures.counted in
+    let front = part_less c.loop-self.self c.take_front.new.self c.take_front.ensures.reads f.2 in
+    let same = c.take_front.ensures.reads in
+    let before = c.loop-self.invariant.less in
+    let fewer = c.loop-self.invariant.fewer in
+    let counted = c.in_ok-fill.ensures.counted in
+    record { short = c.in_ok-take_front.ensures.short; one_line = part.0; taken = part.1; less = omega arith; fewer = omega arith }
+
+pub returns-in-Whole-clause-less : goal.returns-in-Whole-clause-less
+returns-in-Whole-clause-less g c =
+    let f = rw c.in-Whole.is at c.in_ok-take_front.ensures.front in
+    let less = whole_less c.loop-self.self c.take_front.new.self c.take_front.ensures.reads f.0 f.2 in
+    let before = c.loop-self.invariant.less in
+    omega arith
+
+pub returns-in-TooLong-clause-less : goal.returns-in-TooLong-clause-less
+returns-in-TooLong-clause-less g c =
+    let f = rw c.in-TooLong.is at c.in_ok-take_front.ensures.front in
+    let same = same_work c.loop-self.self c.take_front.new.self c.take_front.ensures.reads f.1 in
+    let before = c.loop-self.invariant.less in
+    omega arith
+
+pub returns-then-is_empty-clause-less : goal.returns-then-is_empty-clause-less
+returns-then-is_empty-clause-less g c =
+    let f = rw c.in-Part.is at c.in_ok-take_front.ensures.front in
+    let front = part_less c.loop-self.self c.take_front.new.self c.take_front.ensures.reads f.2 in
+    let less = filled_less c.take_front.new.self c.fill.new.self c.in_ok-fill.ensures.counted in
+    let before = c.loop-self.invariant.less in
+    omega arith
+
+pub returns-else-is_empty-clause-less : goal.returns-else-is_empty-clause-less
+returns-else-is_empty-clause-less g c =
+    let f = rw c.in-Part.is at c.in_ok-take_front.ensures.front in
+    let front = part_less c.loop-self.self c.take_front.new.self c.take_front.ensures.reads f.2 in
+    let less = filled_less c.take_front.new.self c.fill.new.self c.in_ok-fill.ensures.counted in
+    let before = c.loop-self.invariant.less in
+    omega arith
+
+pub returns-in_err-fill-clause-fault : goal.returns-in_err-fill-clause-fault
+returns-in_err-fill-clause-fault g c =
+    let same = c.take_front.ensures.reads in
+    let fewer = c.loop-self.invariant.fewer in
+    let later = fault_later c.args.self.now.reads c.take_front.new.self.reads c.fill.new.self.reads c.in_err-fill.field-0.0 (omega arith) c.in_err-fill.ensures.fewer c.in_err-fill.ensures.fault in
+    search (rules, later)

@@ -2,7 +2,7 @@ use Rattle.std.proofs.Common.{◌≡◌, ℕ, ◌+◌, List, Option, Some, None,
 use Rattle.std.specs.Prelude.{unwrap_or}
 use Rattle.std.specs.Str.{bytes_eq}
 use Rattle.std.proofs.Math.ListN.{set}
-use Rattle.std.proofs.lemmas.Map.Text.{hash_map_updates_str}
+use Rattle.std.proofs.lemmas.Map.Text.{btree_map_updates_str}
 use Rattle.ic_text.specs.declared.seen.Seen.{Seen}
 use Rattle.ic_text.specs.Names.{Entry, place, times, enter}
 use Rattle.ic_text.specs.Table.{names_of}
@@ -71,7 +71,7 @@ invariant_of-self-in-Ok c =
     let i = ap names_of c.in_ok-push-in-None.ensures.items in
     let len : c.len-number.result ≡ length c.self.inside.seen.items = omega (arith, c.len-number.ensures, c.self.inside.seen.ok.0) in
     λ y.
-    let u = hash_map_updates_str c.args.text.now c.self.inside.places c.insert.new.self _ c.in-Ok.ensures.updates y in
+    let u = btree_map_updates_str c.args.text.now c.self.inside.places c.insert.new.self _ c.in-Ok.ensures.updates y in
     u ∙ ap (λ (p : Option ℕ). cond (bytes_eq c.args.text.now y) (Some c.len-number.result) p) (c.self.invariant y)
     ∙ ap (λ (n : ℕ). cond (bytes_eq c.args.text.now y) (Some n) (place y (names_of c.self.inside.seen.items))) len
     ∙ sym (m.places c.args.first y) ∙ ap (place y) (k ∙ sym i)

@@ -1,0 +1,75 @@
+ghost use Rattle.std.specs.Prelude.{◌≡◌, ◌≢◌, ◌↔◌, IsSome, IfSome, IfOk};
+ghost use Rattle.std.specs.declared.cmp.Ordering.TheVariants.{Less};
+ghost use Rattle.ic_name.specs.Names.{name_cmp};
+ghost use Rattle.ic_name.specs.Events.{pair_of};
+
+use crate::names::AgentName;
+use std::alloc::AllocError;
+use std::cmp::Ordering;
+use std::marker::Model;
+
+/// The name of an event: the two agents that meet, the lesser one, its lead, first.
+#[derive(Drop)]
+pub struct EventName {
+    lead: AgentName,
+    other: AgentName,
+}
+
+impl Model for EventName {
+    ghost use Rattle.std.specs.Prelude.{◌≡◌};
+    ghost use Rattle.std.specs.declared.cmp.Ordering.TheVariants.{Less};
+    ghost use Rattle.ic_name.specs.Names.{name_cmp};
+    ghost use Rattle.ic_name.specs.Events.{Pair};
+
+    ghost Value = { Pair };
+
+    ghost view = { λ e. record { lead = e.lead; other = e.other } };
+
+    ghost invariant = { λ e. name_cmp e.lead e.other ≡ Less };
+}
+
+impl EventName {
+    /// The event of two agents, in whichever order they are given. `None` for equal names.
+    #[tactic(auto, using(crate::proofs::NameOrder::name_flip, crate::proofs::NameOrder::name_tied, crate::proofs::NameOrder::name_less_apart, crate::proofs::NameOrder::name_greater_apart))]
+    pub fn of(a: AgentName, b: AgentName) -> Option<EventName>
+        ensures some { IsSome result ↔ (a ≢ b) }
+        ensures pair { IfSome result (λ e. e ≡ pair_of a b) }
+        ensures ordered { IfSome result (λ e. name_cmp e.lead e.other ≡ Less) }
+    {
+        match a.cmp(&b) {
+            Ordering::Less => Some(EventName { lead: a, other: b }),
+            Ordering::Equal => None,
+            Ordering::Greater => Some(EventName { lead: b, other: a }),
+        }
+    }
+
+    /// What holds of every event's name: the lead is the lesser one.
+    pub fn lawful(&self)
+        ensures { name_cmp self.now.lead self.now.other ≡ Less }
+    {
+        let _ = &self.lead;
+    }
+
+    /// The lesser of the two agents.
+    pub fn lead(&self) -> &AgentName
+        ensures { result.now ≡ self.now.lead }
+    {
+        &self.lead
+    }
+
+    /// The greater of the two agents.
+    pub fn other(&self) -> &AgentName
+        ensures { result.now ≡ self.now.other }
+    {
+        &self.other
+    }
+
+    /// The same name once more.
+    pub fn copy(&self) -> Result<EventName, AllocError>
+        ensures { IfOk result (λ e. e ≡ self.now) }
+    {
+        let lead = self.lead.copy()?;
+        let other = self.other.copy()?;
+        Ok(EventName { lead, other })
+    }
+}
