@@ -56,7 +56,7 @@ apart a b n = go (same_name a b) refl
     go false e = e
 
 -- a name below all is not among them
-not_above : (n : Name) (as' : List Listed) → AllByRecursion (λ m. name_cmp n m ≡ Less) (map (λ (a : Listed). a.name) as') → agent_among n as' ≡ None
+pub not_above : (n : Name) (as' : List Listed) → AllByRecursion (λ m. name_cmp n m ≡ Less) (map (λ (a : Listed). a.name) as') → agent_among n as' ≡ None
 not_above n [] h = refl
 not_above n (a ∷ as') h = rw (apart n a.name (name_less_apart n a.name h.0)) (not_above n as' h.1)
 

@@ -10,7 +10,7 @@ use Rattle.ic_name.proofs.SpotFacts.{same_spot_true, same_spot_self}
 use Rattle.ic_path.specs.FarEnds.{far, splice}
 use Rattle.ic_path.specs.Rings.{rings}
 use Rattle.ic_link.specs.Links.{shape}
-use Rattle.ic_net.specs.Starts.{IsStartSpot, AreStartLinks}
+use Rattle.ic_start.specs.Starts.{IsStartSpot, AreStartLinks}
 use Rattle.ic_net.specs.FarTables.{place_of, end_at, IsFarTable, HasFarEnds}
 
 -- spots with one place are one

@@ -4,7 +4,13 @@ pub mod NameCounts
 pub mod StartNets
 pub mod Lookups
 pub mod SameTables
-pub mod SameStarts
 pub mod SortedTables
 pub mod OneListing
 pub mod ActivePairs
+pub mod Rewirings
+pub mod Writes
+pub mod PutChildren
+pub mod ReachedNets
+pub mod WholeTables
+pub mod StepTables
+pub mod Replayed

@@ -1,9 +1,9 @@
 -- What is found in a net's tables is what the lists show.
-use Rattle.std.proofs.Common.{◌≡◌, ℕ, Bool, true, false, List, [], ◌∷◌, map, refl, sym, ap, ◌∙◌, eqb, Option, Some, None, eq-eqb}
+use Rattle.std.proofs.Common.{◌≡◌, ℕ, Bool, true, false, List, [], ◌∷◌, map, refl, sym, ap, ◌∙◌, eqb, Some, eq-eqb}
 use Rattle.std.specs.Map.{lookup}
 use Rattle.std.proofs.lemmas.Bool.{eqb-true}
 use Rattle.std.proofs.lemmas.Cmp.{ranked, tied_itself, nat_cmp_total}
-use Rattle.std.specs.Prelude.{if◌then◌else◌, option_map, slice_get}
+use Rattle.std.specs.Prelude.{if◌then◌else◌, option_map}
 use Rattle.std.specs.Ordering.{nat_cmp, is_eq}
 use Rattle.std.specs.BTreeMap.{is_at}
 use Rattle.std.specs.declared.cmp.Ordering.{Ordering}
@@ -15,7 +15,8 @@ use Rattle.ic_name.proofs.NameOrder.{name_tied, name_tied_itself}
 use Rattle.ic_name.specs.declared.ports.Port.{Port}
 use Rattle.ic_theory.specs.Listed.{NetAgent as Listed, agent_among, partner_at, free_among}
 use Rattle.ic_net.specs.declared.agents.NetAgent.{NetAgent}
-use Rattle.ic_net.specs.Nets.{listed_agent, partner_list}
+use Rattle.ic_net.specs.Nets.{listed_agent}
+use Rattle.ic_net.specs.Tables.{partner_in}
 
 -- the order says equal where the test says so
 pub same_by_cmp : (m n : Name) → is_eq (name_cmp m n) ≡ same_name m n
@@ -46,10 +47,6 @@ found_kind n (e ∷ es) = go (same_name n e.0) (same_by_cmp n e.0) (found_kind n
         → option_map (λ (a : Listed). a.kind) (if b then Some (listed_agent e) else agent_among n (map listed_agent es)) ≡ option_map (λ (a : NetAgent). a.kind) (lookup (is_at (name_cmp n)) (e ∷ es))
     go true h ih = rw h refl
     go false h ih = rw h ih
-
-abbrev pub partner_in : ℕ → Option NetAgent → Option Port
-partner_in i None = None
-partner_in i (Some a) = slice_get (partner_list a.partners) i
 
 pub found_partner : (n : Name) (i : ℕ) (es : List (Name × NetAgent)) → partner_at i (agent_among n (map listed_agent es)) ≡ partner_in i (lookup (is_at (name_cmp n)) es)
 found_partner n i [] = refl

@@ -12,7 +12,7 @@ use Rattle.ic_name.specs.declared.ports.Port.{Port}
 use Rattle.ic_name.specs.Spots.{same_spot}
 use Rattle.ic_path.specs.Links.{degree, hits}
 use Rattle.ic_link.specs.Links.{shape}
-use Rattle.ic_net.specs.Starts.{IsStartSpot, AreStartLinks}
+use Rattle.ic_start.specs.Starts.{IsStartSpot, AreStartLinks}
 use Rattle.ic_net.specs.Nets.{frees_upto}
 use Rattle.ic_net.proofs.FarTableFacts.{link_inside}
 use Rattle.ic_net.proofs.Listings.{nat_above}

@@ -28,11 +28,12 @@ use Rattle.ic_theory.specs.Born.{Link as NetLink, placed, named}
 use Rattle.ic_theory.specs.Starts.{Start, start_links, net_shape, IsProper}
 use Rattle.ic_theory.specs.Nets.{IsSameNet, kind_among, has_port, net_of}
 use Rattle.ic_theory.specs.Listed.{NetAgent as Listed, ListedNet, IsListing, agent_among, partner_at, free_among, shown}
-use Rattle.ic_net.specs.Starts.{IsStartSpot, AreStartLinks, port_at, join_of}
+use Rattle.ic_start.specs.Starts.{IsStartSpot, AreStartLinks, port_at, join_of}
+use Rattle.ic_start.proofs.StartSpots.{one_port}
 use Rattle.ic_net.specs.FarTables.{HasFarEnds, agent_partner, name_partner}
 use Rattle.ic_net.specs.declared.agents.NetAgent.{NetAgent}
 use Rattle.ic_name.specs.declared.limits.TheConstants.{MAX_START_AGENTS}
-use Rattle.ic_net.specs.Nets.{at_ports, listed_agent, listed_from, frees_upto, IsNet}
+use Rattle.ic_net.specs.Nets.{at_ports, listed_agent, listed_from, frees_upto, IsNet, IsReached}
 
 -- a start's link with ports for spots
 abbrev link_of : Link → NetLink
@@ -53,18 +54,6 @@ no_name a n k (l ∷ ls) j h g = rw (away a n l.a j h.1 g, away a n l.b j h.2 g)
     away : (a n : ℕ) (p : Spot) (j : ℕ) → IsStartSpot a n p → n ≤ j → same_spot (spots.Name j) p ≡ false
     away a n (spots.Agent x i) j h g = refl
     away a n (spots.Name m) j h g = ne_eqb j m (λ e. omega arith)
-
--- spots of a start that stand for one port are one
-pub one_port : (a n : ℕ) (p q : Spot) → IsStartSpot a n p → IsStartSpot a n q → port_at p ≡ port_at q → p ≡ q
-one_port a n (spots.Agent x i) (spots.Agent y j) h k e =
-    let m : start_name x.slot ≡ start_name y.slot = cc in
-    let s : x.slot ≡ y.slot = ap (λ u. u.start) m in
-    let t : x.serial ≡ y.serial = h.1 ∙ sym k.1 in
-    let d : i ≡ j = cc in
-    λ u. spots.Agent (record { slot = s u; serial = t u }) (d u)
-one_port a n (spots.Agent x i) (spots.Name j) h k e = cc
-one_port a n (spots.Name i) (spots.Agent y j) h k e = cc
-one_port a n (spots.Name i) (spots.Name j) h k e = cc
 
 all_in : (a n k : ℕ) (ls : List Link) → AreStartLinks a n k ls → AllIn shape (IsStartSpot a n) ls
 all_in a n k [] h = tt
@@ -213,7 +202,7 @@ start_net s links ends times l ok joins in_place table long counts agents frees 
     partners (ports.Name j) = rw frees (at_name j (cases_lt j (length s.names)))
 
 -- the tables of a start are in order, and whole
-keys_listed : (es : List (Name × NetAgent)) → map (λ (a : Listed). a.name) (map listed_agent es) ≡ keys_of es
+pub keys_listed : (es : List (Name × NetAgent)) → map (λ (a : Listed). a.name) (map listed_agent es) ≡ keys_of es
 keys_listed [] = refl
 keys_listed (e ∷ es) = ap (λ ns. e.0 ∷ ns) (keys_listed es)
 
@@ -252,12 +241,14 @@ frees-le once f (suc n) = rw length-append (go (once n) (frees-le once f n))
 pub start_is_net : (es : List (Name × NetAgent)) (frees : List (ℕ × Port)) (rings : ℕ) (profile : Profile) (f : ℕ → ℕ → Port) (kinds : List Kind) (once : ℕ → Bool) (g : ℕ → Port) (n : ℕ)
     → map listed_agent es ≡ listed_from f 0 kinds → IsStrictlySortedBy name_cmp (keys_of es) → frees ≡ frees_upto once g n → IsStrictlySortedBy nat_cmp (keys_of frees)
     → length kinds ≤ MAX_START_AGENTS → n < 2 ^ 32 → rings < 2 ^ 63
+    → IsReached (shown (record { agents = map listed_agent es; frees = frees; rings = rings; profile = profile }))
     → IsNet (record { agents = map listed_agent es; frees = frees; rings = rings; profile = profile })
-start_is_net es frees rings profile f kinds once g n h names e numbers few short seldom = record {
+start_is_net es frees rings profile f kinds once g n h names e numbers few short seldom reached = record {
   listing = start_listing es frees rings profile f kinds h names numbers;
   few_agents = let a : length (map listed_agent es) ≡ length kinds = ap length h ∙ length-listed f 0 kinds in omega arith;
   few_frees = let b = frees-le once g n in let c : length frees ≡ length (frees_upto once g n) = ap length e in omega arith;
   few_rings = seldom;
+  reached = reached;
 }
 
 -- the same by the numbers that the code has

@@ -3,7 +3,7 @@ use Rattle.std.specs.Prelude.{◌≡◌, ℕ, ◌+◌, ◌*◌, List, length, sl
 use Rattle.ic_name.specs.declared.ids.Spot.{Spot}
 use Rattle.ic_name.specs.declared.ids.Spot.TheVariants as spot
 use Rattle.ic_name.specs.declared.ports.Port.{Port}
-use Rattle.ic_net.specs.Starts.{IsStartSpot, port_at}
+use Rattle.ic_start.specs.Starts.{IsStartSpot, port_at}
 
 -- the place of a spot: three places for each agent, then the names
 abbrev pub place_of : ℕ → Spot → ℕ

@@ -1,4 +1,7 @@
-pub mod Starts
 pub mod FarTables
 pub mod Nets
 pub mod Views
+pub mod StepFaults
+pub mod Rewirings
+pub mod Tables
+pub mod Replays

@@ -1,13 +1,16 @@
 -- What a net's tables list.
-use Rattle.std.specs.Prelude.{ℕ, ◌+◌, ◌<◌, ◌≤◌, ◌^◌, zero, suc, Bool, List, [], ◌∷◌, ◌++◌, length, Option, slice_get, if◌then◌else◌}
+use Rattle.std.specs.Prelude.{ℕ, ◌+◌, ◌<◌, ◌^◌, zero, suc, Bool, List, [], ◌∷◌, ◌++◌, length, Option, slice_get, if◌then◌else◌}
 use Rattle.std.specs.Ordering.{is_lt}
 use Rattle.ic_name.specs.Names.{Name, start_name}
+use Rattle.ic_name.specs.Events.{Event}
 use Rattle.ic_name.specs.declared.kinds.Kind.{Kind}
 use Rattle.ic_name.specs.declared.kinds.Kind.TheVariants.{Eps}
 use Rattle.ic_name.specs.declared.ports.Port.{Port}
-use Rattle.ic_name.specs.declared.limits.TheConstants.{MAX_AGENTS}
 use Rattle.ic_name.specs.declared.ports.Port.TheVariants as port
-use Rattle.ic_theory.specs.Listed.{NetAgent as Listed, ListedNet, IsListing, port_cmp, ends_from, led_pair}
+use Rattle.ic_theory.specs.Starts.{Start, IsProper}
+use Rattle.ic_theory.specs.Firings.{IsFired}
+use Rattle.ic_theory.specs.Nets.{Net, IsSameNet, net_of}
+use Rattle.ic_theory.specs.Listed.{NetAgent as Listed, ListedNet, IsListing, port_cmp, ends_from, led_pair, shown}
 use Rattle.ic_net.specs.declared.agents.Partners.{Partners}
 use Rattle.ic_net.specs.declared.agents.Partners.TheVariants.{One, Three}
 use Rattle.ic_net.specs.declared.agents.NetAgent.{NetAgent}
@@ -36,12 +39,21 @@ abbrev pub frees_upto : (ℕ → Bool) → (ℕ → Port) → ℕ → List (ℕ 
 frees_upto once partner zero = []
 frees_upto once partner (suc n) = frees_upto once partner n ++ (if once n then (n, partner n) ∷ [] else [])
 
--- what a net keeps: it is listed in one way, and it is of a size that can be counted
+-- a start and a firing of events over it that leave this net
+pub record IsReached (n : Net) : Type 0 where
+  pub start : Start
+  pub events : List Event
+  pub proper : IsProper start
+  pub fired : IsFired start events
+  pub net : IsSameNet n (net_of start events)
+
+-- what a net keeps: it is listed in one way, it is of a size that can be counted, and it is that of a firing
 pub record IsNet (l : ListedNet) : Type 0 where
   pub listing : IsListing l
-  pub few_agents : length l.agents ≤ MAX_AGENTS
+  pub few_agents : length l.agents < 2 ^ 32
   pub few_frees : length l.frees < 2 ^ 32
   pub few_rings : l.rings < 2 ^ 63
+  pub reached : IsReached (shown l)
 
 -- the ports of an agent with their partners, and a name with its partner
 abbrev pub agent_ends : Listed → List (Port × Port)

@@ -4,7 +4,7 @@ ghost use Rattle.ic_path.specs.Rings.{rings};
 ghost use Rattle.ic_name.specs.Spots.{same_spot};
 ghost use Rattle.ic_name.specs.declared.ids.Spot.{Spot as ASpot};
 ghost use Rattle.ic_link.specs.Links.{shape};
-ghost use Rattle.ic_net.specs.Starts.{IsStartSpot, AreStartLinks};
+ghost use Rattle.ic_start.specs.Starts.{IsStartSpot, AreStartLinks};
 ghost use Rattle.ic_net.specs.FarTables.{place_of, end_at, IsFarTable, HasFarEnds};
 
 use ic_name::{AgentId, Link, Spot};

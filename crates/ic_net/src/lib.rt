@@ -2,21 +2,26 @@
 #![tactic(auto)]
 
 pub mod agents;
+mod children;
+mod entries;
 mod far;
+pub mod fault;
 pub mod laws;
 pub mod net;
 mod pairs;
-pub mod rule;
+pub mod replays;
+mod rewiring;
 mod same;
-pub mod start;
+mod step;
 mod tables;
 pub mod views;
 mod wires;
 
+pub use fault::StepFault;
 pub use ic_name::{Kind, Profile};
+pub use ic_start::{Born, Start, outcome};
 pub use net::Net;
-pub use rule::{Born, outcome};
-pub use start::Start;
+pub use replays::{ReplayFault, replay};
 pub use views::{AgentView, FreeView};
 
 #[cfg(test)]

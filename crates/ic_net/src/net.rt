@@ -1,18 +1,18 @@
 ghost use Rattle.std.specs.Prelude.{◌≡◌, ◌↔◌, ◌≤◌, ◌<◌, ◌^◌, [], length, map, IfOk, IsTrue, option_copied};
 ghost use Rattle.ic_theory.specs.Nets.{net_of, IsSameNet};
 ghost use Rattle.ic_theory.specs.Listed.{IsListing, shown, wires_of, active_pairs};
+ghost use Rattle.ic_net.specs.Nets.{IsReached};
 ghost use Rattle.ic_net.specs.Views.{shown_agent, shown_free};
 
 use crate::agents::NetAgent;
 use crate::far::far_table;
 use crate::pairs::active_of;
 use crate::same::{same_agents, same_frees};
-use crate::start::Start;
 use crate::tables::{agents_of, frees_of, name_ends};
 use crate::views::{AgentView, FreeView, agent_views_of, free_views_of};
 use crate::wires::{agent_wires, name_wires};
-use ic_name::limits::MAX_AGENTS;
 use ic_name::{AgentName, Kind, Port, Profile};
+use ic_start::Start;
 use std::alloc::{AllocError, Global};
 use std::collections::BTreeMap;
 use std::marker::Model;
@@ -20,10 +20,10 @@ use std::marker::Model;
 /// A net without its links: its agents by name, the partner of each loose port, a number of rings, and a profile.
 #[derive(Drop)]
 pub struct Net {
-    agents: BTreeMap<AgentName, NetAgent>,
-    frees: BTreeMap<u32, Port>,
-    rings: u64,
-    profile: Profile,
+    pub(crate) agents: BTreeMap<AgentName, NetAgent>,
+    pub(crate) frees: BTreeMap<u32, Port>,
+    pub(crate) rings: u64,
+    pub(crate) profile: Profile,
 }
 
 impl Model for Net {
@@ -64,9 +64,10 @@ impl Net {
     /// What holds of every net, for whoever has to show it.
     pub fn lawful(&self)
         ensures listing { IsListing self.now }
-        ensures few_agents { length self.now.agents ≤ MAX_AGENTS }
+        ensures few_agents { length self.now.agents < 2 ^ 32 }
         ensures few_frees { length self.now.frees < 2 ^ 32 }
         ensures few_rings { self.now.rings < 2 ^ 63 }
+        ensures reached { IsReached (shown self.now) }
     {
         let _ = &self.rings;
     }

@@ -2,11 +2,11 @@ ghost use Rattle.std.specs.Prelude.{◌≡◌, ◌↔◌, IsTrue, map};
 ghost use Rattle.ic_net.specs.Nets.{listed_agent};
 
 use crate::agents::NetAgent;
-use ic_name::{AgentName, Link, Port};
+use ic_name::{AgentName, Port};
 use std::collections::BTreeMap;
 
 /// Whether two ports are one.
-fn same_port(left: &Port, right: &Port) -> bool
+pub(crate) fn same_port(left: &Port, right: &Port) -> bool
     ensures { IsTrue result ↔ (left.now ≡ right.now) }
 {
     match (left, right) {
@@ -27,24 +27,10 @@ fn same_agent(name: &AgentName, agent: &NetAgent, other_name: &AgentName, other:
 }
 
 /// Whether two lists of ports are one.
-fn same_ports(left: &[Port], right: &[Port]) -> bool
+pub(crate) fn same_ports(left: &[Port], right: &[Port]) -> bool
     ensures { IsTrue result ↔ (left.now ≡ right.now) }
 {
     left.len() == right.len() && left.iter().zip(right.iter()).all(|(a, b)| same_port(a, b))
-}
-
-/// Whether two links are one.
-fn same_link(left: &Link, right: &Link) -> bool
-    ensures { IsTrue result ↔ (left.now ≡ right.now) }
-{
-    left.id == right.id && left.a == right.a && left.b == right.b
-}
-
-/// Whether two lists of links are one.
-pub(crate) fn same_links(left: &[Link], right: &[Link]) -> bool
-    ensures { IsTrue result ↔ (left.now ≡ right.now) }
-{
-    left.len() == right.len() && left.iter().zip(right.iter()).all(|(a, b)| same_link(a, b))
 }
 
 /// Whether two tables of agents list the same.

@@ -6,7 +6,7 @@ ghost use Rattle.ic_name.specs.Names.{name_cmp};
 ghost use Rattle.ic_name.specs.Spots.{same_spot};
 ghost use Rattle.ic_name.specs.declared.ids.Spot.TheVariants as spots;
 ghost use Rattle.ic_link.specs.Links.{shape};
-ghost use Rattle.ic_net.specs.Starts.{IsStartSpot, AreStartLinks, port_at};
+ghost use Rattle.ic_start.specs.Starts.{IsStartSpot, AreStartLinks, port_at};
 ghost use Rattle.ic_net.specs.FarTables.{IsFarTable, agent_partner, name_partner};
 ghost use Rattle.ic_net.specs.Nets.{at_ports, partner_list, listed_agent, listed_from, frees_upto};
 

@@ -1,9 +1,9 @@
-ghost use Rattle.std.specs.Prelude.{◌≡◌};
+ghost use Rattle.std.specs.Prelude.{◌≡◌, ◌<◌};
 ghost use Rattle.ic_name.specs.declared.ids.Spot.TheVariants as spots;
 ghost use Rattle.ic_name.specs.declared.ids.MakerId.TheVariants as maker;
 
 use super::*;
-use ic_name::{AgentId, AgentName, Link, LinkId, MakerId, Port, RuleEnd, Spot};
+use ic_name::{AgentId, AgentName, Event, Link, LinkId, MakerId, Port, Spot};
 use std::test::Fail;
 
 fn port(slot: u32, port: u8) -> Spot
@@ -46,22 +46,6 @@ fn two_agents(rt: &HostRuntime) -> Result<Start, Fail> {
 
 fn name(rt: &HostRuntime, number: u16) -> Result<AgentName, Fail> {
     Ok(AgentName::start(rt.alloc(), number).ok_or("a start number")?)
-}
-
-#[test]
-fn a_start_shows_its_parts(rt: HostRuntime) -> Result<(), Fail> {
-    let start = two_agents(&rt)?;
-    start.lawful();
-    assert_eq!(rt; start.agents(), 2);
-    assert_eq!(rt; start.kinds(), [Kind::Gamma, Kind::Delta].as_slice());
-    assert_eq!(rt; start.kind(1), Some(Kind::Delta));
-    assert_eq!(rt; start.kind(2), None);
-    assert_eq!(rt; start.links().len(), 5);
-    let last = start.names().last().ok_or("a name")?;
-    assert_eq!(rt; last.as_slice(), b"b".as_slice());
-    assert_eq!(rt; start.profile(), Profile::Straight);
-    assert!(rt; start.same(&two_agents(&rt)?));
-    Ok(())
 }
 
 #[test]
@@ -111,20 +95,104 @@ fn a_net_shows_its_parts_in_order(rt: HostRuntime) -> Result<(), Fail> {
     Ok(())
 }
 
+/// The child with this digit of the first start agent.
+fn child(rt: &HostRuntime, digit: u8) -> Result<AgentName, Fail>
+    requires { digit < 4 }
+{
+    Ok(name(rt, 0)?.child(digit)?)
+}
+
+/// The event of the first two start agents, of these kinds.
+fn first_two(rt: &HostRuntime, lead: Kind, other: Kind) -> Result<Event, Fail> {
+    let lead_name = name(rt, 0)?;
+    Ok(Event::of(lead_name, lead, name(rt, 1)?, other).ok_or("two names")?)
+}
+
+/// The net that the event of the first two start agents leaves, of these kinds.
+fn stepped(rt: &HostRuntime, start: &Start, lead: Kind, other: Kind) -> Result<Net, Fail> {
+    let mut net = Net::of_start(rt.alloc(), start)?;
+    net.step(rt.alloc(), &first_two(rt, lead, other)?)?;
+    Ok(net)
+}
+
+/// The kind of the child with this digit.
+fn child_kind(rt: &HostRuntime, net: &Net, digit: u8) -> Result<Option<Kind>, Fail>
+    requires { digit < 4 }
+{
+    Ok(net.kind(&child(rt, digit)?))
+}
+
+/// Whether the port's partner is this port of the child with this digit.
+fn meets_child(
+    rt: &HostRuntime,
+    net: &Net,
+    port: &Port,
+    digit: u8,
+    number: u8,
+) -> Result<bool, Fail>
+    requires { digit < 4 }
+{
+    let child = child(rt, digit)?;
+    Ok(match net.partner(port) {
+        Some(Port::Of(agent, found)) => agent.is(&child) && *found == number,
+        _ => false,
+    })
+}
+
 #[test]
-fn gamma_and_delta_pass_through_one_another(rt: HostRuntime) -> Result<(), Fail> {
-    let born = outcome(Kind::Gamma, Kind::Delta, Profile::Classic);
-    assert_eq!(rt;
-        born.children,
-        [Kind::Delta, Kind::Delta, Kind::Gamma, Kind::Gamma].as_slice()
-    );
-    assert_eq!(rt; born.links.len(), 8);
-    assert_eq!(rt; born.links[1], (RuleEnd::Child(1, 0), RuleEnd::Lead(2)));
-    assert_eq!(rt; born.links[5], (RuleEnd::Child(0, 2), RuleEnd::Child(3, 1)));
-    assert!(rt;
-        outcome(Kind::Eps, Kind::Eps, Profile::Classic)
-            .links
-            .is_empty()
-    );
+fn a_step_puts_four_agents_in_place_of_two(rt: HostRuntime) -> Result<(), Fail> {
+    let net = stepped(&rt, &two_agents(&rt)?, Kind::Gamma, Kind::Delta)?;
+    assert_eq!(rt; net.agents(), 4);
+    assert_eq!(rt; net.wires(), 7);
+    assert_eq!(rt; net.rings(), 0);
+    assert_eq!(rt; net.kind(&name(&rt, 0)?), None);
+    assert_eq!(rt; child_kind(&rt, &net, 1)?, Some(Kind::Delta));
+    assert_eq!(rt; child_kind(&rt, &net, 2)?, Some(Kind::Gamma));
+    Ok(())
+}
+
+#[test]
+fn a_step_wires_up_its_children(rt: HostRuntime) -> Result<(), Fail> {
+    let net = stepped(&rt, &two_agents(&rt)?, Kind::Gamma, Kind::Delta)?;
+    assert!(rt; meets_child(&rt, &net, &Port::Of(child(&rt, 0)?, 0), 2, 0)?);
+    assert!(rt; meets_child(&rt, &net, &Port::Of(child(&rt, 0)?, 2), 3, 1)?);
+    assert!(rt; meets_child(&rt, &net, &Port::Name(2), 3, 0)?);
+    Ok(())
+}
+
+#[test]
+fn agents_of_other_kinds_make_no_step(rt: HostRuntime) -> Result<(), Fail> {
+    let start = two_agents(&rt)?;
+    let mut net = Net::of_start(rt.alloc(), &start)?;
+    let fault = net
+        .step(rt.alloc(), &first_two(&rt, Kind::Eps, Kind::Eps)?)
+        .err();
+    assert_eq!(rt; fault, Some(StepFault::NotActive));
+    assert_eq!(rt; StepFault::NotActive.number(), 21);
+    assert!(rt; net.same(&Net::of_start(rt.alloc(), &start)?));
+    Ok(())
+}
+
+/// The start of `G(x,y) = G(x,y);`.
+fn two_gammas(rt: &HostRuntime) -> Result<Start, Fail> {
+    let alloc = rt.alloc();
+    let kinds = vec![in alloc; Kind::Gamma, Kind::Gamma]?;
+    let links = vec![in alloc;
+        link(0, port(0, 1), Spot::Name(0)),
+        link(1, port(0, 2), Spot::Name(1)),
+        link(2, port(0, 0), port(1, 0)),
+        link(3, port(1, 1), Spot::Name(0)),
+        link(4, port(1, 2), Spot::Name(1)),
+    ]?;
+    let names = vec![in alloc; vec![in alloc; b'x']?, vec![in alloc; b'y']?]?;
+    Ok(Start::make(kinds, links, names, Profile::Straight))
+}
+
+#[test]
+fn two_gammas_wired_straight_leave_two_rings(rt: HostRuntime) -> Result<(), Fail> {
+    let net = stepped(&rt, &two_gammas(&rt)?, Kind::Gamma, Kind::Gamma)?;
+    assert_eq!(rt; net.agents(), 0);
+    assert_eq!(rt; net.wires(), 0);
+    assert_eq!(rt; net.rings(), 2);
     Ok(())
 }

@@ -6,7 +6,7 @@ use Rattle.std.proofs.lemmas.Bool.Decides.{nat_tests}
 use Rattle.ic_name.specs.declared.ids.Link.{Link}
 use Rattle.ic_name.specs.declared.rules.Profile.TheVariants.{Classic}
 use Rattle.ic_theory.specs.Starts.{Start}
-use Rattle.ic_net.specs.Starts.{join_of, IsStart, start_of}
+use Rattle.ic_start.specs.Starts.{join_of, IsStart, start_of}
 use Rattle.ic_grammar.specs.declared.limits.TheConstants.{MAX_TEXT, MAX_FREE_NAMES}
 use Rattle.ic_grammar.specs.Tokens.{items, between}
 use Rattle.ic_grammar.proofs.Proper.{proper}

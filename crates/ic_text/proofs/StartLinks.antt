@@ -18,7 +18,7 @@ use Rattle.ic_name.specs.declared.ports.Port.{Port}
 use Rattle.ic_path.specs.Links.{degree}
 use Rattle.ic_theory.specs.Born.{named}
 use Rattle.ic_theory.specs.Starts.{Start, IsProper, net_shape, start_links, port_times}
-use Rattle.ic_net.specs.Starts.{port_at, join_of, IsStartSpot, AreStartLinks, start_of}
+use Rattle.ic_start.specs.Starts.{port_at, join_of, IsStartSpot, AreStartLinks, start_of}
 use Rattle.ic_grammar.proofs.LinkEnds.{hit, ends, degree_is}
 use Rattle.ic_text.specs.Links.{IsOfStart, AreOfStart}
 

@@ -1,5 +1,5 @@
 ghost use Rattle.std.specs.Prelude.{◌≡◌, ◌<◌, ◌^◌, ◌++◌, ◌∷◌, [], length, map, OnOk};
-ghost use Rattle.ic_net.specs.Starts.{port_at, join_of};
+ghost use Rattle.ic_start.specs.Starts.{port_at, join_of};
 ghost use Rattle.ic_text.specs.Links.{IsOfStart, AreOfStart};
 ghost use Rattle.ic_text.specs.Ends.{port_of_end};
 
@@ -36,7 +36,7 @@ pub struct Links {
 impl Model for Links {
     ghost use Rattle.std.specs.Prelude.{List, map};
     ghost use Rattle.ic_name.specs.declared.ports.Port.{Port};
-    ghost use Rattle.ic_net.specs.Starts.{join_of};
+    ghost use Rattle.ic_start.specs.Starts.{join_of};
     ghost use Rattle.ic_text.specs.Links.{AreOfStart};
 
     ghost Value = { List (Port × Port) };

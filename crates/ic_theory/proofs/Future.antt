@@ -304,7 +304,7 @@ pub includes_self : (es : List Event) → Includes es es
 includes_self es = record { others = []; alike = alike_self es }
 
 -- and the empty one
-includes_none : (es : List Event) → Includes es []
+pub includes_none : (es : List Event) → Includes es []
 includes_none es = record { others = es; alike = rw (append-nil es) (alike_self es) }
 
 -- with one event more it includes what it did
@@ -330,43 +330,56 @@ includes_event {e} {all} {es} c i n =
 
 module _ (s : Start) (ok : IsProper s) where
   -- an event that was active in a part is in the whole, or active there
-  union_step : {es fs : List Event} (e : Event) (u : Union s es fs) → IsActive s es e → Union s (e ∷ es) fs
-  union_step {es} {fs} e u a = go (consumed_times e.lead u.all) (consumed_times e.other u.all) refl refl
+  pub there_or_active : {all es : List Event} (e : Event) → IsFired s all → Includes all es → IsActive s es e → Includes all (e ∷ es) ⊎ IsActive s all e
+  there_or_active {all} {es} e firing part a = go (consumed_times e.lead all) (consumed_times e.other all) refl refl
     where
-      apart : (n : Name) → consumed_times n u.all ≤ 1
-      apart = fired_apart s u.firing
+      apart : (n : Name) → consumed_times n all ≤ 1
+      apart = fired_apart s firing
 
-      here_now : WasFired s u.all e
-      here_now = record { present = present_included s u.left a.present; path = path_included s u.left a.wire.path }
+      here_now : WasFired s all e
+      here_now = record { present = present_included s part a.present; path = path_included s part a.wire.path }
 
       new : IsIn e es → ⊥
       new i = let h = consumed_in i.1 in let z : consumed_times e.lead es ≡ 0 = loose_agent s es e.lead a.wire.from_loose in absurd (omega arith)
 
-      by_consumer : (n : Name) → (n ≡ e.lead) ⊎ (n ≡ e.other) → Consumer n u.all → Union s (e ∷ es) fs
+      by_consumer : (n : Name) → (n ≡ e.lead) ⊎ (n ≡ e.other) → Consumer n all → Includes all (e ∷ es)
       by_consumer n m c =
-          let w = was_fired s u.firing c.among.1 in
-          let same : c.event ≡ e = meets_once s ok u.all apart c.event e w here_now n c.consumes m in
-          let i : IsIn e u.all = rw (← same) c.among in
-          record { all = u.all; firing = u.firing; left = includes_event u.left i new; right = u.right }
+          let w = was_fired s firing c.among.1 in
+          let same : c.event ≡ e = meets_once s ok all apart c.event e w here_now n c.consumes m in
+          let i : IsIn e all = rw (← same) c.among in
+          includes_event part i new
 
-      loose : (n : Name) (k : Kind) → IsIn (n, k) (agents s u.all) → consumed_times n u.all ≡ 0 → IsLoose s u.all (Of n 0)
+      loose : (n : Name) (k : Kind) → IsIn (n, k) (agents s all) → consumed_times n all ≡ 0 → IsLoose s all (Of n 0)
       loose n k i z = (k, i, omega arith, z)
 
-      go : (m n : ℕ) → consumed_times e.lead u.all ≡ m → consumed_times e.other u.all ≡ n → Union s (e ∷ es) fs
-      go (suc m) n h i = by_consumer e.lead (inl refl) (consumer e.lead u.all (omega arith))
-      go zero (suc n) h i = by_consumer e.other (inr refl) (consumer e.other u.all (omega arith))
+      go : (m n : ℕ) → consumed_times e.lead all ≡ m → consumed_times e.other all ≡ n → Includes all (e ∷ es) ⊎ IsActive s all e
+      go (suc m) n h i = inl (by_consumer e.lead (inl refl) (consumer e.lead all (omega arith)))
+      go zero (suc n) h i = inl (by_consumer e.other (inr refl) (consumer e.other all (omega arith)))
       go zero zero h i =
           let p = here_now.present in
-          record {
-            all = e ∷ u.all;
-            firing = fired u.firing (record { present = p; wire = record { path = here_now.path; from_loose = loose e.lead e.lead_kind p.lead h; to_loose = loose e.other e.other_kind p.other i } });
-            left = includes_both e u.left;
-            right = includes_more e u.right;
-          }
+          inr (record { present = p; wire = record { path = here_now.path; from_loose = loose e.lead e.lead_kind p.lead h; to_loose = loose e.other e.other_kind p.other i } })
+
+  -- so the whole has it too, or takes it in
+  union_step : {es fs : List Event} (e : Event) (u : Union s es fs) → IsActive s es e → Union s (e ∷ es) fs
+  union_step {es} {fs} e u a = elim (there_or_active e u.firing u.left a) [ inl i ↦ there_now i | inr h ↦ taken h ]
+    where
+      wider : (x : Event) → IsIn x es ⊎ IsIn x fs → IsIn x (e ∷ es) ⊎ IsIn x fs
+      wider x (inl i) = inl (_, there i.1)
+      wider x (inr i) = inr i
+
+      there_now : Includes u.all (e ∷ es) → Union s (e ∷ es) fs
+      there_now i = record { all = u.all; firing = u.firing; left = i; right = u.right; only = λ x j. wider x (u.only x j) }
+
+      only_now : (x : Event) {rest : List Event} → Pick x (e ∷ u.all) rest → IsIn x (e ∷ es) ⊎ IsIn x fs
+      only_now x here = inl (es, here)
+      only_now x (there k) = wider x (u.only x (_, k))
+
+      taken : IsActive s u.all e → Union s (e ∷ es) fs
+      taken h = record { all = e ∷ u.all; firing = fired u.firing h; left = includes_both e u.left; right = includes_more e u.right; only = λ x j. only_now x j.1 }
 
   -- two firings over one start have a common one
   pub union : {es fs : List Event} → IsFired s es → IsFired s fs → Union s es fs
-  union {fs = fs} nothing g = record { all = fs; firing = g; left = includes_none fs; right = includes_self fs }
+  union {fs = fs} nothing g = record { all = fs; firing = g; left = includes_none fs; right = includes_self fs; only = λ x i. inr i }
   union (fired {e = e} f a) g = union_step e (union f g) a
 
   -- no agent meets two partners: events of two firings that share an agent are one

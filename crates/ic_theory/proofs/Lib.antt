@@ -20,3 +20,7 @@ pub mod Normal
 pub mod Kept
 pub mod Machines
 pub mod Replies
+pub mod Restored
+pub mod NormalEnds
+pub mod Exchanging
+pub mod LastUndone

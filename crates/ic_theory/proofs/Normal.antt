@@ -149,7 +149,7 @@ module _ (s : Start) where
     turned (back m a b p) = then_same (turned p) (forth m b a same)
 
     -- the event that was fired last has no dependents
-    last_free : {e : Event} {es : List Event} → IsFired s (e ∷ es) → HasNoDependent s (e ∷ es) e
+    pub last_free : {e : Event} {es : List Event} → IsFired s (e ∷ es) → HasNoDependent s (e ∷ es) e
     last_free {e} {es} f x i c = go (first_or_in i.1)
       where
         now : IsSound s (e ∷ es) × AreAfterCauses s (e ∷ es) (e ∷ es)

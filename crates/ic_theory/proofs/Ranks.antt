@@ -182,14 +182,18 @@ sound_order s ok es h =
           [] (sorted h.rank es) refl (sorted_falls h.rank es) (λ x i. elim i.1 [ ])),
     )
 
--- of two sound sets the union is sound: there is a sound set that has both
-pub sound_union : (s : Start) → IsProper s → (es fs : List Event) → IsSound s es → IsSound s fs → (all : List Event) × IsSound s all × Includes all es × Includes all fs
+-- of two sound sets the union is sound: there is a sound set that has both, and no other events
+pub sound_union : (s : Start) → IsProper s → (es fs : List Event) → IsSound s es → IsSound s fs → (all : List Event) × IsSound s all × Includes all es × Includes all fs × ((e : Event) → IsIn e all → IsIn e es ⊎ IsIn e fs)
 sound_union s ok es fs h k =
     let o = sound_order s ok es h in
     let p = sound_order s ok fs k in
     let u = union s ok o.2 p.2 in
-    (u.all, (fired_sound s ok u.all u.firing).0, regroup u.left o.1, regroup u.right p.1)
+    (u.all, (fired_sound s ok u.all u.firing).0, regroup u.left o.1, regroup u.right p.1, λ e i. from o.1 p.1 (u.only e i))
   where
+    from : {x : Event} {xs ys xs' ys' : List Event} → Alike xs xs' → Alike ys ys' → IsIn x xs' ⊎ IsIn x ys' → IsIn x xs ⊎ IsIn x ys
+    from a b (inl i) = inl (in_alike i (alike_back a))
+    from a b (inr i) = inr (in_alike i (alike_back b))
+
     regroup : {all xs ys : List Event} → Includes all ys → Alike xs ys → Includes all xs
     regroup i a = record { others = i.others; alike = alike_then (alike_more i.others a) i.alike }
 

@@ -11,5 +11,6 @@ pub mod Steps
 pub mod Firings
 pub mod Future
 pub mod Letters
+pub mod Exchanges
 pub mod Machine
 pub mod Listed

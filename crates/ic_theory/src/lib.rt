@@ -1,23 +1,26 @@
 // Interactions as events over a start: the nets that sets of events leave, the steps, and the machine, with laws.
 #![tactic(auto)]
 
-ghost use Rattle.std.specs.Prelude.{◌≡◌, ◌≢◌, ◌<◌, ◌⊎◌, ◌↔◌, List, [], ◌∷◌, length, Some};
+ghost use Rattle.std.specs.Prelude.{◌≡◌, ◌≢◌, ◌+◌, ◌<◌, ℕ, ◌⊎◌, ◌↔◌, List, [], ◌∷◌, length, Some};
 ghost use Rattle.ic_name.specs.Names.{Name};
 ghost use Rattle.ic_name.specs.Events.{Event};
 ghost use Rattle.ic_name.specs.declared.lines.Call.{Call};
+ghost use Rattle.ic_name.specs.declared.lines.Call.TheVariants.{Fire, Undo};
 ghost use Rattle.ic_name.specs.declared.lines.Line.{Line};
 ghost use Rattle.ic_name.specs.declared.lines.Reply.{Reply};
+ghost use Rattle.ic_name.specs.declared.lines.Reply.TheVariants.{Fired, Undone};
 ghost use Rattle.ic_name.specs.declared.ports.Port.{Port};
-ghost use Rattle.ic_path.specs.Orders.{IsIn, Alike};
+ghost use Rattle.ic_path.specs.Orders.{IsIn, Alike, Pick};
 ghost use Rattle.ic_theory.specs.Starts.{Start, IsProper};
 ghost use Rattle.ic_theory.specs.Wires.{IsLoose, IsWire};
 ghost use Rattle.ic_theory.specs.Active.{IsActive};
-ghost use Rattle.ic_theory.specs.Causes.{IsCause};
+ghost use Rattle.ic_theory.specs.Causes.{IsCause, IsRank};
 ghost use Rattle.ic_theory.specs.Sound.{IsSound};
 ghost use Rattle.ic_theory.specs.Nets.{IsSameNet, net_of};
 ghost use Rattle.ic_theory.specs.Steps.{Meets, plain_step, steps, AreDefined};
 ghost use Rattle.ic_theory.specs.Firings.{IsFired, AreAfterCauses, then_fired};
 ghost use Rattle.ic_theory.specs.Future.{Union, Includes};
+ghost use Rattle.ic_theory.specs.Exchanges.{Exchanges, IsCanonical};
 ghost use Rattle.ic_theory.specs.Letters.{Letter, Runs, AreEquivalent};
 ghost use Rattle.ic_theory.specs.Machine.{Standing, State, events, Answers, IsHistory};
 
@@ -47,13 +50,27 @@ pub fn one_future()
 {}
 
 /// A firing leaves a sound set, and each sound set can be fired in some order; any order gives one net. Of two sound
-/// sets there is a sound set with the events of both, and in it an event has the causes that it had.
+/// sets there is a sound set with the events of both and no others, and in it an event has the causes that it had.
 pub fn sound_sets()
     ensures left { (s : Start) (es : List Event) → IsProper s → IsFired s es → IsSound s es }
     ensures fired { (s : Start) (es : List Event) → IsProper s → IsSound s es → (order : List Event) × Alike es order × IsFired s order }
     ensures net { (s : Start) (es fs : List Event) → IsProper s → IsSound s es → Alike es fs → IsSameNet (net_of s es) (net_of s fs) }
-    ensures union { (s : Start) (es fs : List Event) → IsProper s → IsSound s es → IsSound s fs → (all : List Event) × IsSound s all × Includes all es × Includes all fs }
+    ensures union { (s : Start) (es fs : List Event) → IsProper s → IsSound s es → IsSound s fs → (all : List Event) × IsSound s all × Includes all es × Includes all fs × ((e : Event) → IsIn e all → IsIn e es ⊎ IsIn e fs) }
     ensures causes { (s : Start) (all es : List Event) (e c : Event) → IsProper s → IsSound s all → Includes all es → IsSound s es → IsIn e es → IsCause s all e c ↔ IsCause s es e c }
+{}
+
+/// Neighbours in a firing change places where neither is a direct cause of the other: the net is the same, its rings
+/// included. Any firing reaches the canonical order of its events by such exchanges.
+pub fn exchange()
+    ensures fired { (s : Start) (es : List Event) (e f : Event) → IsProper s → IsFired s (f ∷ e ∷ es) → (IsCause s (f ∷ e ∷ es) f e → ⊥) → IsFired s (e ∷ f ∷ es) }
+    ensures net { (s : Start) (es : List Event) (e f : Event) → IsProper s → IsFired s (f ∷ e ∷ es) → IsSameNet (net_of s (f ∷ e ∷ es)) (net_of s (e ∷ f ∷ es)) }
+    ensures canonical { (s : Start) (es : List Event) (rank : Event → ℕ) → IsProper s → IsFired s es → IsRank s es rank → (order : List Event) × Exchanges s es order × IsFired s order × IsCanonical rank order × Alike es order }
+{}
+
+/// A sound set in which no pair is active has every sound set over its start as a part, and two such sets are one.
+pub fn normal_ends()
+    ensures part { (s : Start) (es fs : List Event) → IsProper s → IsSound s es → IsSound s fs → ((e : Event) → IsActive s fs e → ⊥) → Includes fs es }
+    ensures one { (s : Start) (es fs : List Event) → IsProper s → IsSound s es → IsSound s fs → ((e : Event) → IsActive s es e → ⊥) → ((e : Event) → IsActive s fs e → ⊥) → Alike es fs }
 {}
 
 /// Two legal lists of letters over one start are equivalent exactly where their standing sets are equal.
@@ -70,4 +87,22 @@ pub fn machine()
     ensures own { (s : Start) (lines : List Line) (st : State) (x y : Standing) → IsProper s → IsHistory s lines st → IsIn x st.standing → IsIn y st.standing → x.line ≡ y.line → x ≡ y }
     ensures reply { (s : Start) (lines : List Line) (st a a' : State) (call : Call) (r r' : Reply) → IsProper s → IsHistory s lines st → Answers s st call r a → Answers s st call r' a' → r ≡ r' }
     ensures standing { (s : Start) (lines : List Line) (st a a' : State) (call : Call) (r r' : Reply) → IsProper s → IsHistory s lines st → Answers s st call r a → Answers s st call r' a' → Alike a.standing a'.standing }
+{}
+
+/// A refused call changes nothing that stands, and so not the net.
+pub fn refusals()
+    ensures { (s : Start) (st next : State) (call : Call) (reply : Reply) → Answers s st call reply next → reply ≢ Fired → reply ≢ Undone → next.standing ≡ st.standing }
+{}
+
+/// A firing can be undone at once, and this restores what was before: what stands, the net, and each event's rank.
+pub fn undone_at_once()
+    ensures accepted { (s : Start) (lines : List Line) (st mid : State) (e : Event) → IsProper s → IsHistory s lines st → Answers s st (Fire e) Fired mid → Answers s mid (Undo st.lines) Undone (record { standing = st.standing; lines = mid.lines + 1 }) }
+    ensures standing { (s : Start) (lines : List Line) (st mid next : State) (e : Event) → IsProper s → IsHistory s lines st → Answers s st (Fire e) Fired mid → Answers s mid (Undo st.lines) Undone next → Alike st.standing next.standing }
+    ensures net { (s : Start) (lines : List Line) (st mid next : State) (e : Event) → IsProper s → IsHistory s lines st → Answers s st (Fire e) Fired mid → Answers s mid (Undo st.lines) Undone next → IsSameNet (net_of s (events st)) (net_of s (events next)) }
+    ensures ranks { (s : Start) (lines : List Line) (st mid next : State) (e : Event) (rank : Event → ℕ) → IsProper s → IsHistory s lines st → Answers s st (Fire e) Fired mid → Answers s mid (Undo st.lines) Undone next → IsRank s (events st) rank → IsRank s (events next) rank }
+{}
+
+/// While anything stands, some event of it can be undone; so undoing goes on down to the start.
+pub fn something_undone()
+    ensures { (s : Start) (lines : List Line) (st : State) → IsProper s → IsHistory s lines st → (st.standing ≡ [] → ⊥) → (x : Standing) × (rest : List Standing) × Pick x st.standing rest × Answers s st (Undo x.line) Undone (record { standing = rest; lines = st.lines + 1 }) }
 {}

@@ -1,6 +1,6 @@
 use Rattle.std.proofs.Common.{◌≡◌, ◌<◌, ℕ, vec_len, slice_index_or}
 use Rattle.ic_name.specs.declared.ids.Spot.{Spot}
-use Rattle.ic_net.specs.Starts.{IsStartSpot}
+use Rattle.ic_start.specs.Starts.{IsStartSpot}
 use Rattle.ic_net.specs.FarTables.{place_of}
 use Rattle.ic_net.proofs.far.bare_ends.Given as goal
 

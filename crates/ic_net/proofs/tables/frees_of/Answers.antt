@@ -4,7 +4,7 @@ use Rattle.std.specs.Prelude.{slice_index, ◌==◌}
 use Rattle.std.specs.Ordering.{nat_cmp}
 use Rattle.std.specs.BTreeMap.{BTreeMap, IsOrdered}
 use Rattle.ic_name.specs.declared.ports.Port.{Port}
-use Rattle.ic_net.specs.Starts.{port_at}
+use Rattle.ic_start.specs.Starts.{port_at}
 use Rattle.ic_net.specs.FarTables.{name_partner}
 use Rattle.ic_net.proofs.NameCounts.{frees_put, frees_skip}
 use Rattle.ic_net.proofs.tables.frees_of.Goals as goal

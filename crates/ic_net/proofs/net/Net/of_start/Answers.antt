@@ -1,4 +1,4 @@
-use Rattle.std.proofs.Common.{◌≡◌, ℕ, ◌<◌, ◌≤◌, ◌^◌, arith, sym, ap, length, ◌∙◌}
+use Rattle.std.proofs.Common.{◌≡◌, ℕ, ◌<◌, ◌≤◌, ◌^◌, [], map, arith, sym, ap, length, ◌∙◌}
 use Rattle.std.proofs.lemmas.List.{length-map}
 use Rattle.std.specs.Prelude.{slice_index}
 use Rattle.ic_name.specs.declared.ids.Spot.TheVariants as spots
@@ -7,7 +7,9 @@ use Rattle.ic_path.specs.Links.{degree}
 use Rattle.ic_path.specs.FarEnds.{far}
 use Rattle.ic_link.specs.Links.{shape}
 use Rattle.ic_net.specs.FarTables.{HasFarEnds, agent_partner}
-use Rattle.ic_net.specs.Starts.{join_of}
+use Rattle.ic_start.specs.Starts.{join_of}
+use Rattle.ic_net.specs.Nets.{listed_agent}
+use Rattle.ic_theory.specs.Firings.{nothing}
 use Rattle.ic_net.proofs.FarTableFacts.{rings-le}
 use Rattle.ic_net.proofs.StartNets.{few_ends, start_is_net, start_net_by, length-listed}
 use Rattle.ic_net.proofs.net.Net.of_start.Goals as goal
@@ -23,7 +25,14 @@ invariant_of-result c =
     let short : length c.as_slice.result.now < 2 ^ 32 = let s = c.lawful.ensures.few_names in omega arith in
     let seldom : c.in_ok-table.table.rings < 2 ^ 63 =
     (let most = rings-le c.links-links.result.now in let r = c.in_ok-table.ensures.rings in let fits = c.links-links.type_inv in omega arith) in
-    start_is_net _ _ _ _ (agent_partner (length c.kinds.result.now) c.as_slice-ends.result.now) c.kinds.result.now _ _ _ c.in_ok-agents.ensures.listed c.in_ok-agents.ensures.ordered c.in_ok-frees.ensures.listed c.in_ok-frees.ensures.ordered few short seldom
+    let ends = c.as_slice-ends.result.now in
+    let table : HasFarEnds c.agents-count.result (length c.names.result.now) ends (far shape c.links-links.result.now) = rw c.as_slice-ends.ensures.value c.in_ok-table.ensures.ends in
+    let counted : (j : ℕ) → j < length c.names.result.now → slice_index c.as_slice.result.now j ≡ degree shape c.links-links.result.now (spots.Name j) = rw c.as_slice.ensures.value c.in_ok-times.ensures.counted in
+    let same =
+    start_net_by c.args.start.now c.links-links.result.now ends c.as_slice.result.now (record { agents = map listed_agent c.in_ok-agents.agents.entries; frees = c.in_ok-frees.frees.entries; rings = c.in_ok-table.table.rings; profile = c.profile.result }) c.kinds.result.now c.agents-count.result (length c.names.result.now) c.kinds.ensures c.agents-count.ensures names
+    c.lawful.ensures.proper c.links-links.ensures.joins c.links-links.ensures.placed table times counted c.in_ok-agents.ensures.listed c.in_ok-frees.ensures.listed c.in_ok-table.ensures.rings c.profile.ensures in
+    start_is_net _ _ _ _ (agent_partner (length c.kinds.result.now) ends) c.kinds.result.now _ _ _ c.in_ok-agents.ensures.listed c.in_ok-agents.ensures.ordered c.in_ok-frees.ensures.listed c.in_ok-frees.ensures.ordered few short seldom
+    (record { start = c.args.start.now; events = []; proper = c.lawful.ensures.proper; fired = nothing; net = same })
 
 pub returns-clause-net : goal.returns-clause-net
 returns-clause-net c =

@@ -1,0 +1,7 @@
+pub mod Journals
+pub mod Ranks
+pub mod Makers
+pub mod EventOrders
+pub mod Dependents
+pub mod Nodes
+pub mod NodeChanges

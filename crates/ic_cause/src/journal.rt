@@ -1,0 +1,36 @@
+ghost use Rattle.std.specs.Prelude.{◌≡◌, ◌++◌, map, IfOk, OnOk};
+ghost use Rattle.ic_cause.specs.Journals.{journal_line, journal_text};
+
+use ic_name::Event;
+use std::alloc::{AllocError, Global};
+
+/// An event and its rank.
+#[derive(Drop)]
+pub struct RankedEvent {
+    pub event: Event,
+    pub rank: u32,
+}
+
+/// The journal of these events: how many there are, and a line for each with its rank, in the order in which they are
+/// given.
+pub fn journal_text(alloc: Global, events: &[RankedEvent]) -> Result<Vec<u8>, AllocError>
+    ensures { IfOk result (λ text. text.items ≡ journal_text (map (λ x. record { event = x.event; rank = x.rank }) events.now)) }
+{
+    let mut text = format!(in alloc; "journal {}\n", events.len())?.into_bytes();
+    for ranked in events {
+        push_line(alloc, &mut text, ranked)?;
+    }
+    Ok(text)
+}
+
+/// Puts the line of an event at the end.
+fn push_line(alloc: Global, text: &mut Vec<u8>, ranked: &RankedEvent) -> Result<(), AllocError>
+    ensures { OnOk result (text.new.items ≡ text.old.items ++ journal_line (record { event = ranked.now.event; rank = ranked.now.rank })) }
+{
+    ranked.event.lead().write_to(text)?;
+    text.push(b' ')?;
+    ranked.event.other().write_to(text)?;
+    let rank = format!(in alloc; " rank {}\n", ranked.rank)?.into_bytes();
+    text.extend_from_slice(&rank)?;
+    Ok(())
+}

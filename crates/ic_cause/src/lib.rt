@@ -1,0 +1,17 @@
+// Causes of events: the makers of paths, ranks, the canonical order, the text of a journal, and standing events with
+// their dependents.
+#![tactic(auto)]
+
+pub mod dependents;
+pub mod journal;
+pub mod makers;
+mod nodes;
+pub mod order;
+
+pub use dependents::Dependents;
+pub use journal::{RankedEvent, journal_text};
+pub use makers::direct_causes;
+pub use order::{canonical_cmp, rank_of};
+
+#[cfg(test)]
+mod tests;

@@ -1,0 +1,45 @@
+ghost use Rattle.std.specs.Prelude.{◌≡◌, List, IfOk};
+ghost use Rattle.ic_path.specs.Links.{degree};
+ghost use Rattle.ic_name.specs.declared.ids.LinkId.{LinkId as ALinkId};
+ghost use Rattle.ic_name.specs.declared.ids.Spot.TheVariants as spots;
+ghost use Rattle.ic_link.specs.Links.{shape, Joins};
+ghost use Rattle.ic_cause.specs.Makers.{AreMakers};
+
+use ic_link::LinkStore;
+use ic_name::{AgentId, EventId, LinkId, MakerId, Spot};
+use std::alloc::{AllocError, Global};
+use std::collections::BTreeSet;
+
+/// The direct causes of an event of two agents whose principal ports a path of the store joins: the events that made
+/// links of the path, each once (Danos and Krivine 2004).
+pub fn direct_causes<L: LinkStore>(
+    alloc: Global,
+    store: &L,
+    a: AgentId,
+    b: AgentId,
+) -> Result<Vec<EventId>, AllocError>
+    requires loose { degree shape (L.links store.now) (spots.Agent a 0) ≡ 1 }
+    requires joined { (ids : List ALinkId) × Joins (L.links store.now) (spots.Agent a 0) ids (spots.Agent b 0) }
+    ensures { IfOk result (λ causes. (ids : List ALinkId) × Joins (L.links store.now) (spots.Agent a 0) ids (spots.Agent b 0) × AreMakers ids causes.items) }
+{
+    store.lawful();
+    let ids = store.path(Spot::Agent(a, 0))?;
+    makers_of(alloc, ids.as_slice())
+}
+
+/// The events that made the links of these ids, each once.
+fn makers_of(alloc: Global, ids: &[LinkId]) -> Result<Vec<EventId>, AllocError>
+    ensures { IfOk result (λ makers. AreMakers ids.now makers.items) }
+{
+    let mut makers = BTreeSet::new(alloc);
+    for id in ids {
+        if let MakerId::Event(event) = id.maker {
+            let _ = makers.insert(event)?;
+        }
+    }
+    let mut events = Vec::with_capacity(alloc, makers.len())?;
+    for event in &makers {
+        events.push(*event)?;
+    }
+    Ok(events)
+}

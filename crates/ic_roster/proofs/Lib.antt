@@ -1,0 +1,4 @@
+pub mod Slots
+pub mod Indexed
+pub mod Inverses
+pub mod StandingFacts

@@ -1,0 +1,5 @@
+pub mod Rosters
+pub mod Slots
+pub mod AgentSlots
+pub mod Inverses
+pub mod StandingSlots

@@ -1,0 +1,13 @@
+// Who is there: agents and standing events, under their ids and by their names.
+#![tactic(auto)]
+
+pub mod agents;
+pub mod standing;
+
+pub use agents::{AgentEntry, Agents};
+pub use standing::{Standing, StandingEntry};
+
+#[cfg(test)]
+mod agents_tests;
+#[cfg(test)]
+mod standing_tests;

@@ -1,0 +1,78 @@
+use super::*;
+use ic_name::{AgentId, AgentName, Event, EventId, EventName, Kind};
+use std::test::Fail;
+
+fn start(rt: &HostRuntime, number: u16) -> Result<AgentName, Fail> {
+    Ok(AgentName::start(rt.alloc(), number).ok_or("a start number")?)
+}
+
+/// The event of two start agents.
+fn event(rt: &HostRuntime, a: u16, b: u16) -> Result<Event, Fail> {
+    Ok(Event::of(start(rt, a)?, Kind::Gamma, start(rt, b)?, Kind::Eps).ok_or("two names")?)
+}
+
+/// The name of the event of two start agents.
+fn name(rt: &HostRuntime, a: u16, b: u16) -> Result<EventName, Fail> {
+    Ok(EventName::of(start(rt, a)?, start(rt, b)?).ok_or("two names")?)
+}
+
+/// Enters an event of a name and a line that do not stand.
+fn stand(
+    standing: &mut Standing,
+    event: Event,
+    name: &EventName,
+    line: u32,
+    born: &[AgentId],
+) -> Result<EventId, Fail> {
+    if !name.lead().is(event.lead()) || !name.other().is(event.other()) {
+        return Err("the event's name".into());
+    }
+    match (standing.find(name), standing.at_line(line)) {
+        (None, None) => Ok(standing.insert(event, line, 7, born)?),
+        _ => Err("a new event".into()),
+    }
+}
+
+#[test]
+fn events_are_found(rt: HostRuntime) -> Result<(), Fail> {
+    let mut standing = Standing::new(rt.alloc());
+    let id = stand(&mut standing, event(&rt, 9, 3)?, &name(&rt, 3, 9)?, 4, &[])?;
+    standing.lawful();
+    assert_eq!(rt; standing.len(), 1);
+    assert!(rt; standing.at_line(4) == Some(id));
+    assert!(rt; standing.at_line(5).is_none());
+    assert!(rt; standing.find(&name(&rt, 9, 3)?) == Some(id));
+    assert!(rt; standing.find(&name(&rt, 3, 2)?).is_none());
+    Ok(())
+}
+
+#[test]
+fn an_event_is_read(rt: HostRuntime) -> Result<(), Fail> {
+    let mut standing = Standing::new(rt.alloc());
+    let born = [AgentId { slot: 2, serial: 5 }];
+    let id = stand(
+        &mut standing,
+        event(&rt, 9, 3)?,
+        &name(&rt, 3, 9)?,
+        4,
+        &born,
+    )?;
+    let entry = standing.get(id).ok_or("an event")?;
+    assert_eq!(rt; entry.event.lead().start_number(), 3);
+    assert_eq!(rt; entry.rank, 7);
+    assert!(rt; entry.born == born.as_slice());
+    Ok(())
+}
+
+#[test]
+fn an_event_id_holds_no_more_once_its_slot_is_filled_again(rt: HostRuntime) -> Result<(), Fail> {
+    let mut standing = Standing::new(rt.alloc());
+    let old = stand(&mut standing, event(&rt, 1, 2)?, &name(&rt, 1, 2)?, 0, &[])?;
+    standing.remove(old);
+    assert_eq!(rt; standing.len(), 0);
+    let new = stand(&mut standing, event(&rt, 1, 2)?, &name(&rt, 1, 2)?, 2, &[])?;
+    assert_eq!(rt; new.slot, old.slot);
+    assert!(rt; standing.get(old).is_none());
+    assert!(rt; standing.get(new).is_some());
+    Ok(())
+}

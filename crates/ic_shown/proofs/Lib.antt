@@ -1,0 +1,10 @@
+pub mod OnePort
+pub mod SameEnds
+pub mod ByPorts
+pub mod FarSpots
+pub mod Elements
+pub mod Extended
+pub mod MoreLinks
+pub mod SameEvents
+pub mod OtherLinks
+pub mod PathMakers
