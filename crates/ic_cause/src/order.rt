@@ -1,6 +1,7 @@
 ghost use Rattle.std.specs.Prelude.{◌≡◌, ℕ, ◌≤◌, All};
 ghost use Rattle.ic_name.specs.Events.{Event as AnEvent};
 ghost use Rattle.ic_theory.specs.Causes.{canonical_cmp as canonical_order};
+ghost use Rattle.ic_cause.specs.Places.{place_cmp};
 ghost use Rattle.ic_cause.specs.Ranks.{IsRankAbove};
 
 use ic_name::Event;
@@ -24,7 +25,8 @@ pub fn rank_of(ranks: &[u32]) -> u32
 
 /// The canonical order of two events of these ranks: by rank, then lead, then other. It takes no memory.
 pub fn canonical_cmp(a: &Event, a_rank: u32, b: &Event, b_rank: u32) -> Ordering
-    ensures { (rank : AnEvent → ℕ) → rank a.now ≡ a_rank → rank b.now ≡ b_rank → result ≡ canonical_order rank a.now b.now }
+    ensures canonical { (rank : AnEvent → ℕ) → rank a.now ≡ a_rank → rank b.now ≡ b_rank → result ≡ canonical_order rank a.now b.now }
+    ensures places { result ≡ place_cmp (a_rank, a.now) (b_rank, b.now) }
 {
     a_rank
         .cmp(&b_rank)

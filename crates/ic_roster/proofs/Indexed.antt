@@ -31,7 +31,7 @@ one_record : (slots : List (Option AgentRecord)) (j k : ℕ) (a b : AgentRecord)
 one_record slots j k a b h g e = let s = ap (slot_at slots) e in cc
 
 -- an agent is in the slot of its id
-record_of : (slots : List (Option AgentRecord)) (x : Member) → IsIn x (members_in slots) → (a : AgentRecord) × (slot_at slots x.id.slot ≡ Some a) × (x ≡ member_at (x.id.slot, a))
+pub record_of : (slots : List (Option AgentRecord)) (x : Member) → IsIn x (members_in slots) → (a : AgentRecord) × (slot_at slots x.id.slot ≡ Some a) × (x ≡ member_at (x.id.slot, a))
 record_of slots x i =
     let s = slot_from_shown member_at slots x i in
     let k : s.key ≡ x.id.slot = sym (ap (λ m. m.id.slot) s.shows) in

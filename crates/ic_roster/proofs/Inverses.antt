@@ -1,7 +1,7 @@
 -- A table of keys into which one key is entered, or from which one is taken.
 use Rattle.std.proofs.Common.{◌≡◌, ◌≢◌, ◌⊎◌, ℕ, Bool, true, false, cond, Option, Some, None, inl, inr, refl, sym, ap, ◌∙◌}
 use Rattle.std.proofs.lemmas.Bool.{cases_eq}
-use Rattle.ic_roster.specs.Inverses.{IsInverse, IsOneToOne}
+use Rattle.ic_roster.specs.Inverses.{IsInverse}
 
 -- the test holds of the key, and of no other
 pub record IsTestOf {K : Type 0} (test : K → Bool) (c : K) : Type 0 where
@@ -63,31 +63,12 @@ inverse_taken {K} find found at at' test c k both is_test was vacant others take
     from (inl s) e = let v : None ≡ Some q = sym vacant ∙ ap at' (sym s) ∙ e in absurd cc
     from (inr d) e = kept (test q) refl d ((both q j).1 (sym (others j d) ∙ e))
 
--- a table tells its slots apart
-pub inverse_one : {K : Type 0} (find : K → Option ℕ) (at : ℕ → Option K) → IsInverse find at → IsOneToOne at
+-- no two slots have one key
+pub inverse_one : {K : Type 0} (find : K → Option ℕ) (at : ℕ → Option K) → IsInverse find at → (j k : ℕ) (c : K) → at j ≡ Some c → at k ≡ Some c → j ≡ k
 inverse_one find at both j k c first second =
     let e : Some j ≡ Some k = sym ((both c j).1 first) ∙ (both c k).1 second in
     cc
 
--- a key that no slot has is given to one
-pub one_entered : {K : Type 0} (at at' : ℕ → Option K) (c : K) (k : ℕ) → IsOneToOne at → ((j : ℕ) → at j ≢ Some c) → at' k ≡ Some c
-    → ((j : ℕ) → j ≢ k → at' j ≡ at j) → IsOneToOne at'
-one_entered {K} at at' c k one new filled others i j d first second = by (cases_eq i k) (cases_eq j k)
-  where
-    by : (i ≡ k) ⊎ (i ≢ k) → (j ≡ k) ⊎ (j ≢ k) → i ≡ j
-    by (inl e) (inl f) = e ∙ sym f
-    by (inl e) (inr f) = absurd (new j (sym (others j f) ∙ second ∙ sym first ∙ ap at' e ∙ filled))
-    by (inr e) (inl f) = absurd (new i (sym (others i e) ∙ first ∙ sym second ∙ ap at' f ∙ filled))
-    by (inr e) (inr f) = one i j d (sym (others i e) ∙ first) (sym (others j f) ∙ second)
-
--- a slot is emptied
-pub one_taken : {K : Type 0} (at at' : ℕ → Option K) (k : ℕ) → IsOneToOne at → at' k ≡ None → ((j : ℕ) → j ≢ k → at' j ≡ at j) → IsOneToOne at'
-one_taken {K} at at' k one vacant others i j d first second = by (cases_eq i k) (cases_eq j k)
-  where
-    none : (m : ℕ) → m ≡ k → at' m ≡ Some d → ⊥
-    none m e h = let v : None ≡ Some d = sym vacant ∙ ap at' (sym e) ∙ h in cc
-
-    by : (i ≡ k) ⊎ (i ≢ k) → (j ≡ k) ⊎ (j ≢ k) → i ≡ j
-    by (inl e) f = absurd (none i e first)
-    by (inr e) (inl f) = absurd (none j f second)
-    by (inr e) (inr f) = one i j d (sym (others i e) ∙ first) (sym (others j f) ∙ second)
+-- a table that finds the same is read both ways, too
+pub inverse_same : {K : Type 0} (find found : K → Option ℕ) (at : ℕ → Option K) → IsInverse find at → ((q : K) → found q ≡ find q) → IsInverse found at
+inverse_same find found at both same q j = (λ e. (both q j).0 (sym (same q) ∙ e), λ e. same q ∙ (both q j).1 e)

@@ -101,7 +101,7 @@ pub record ShowsAt {T X : Type 0} (f : ℕ × T → X) (xs : List (Option T)) (y
   pub shows : y ≡ f (key, value)
 
 -- what is picked from the images of a map is the image of what can be picked
-picked_image : {X Y : Type 0} (f : X → Y) (xs : List X) {y : Y} {rest : List Y} → Pick y (map f xs) rest → (x : X) × (left : List X) × Pick x xs left × (y ≡ f x) × (rest ≡ map f left)
+pub picked_image : {X Y : Type 0} (f : X → Y) (xs : List X) {y : Y} {rest : List Y} → Pick y (map f xs) rest → (x : X) × (left : List X) × Pick x xs left × (y ≡ f x) × (rest ≡ map f left)
 picked_image f [] k = elim k [ ]
 picked_image f (x ∷ xs) here = (x, xs, here, refl, refl)
 picked_image f (x ∷ xs) (there k) = let p = picked_image f xs k in (p.0, x ∷ p.1, there p.2, p.3, ap (λ s. f x ∷ s) p.4)

@@ -4,7 +4,3 @@ use Rattle.std.specs.Prelude.{◌≡◌, ℕ, ◌↔◌, Option, Some}
 -- the slot that is found under a key is the one that has the key
 abbrev pub IsInverse : {K : Type 0} → (K → Option ℕ) → (ℕ → Option K) → Type 0
 IsInverse {K} find key_at = (q : K) (k : ℕ) → (find q ≡ Some k) ↔ (key_at k ≡ Some q)
-
--- no two slots have one key
-abbrev pub IsOneToOne : {K : Type 0} → (ℕ → Option K) → Type 0
-IsOneToOne {K} key_at = (j k : ℕ) (c : K) → key_at j ≡ Some c → key_at k ≡ Some c → j ≡ k

@@ -1,7 +1,7 @@
 ghost use Rattle.std.specs.Prelude.{◌≡◌, ◌≢◌, ◌∷◌, [], None, length, IfSome, IfNone, IfOk, OnErr};
 ghost use Rattle.ic_path.specs.Orders.{Alike, IsIn};
 ghost use Rattle.ic_name.specs.declared.kinds.Kind.{Kind as AKind};
-ghost use Rattle.ic_roster.specs.Rosters.{Member, HaveOwnNames, IsNewName};
+ghost use Rattle.ic_roster.specs.Rosters.{Member, HaveOwnNames, IsNewName, AreByName};
 ghost use Rattle.ic_roster.specs.AgentSlots.{Sets};
 
 use ic_name::{AgentId, AgentName, Kind};
@@ -90,6 +90,17 @@ impl Agents {
         ensures absent { IfNone result (IsNewName self.now name.now) }
     {
         self.ids.get(name).copied()
+    }
+
+    /// The ids of all agents, in order of their names.
+    pub fn in_order(&self, alloc: Global) -> Result<Vec<AgentId>, AllocError>
+        ensures { IfOk result (λ ids. AreByName self.now ids.items) }
+    {
+        let mut ids = Vec::new(alloc);
+        for (_, id) in self.ids.iter() {
+            ids.push(*id)?;
+        }
+        Ok(ids)
     }
 
     /// One agent more, under an id with this serial number. At an error nothing changes.

@@ -48,3 +48,15 @@ fn an_id_holds_no_more_once_its_slot_is_filled_again(rt: HostRuntime) -> Result<
     assert_eq!(rt; agents.get(new).ok_or("an agent")?.name.start_number(), 2);
     Ok(())
 }
+
+#[test]
+fn agents_are_listed_by_name(rt: HostRuntime) -> Result<(), Fail> {
+    let mut agents = Agents::new(rt.alloc());
+    assert!(rt; agents.in_order(rt.alloc())?.is_empty());
+    let seven = enter(&mut agents, start(&rt, 7)?, Kind::Gamma, 0)?;
+    let child = enter(&mut agents, start(&rt, 3)?.child(1)?, Kind::Delta, 2)?;
+    let three = enter(&mut agents, start(&rt, 3)?, Kind::Eps, 5)?;
+    let ids = agents.in_order(rt.alloc())?;
+    assert!(rt; ids.as_slice() == [three, seven, child].as_slice());
+    Ok(())
+}

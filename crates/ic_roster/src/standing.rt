@@ -1,11 +1,9 @@
-ghost use Rattle.std.specs.Prelude.{◌≡◌, ◌≢◌, ◌↔◌, ◌∷◌, ℕ, [], length, Some, IsTrue, IfSome, IfNone, IfOk, OnErr};
-ghost use Rattle.slab.specs.Slab.{get as slot_of};
+ghost use Rattle.std.specs.Prelude.{◌≡◌, ◌≢◌, ◌∷◌, [], length, map, IfSome, IfNone, IfOk, OnErr};
 ghost use Rattle.ic_path.specs.Orders.{Alike, IsIn};
 ghost use Rattle.ic_name.specs.Events.{pair};
-ghost use Rattle.ic_roster.specs.declared.standing.StandingRecord.{StandingRecord as Kept};
 ghost use Rattle.ic_roster.specs.Rosters.{Stander, HaveOwnLines, IsNewEvent};
 
-use ic_name::{AgentId, Event, EventId, EventName};
+use ic_name::{AgentId, AgentName, Event, EventId, EventName};
 use slab::Slab;
 use std::alloc::{AllocError, Global};
 use std::collections::BTreeMap;
@@ -16,6 +14,7 @@ use std::marker::Model;
 pub struct Standing {
     records: Slab<StandingRecord>,
     lines: BTreeMap<u32, u32>,
+    leads: BTreeMap<AgentName, u32>,
     alloc: Global,
 }
 
@@ -46,7 +45,7 @@ impl Model for Standing {
 
     ghost view = { λ s. standers_in s.records.slots };
 
-    ghost invariant = { λ s. IsTabled s.records.slots s.lines.entries };
+    ghost invariant = { λ s. IsTabled s.records.slots s.lines.entries s.leads.entries };
 }
 
 impl Standing {
@@ -57,6 +56,7 @@ impl Standing {
         Standing {
             records: Slab::new(alloc),
             lines: BTreeMap::new(alloc),
+            leads: BTreeMap::new(alloc),
             alloc,
         }
     }
@@ -100,15 +100,47 @@ impl Standing {
         })
     }
 
-    /// The id of the event of this name, if it stands. It takes no memory, and looks at each event.
+    /// The ids of all events, in no promised order.
+    pub fn ids(&self, alloc: Global) -> Result<Vec<EventId>, AllocError>
+        ensures { IfOk result (λ ids. Alike (map (λ x. x.id) self.now) ids.items) }
+    {
+        let mut ids = Vec::new(alloc);
+        for (line, slot) in self.lines.iter() {
+            ids.push(EventId {
+                slot: *slot,
+                line: *line,
+            })?;
+        }
+        Ok(ids)
+    }
+
+    /// The id of the event with this lead, if one stands. It takes no memory.
+    pub fn led_by(&self, lead: &AgentName) -> Option<EventId>
+        ensures found { IfSome result (λ id. (x : Stander) × IsIn x self.now × (x.id ≡ id) × (x.event.lead ≡ lead.now)) }
+        ensures absent { IfNone result ((x : Stander) → IsIn x self.now → x.event.lead ≢ lead.now) }
+    {
+        let slot = *self.leads.get(lead)?;
+        let record = self.records.get(slot as usize)?;
+        Some(EventId {
+            slot,
+            line: record.line,
+        })
+    }
+
+    /// The id of the event of this name, if it stands. It takes no memory.
     pub fn find(&self, name: &EventName) -> Option<EventId>
         ensures found { IfSome result (λ id. (x : Stander) × IsIn x self.now × (x.id ≡ id) × (pair x.event ≡ name.now)) }
         ensures absent { IfNone result ((x : Stander) → IsIn x self.now → pair x.event ≢ name.now) }
     {
-        match line_of(&self.records, name) {
-            Some(line) => self.at_line(line),
-            None => None,
+        let slot = *self.leads.get(name.lead())?;
+        let record = self.records.get(slot as usize)?;
+        if !record.event.other().is(name.other()) {
+            return None;
         }
+        Some(EventId {
+            slot,
+            line: record.line,
+        })
     }
 
     /// One event more, fired in this line. At an error nothing changes.
@@ -124,11 +156,16 @@ impl Standing {
         ensures unchanged { OnErr result (self.new ≡ self.old) }
     {
         let born = Vec::from_slice(self.alloc, born)?;
+        let lead = event.lead().copy()?;
         self.records.reserve(1)?;
         let Ok(slot) = u32::try_from(self.records.vacant_key()) else {
             return Err(AllocError);
         };
+        let Ok(_) = self.leads.insert(lead, slot) else {
+            return Err(AllocError);
+        };
         let Ok(_) = self.lines.insert(line, slot) else {
+            self.leads.remove(event.lead());
             return Err(AllocError);
         };
         self.records.insert_reserved(StandingRecord {
@@ -148,27 +185,8 @@ impl Standing {
         if self.get(id).is_none() {
             return;
         }
-        let _ = self.records.try_remove(id.slot as usize);
+        let record = self.records.remove(id.slot as usize);
         self.lines.remove(&id.line);
+        self.leads.remove(record.event.lead());
     }
-}
-
-/// The line of the event of this name.
-fn line_of(records: &Slab<StandingRecord>, name: &EventName) -> Option<u32>
-    ensures found { IfSome result (λ line. (k : ℕ) × (r : Kept) × (slot_of records.now k ≡ Some r) × (pair r.event ≡ name.now) × (r.line ≡ line)) }
-    ensures absent { IfNone result ((k : ℕ) (r : Kept) → slot_of records.now k ≡ Some r → pair r.event ≢ name.now) }
-{
-    for (_, record) in records.iter() {
-        if is_named(record, name) {
-            return Some(record.line);
-        }
-    }
-    None
-}
-
-/// Whether the record is of the event of this name.
-fn is_named(kept: &StandingRecord, name: &EventName) -> bool
-    ensures { IsTrue result ↔ (pair kept.now.event ≡ name.now) }
-{
-    kept.event.lead().is(name.lead()) && kept.event.other().is(name.other())
 }

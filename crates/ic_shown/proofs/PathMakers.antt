@@ -36,7 +36,7 @@ abbrev pub Maker : Naming → List LinkId → Event → Type 0
 Maker n ids c = (d : EventId) × (id : LinkId) × IsIn id ids × (id.maker ≡ maker.Event d) × (n.has_event d ≡ true) × (n.event d ≡ c)
 
 -- no path leads from a principal port back to it
-no_round : (s : Start) (es : List Event) → IsProper s → IsSound s es → (m : Name) → Path (links s es) (Of m 0) (Of m 0) → ⊥
+pub no_round : (s : Start) (es : List Event) → IsProper s → IsSound s es → (m : Name) → Path (links s es) (Of m 0) (Of m 0) → ⊥
 no_round s es ok sound m p =
     let one = principal s ok es sound.apart m in
     let all = degree-trail net_shape p.trail (Of m 0) in

@@ -6,7 +6,7 @@ use Rattle.ic_roster.proofs.standing.Standing.at_line.Goals as goal
 pub returns-in_err-slot-clause-absent : goal.returns-in_err-slot-clause-absent
 returns-in_err-slot-clause-absent c =
     let h : slot_under c.self.inside.lines.entries c.args.line ≡ None = sym c.in_err-slot.ensures.value in
-    let a = line_absent c.self.inside.records.slots c.self.inside.lines.entries c.self.invariant c.args.line h in
+    let a = line_absent c.self.inside.records.slots c.self.inside.lines.entries c.self.inside.leads.entries c.self.invariant c.args.line h in
     rw (← c.self.view_is) (if_none c.from_residual.result _ a)
 
 pub returns-clause-found : goal.returns-clause-found

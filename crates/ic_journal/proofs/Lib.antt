@@ -1,0 +1,4 @@
+pub mod SameSets
+pub mod MachineSteps
+pub mod Answering
+pub mod ThereAndBack

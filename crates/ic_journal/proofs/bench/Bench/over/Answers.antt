@@ -1,0 +1,13 @@
+use Rattle.std.proofs.Common.{◌≡◌}
+use Rattle.ic_journal.specs.Views.{view_of}
+use Rattle.ic_journal.proofs.Answering.{opened}
+use Rattle.ic_journal.proofs.bench.Bench.over.Goals as goal
+
+pub invariant_of-result : goal.invariant_of-result
+invariant_of-result g c = opened c.args.start (view_of c.in_ok-set.set c.new.result) (record {
+  start = c.in_ok-set.ensures.start;
+  events = c.in_ok-set.ensures.events;
+  lines = c.new.ensures.lines;
+  room = c.new.ensures.room;
+  serials = c.in_ok-set.ensures.serials;
+})

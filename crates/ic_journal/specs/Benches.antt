@@ -1,0 +1,39 @@
+-- What holds of every bench.
+use Rattle.std.specs.Prelude.{◌≡◌, ◌+◌, ◌≤◌, [], length, map}
+use Rattle.ic_name.specs.declared.limits.TheConstants.{MAX_LINES}
+use Rattle.ic_path.specs.Orders.{IsIn, Alike}
+use Rattle.ic_theory.specs.Starts.{Start}
+use Rattle.ic_theory.specs.Machine.{Standing, State, IsHistory}
+use Rattle.ic_roster.specs.Rosters.{Member, Stander}
+use Rattle.ic_set.specs.Sets.{IsStandingSet}
+use Rattle.ic_journal.specs.Views.{BenchView, set_of}
+
+-- an event with the line of its firing
+abbrev pub fired_in : Stander → Standing
+fired_in x = record { event = x.event; line = x.id.line }
+
+-- the history is legal, and what the bench has standing is what stands after it
+pub record IsAt (v : BenchView) (st : State) : Type 0 where
+  pub history : IsHistory v.start v.lines st
+  pub standing : Alike (map fired_in v.events) st.standing
+
+-- what a bench keeps: a legal history with what stands after it, not too long with its room, and agents whose serial
+-- numbers are those of lines that have been
+pub record IsRunning (v : BenchView) : Type 0 where
+  pub state : State
+  pub at : IsAt v state
+  pub short : length v.lines + v.room ≤ MAX_LINES
+  pub serials : (m : Member) → IsIn m v.agents → m.id.serial ≤ length v.lines
+
+-- what holds of every bench
+pub record IsBench (v : BenchView) : Type 0 where
+  pub running : IsRunning v
+  pub set : IsStandingSet (set_of v)
+
+-- a bench over the start, on which no call has been made
+pub record Opens (s : Start) (v : BenchView) : Type 0 where
+  pub start : v.start ≡ s
+  pub events : v.events ≡ []
+  pub lines : v.lines ≡ []
+  pub room : v.room ≡ 0
+  pub serials : (m : Member) → IsIn m v.agents → m.id.serial ≡ 0

@@ -1,0 +1,151 @@
+ghost use Rattle.std.specs.Prelude.{◌≡◌, IfOk};
+ghost use Rattle.ic_journal.specs.Benches.{IsBench, Opens};
+ghost use Rattle.ic_journal.specs.Calls.{Fires, Undoes, Reserves};
+
+use crate::faults::{FireFault, ReserveFault, UndoFault};
+use crate::history::History;
+use crate::proposal::Proposal;
+use crate::verdict::judge;
+use ic_link::LinkStore;
+use ic_name::limits::MAX_LINES;
+use ic_name::{Call, EventId, Reply};
+use ic_set::StandingSet;
+use ic_start::Start;
+use std::alloc::{AllocError, Global};
+use std::marker::Model;
+
+/// A bench over a start: what stands, and the history of the calls, over a store of links.
+#[derive(Drop)]
+pub struct Bench<L: LinkStore> {
+    pub(crate) set: StandingSet<L>,
+    pub(crate) history: History,
+    pub(crate) alloc: Global,
+}
+
+impl<L: LinkStore> Model for Bench<L> {
+    ghost use Rattle.ic_journal.specs.Views.{BenchView, view_of};
+    ghost use Rattle.ic_journal.specs.Benches.{IsRunning};
+
+    ghost Value = { BenchView };
+
+    ghost view = { λ b. view_of b.set b.history };
+
+    ghost invariant = { λ b. IsRunning (view_of b.set b.history) };
+}
+
+impl<L: LinkStore> Bench<L> {
+    /// A bench over the start: nothing stands yet, and there is no line and no room for one. An error where memory is
+    /// wanting, and then the start is gone.
+    pub fn over(alloc: Global, start: Start) -> Result<Bench<L>, AllocError>
+        ensures { IfOk result (λ bench. Opens start bench) }
+    {
+        let set = StandingSet::over(alloc, start)?;
+        Ok(Bench {
+            set,
+            history: History::new(alloc),
+            alloc,
+        })
+    }
+
+    /// What holds of every bench, for whoever has to show it: its history is legal, and what it shows is what stands
+    /// after it.
+    pub fn lawful(&self)
+        ensures { IsBench self.now }
+    {
+        self.set.lawful();
+    }
+
+    /// The start.
+    pub fn start(&self) -> &Start
+        ensures { result.now ≡ self.now.start }
+    {
+        self.set.start()
+    }
+
+    /// The history lines that are reserved and unused. It takes no memory.
+    pub fn room(&self) -> usize
+        ensures { result ≡ self.now.room }
+    {
+        self.history.room()
+    }
+
+    /// Reserves room for so many lines. It is `HistoryFull` exactly where the history would be too long with them.
+    pub fn reserve(&mut self, lines: usize) -> Result<(), ReserveFault>
+        ensures { Reserves self.old lines result self.new }
+    {
+        if lines > MAX_LINES - self.history.len() {
+            return Err(ReserveFault::HistoryFull);
+        }
+        let Ok(()) = self.history.reserve(lines) else {
+            return Err(ReserveFault::Memory);
+        };
+        Ok(())
+    }
+
+    /// Fires an event: one step of the machine, which adds a line, and for an answer of `Ok` the event stands from then on
+    /// under this id.
+    ///
+    /// `HistoryFull` before anything else, where the history has `MAX_LINES` lines; then `NotActive`, `Deep` and `Full`,
+    /// each exactly where the machine says so. `Memory` may stand in place of each but the first. `HistoryFull` and
+    /// `Memory` add no line and hand the proposal back. A refused call changes nothing that stands.
+    pub fn fire(&mut self, proposal: Proposal) -> Result<EventId, FireFault>
+        ensures { Fires self.old proposal result self.new }
+    {
+        let line = self.history.len();
+        if line == MAX_LINES {
+            return Err(FireFault::HistoryFull(proposal));
+        }
+        let Ok(()) = self.history.reserve(1) else {
+            return Err(FireFault::Memory(proposal));
+        };
+        let pair = match judge(&self.set, proposal.event()) {
+            Ok(pair) => pair,
+            Err(refusal) => {
+                let call = Call::Fire(proposal.into_event());
+                self.history.note(call, refusal.reply());
+                return Err(refusal.fault());
+            }
+        };
+        self.set.lawful();
+        let Ok(id) = self.set.admit(proposal.event(), pair, line as u32) else {
+            return Err(FireFault::Memory(proposal));
+        };
+        let call = Call::Fire(proposal.into_event());
+        self.history.note(call, Reply::Fired);
+        Ok(id)
+    }
+
+    /// Undoes the firing of the event whose firing is the line of the id: one step of the machine, which adds a line. The
+    /// slot of the id doesn't matter.
+    ///
+    /// `HistoryFull` before anything else, where the history has `MAX_LINES` lines; then `NotStanding` and `Held`, with the
+    /// least direct dependent in canonical order, each exactly where the machine says so. `Memory` comes only where
+    /// `room()` is 0, and may then stand in place of each but the first; with room, the call takes no memory. A refused
+    /// call changes nothing that stands.
+    pub fn undo(&mut self, id: EventId) -> Result<(), UndoFault>
+        ensures { Undoes self.old id result self.new }
+    {
+        if self.history.len() == MAX_LINES {
+            return Err(UndoFault::HistoryFull);
+        }
+        let Ok(()) = self.history.reserve(1) else {
+            return Err(UndoFault::Memory);
+        };
+        let call = Call::Undo(id.line);
+        let Some(standing) = self.set.events().at_line(id.line) else {
+            self.history.note(call, Reply::NotStanding);
+            return Err(UndoFault::NotStanding);
+        };
+        match self.set.least_dependent(standing) {
+            Some(holder) => {
+                self.history.note(call, Reply::Held(holder.line));
+                Err(UndoFault::Held(holder))
+            }
+            None => {
+                self.set.take_out(standing);
+                self.history.note(call, Reply::Undone);
+                Ok(())
+            }
+        }
+    }
+}

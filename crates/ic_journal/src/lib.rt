@@ -1,0 +1,17 @@
+// The bench: a standing set with its history; each call is one step of a machine, and can be taken back in any causally
+// allowed order (Danos and Krivine 2004).
+#![tactic(auto)]
+
+pub mod bench;
+pub mod faults;
+mod history;
+pub mod laws;
+pub mod proposal;
+pub mod reading;
+mod verdict;
+
+pub use bench::Bench;
+pub use faults::{FireFault, ProposeFault, ReserveFault, UndoFault};
+pub use ic_link::{LinkRows as Store, LinkStore};
+pub use ic_set::ActivePair;
+pub use proposal::Proposal;

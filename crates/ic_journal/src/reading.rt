@@ -1,0 +1,219 @@
+ghost use Rattle.std.specs.Prelude.{◌≡◌, ◌≢◌, ◌≤◌, All, List, [], length, option_map, IfSome, IfNone, IfOk};
+ghost use Rattle.ic_name.specs.Events.{Event as AnEvent, event_of, pair};
+ghost use Rattle.ic_name.specs.declared.kinds.Kind.{Kind as AKind};
+ghost use Rattle.ic_path.specs.Orders.{Alike, IsIn};
+ghost use Rattle.ic_theory.specs.Firings.{AreAfterCauses, then_fired};
+ghost use Rattle.ic_theory.specs.Listed.{shown};
+ghost use Rattle.ic_theory.specs.Nets.{IsSameNet, net_of};
+ghost use Rattle.ic_theory.specs.Steps.{AreDefined, steps};
+ghost use Rattle.ic_roster.specs.Rosters.{Stander, IsNewName};
+ghost use Rattle.ic_set.specs.Views.{standing};
+ghost use Rattle.ic_set.specs.Orders.{AreInOrder, AreRanked, IsAny};
+ghost use Rattle.ic_set.specs.Pairs.{IsPairOf, AreActivePairs};
+ghost use Rattle.ic_journal.specs.Views.{set_of};
+ghost use Rattle.ic_journal.specs.Proposals.{Proposes};
+ghost use Rattle.ic_journal.specs.Reads.{IsKindOf, IsNameOf, IsEventUnder, IsRankOf, AreCausesOf, AreDependentsOf};
+
+use crate::bench::Bench;
+use crate::faults::ProposeFault;
+use crate::proposal::Proposal;
+use ic_cause::RankedEvent;
+use ic_link::LinkStore;
+use ic_name::{AgentId, AgentName, Event, EventId, EventName, Kind, Line};
+use ic_net::Net;
+use ic_set::{ActivePair, StandingSet};
+use std::alloc::{AllocError, Global};
+
+impl<L: LinkStore> Bench<L> {
+    /// The id of the agent of this name; `None` where there is no such agent. It takes no memory.
+    pub fn agent(&self, name: &AgentName) -> Option<AgentId>
+        ensures found { IfSome result (λ id. (kind : AKind) × IsIn (record { id = id; name = name.now; kind = kind }) self.now.agents) }
+        ensures absent { IfNone result (IsNewName self.now.agents name.now) }
+    {
+        self.set.agents().find(name)
+    }
+
+    /// The id of the standing event of this name; `None` where no such event stands. It takes no memory.
+    pub fn event(&self, name: &EventName) -> Option<EventId>
+        ensures found { IfSome result (λ id. (x : Stander) × IsIn x self.now.events × (x.id ≡ id) × (pair x.event ≡ name.now)) }
+        ensures absent { IfNone result ((x : Stander) → IsIn x self.now.events → pair x.event ≢ name.now) }
+    {
+        self.set.events().find(name)
+    }
+
+    /// The kind of an agent; `None` for an id that holds no more. It takes no memory.
+    pub fn kind_of(&self, id: AgentId) -> Option<Kind>
+        ensures { IsKindOf self.now id result }
+    {
+        match self.set.agents().get(id) {
+            Some(agent) => Some(agent.kind),
+            None => None,
+        }
+    }
+
+    /// The name of an agent; `None` for an id that holds no more.
+    pub fn name_of(&self, id: AgentId) -> Result<Option<AgentName>, AllocError>
+        ensures { IfOk result (λ name. IsNameOf self.now id name) }
+    {
+        match self.set.agents().get(id) {
+            Some(agent) => Ok(Some(agent.name.copy()?)),
+            None => Ok(None),
+        }
+    }
+
+    /// A standing event; `None` for an id that holds no more.
+    pub fn event_of(&self, id: EventId) -> Result<Option<Event>, AllocError>
+        ensures { IfOk result (λ event. IsEventUnder self.now id event) }
+    {
+        let Some(standing) = self.set.events().at_line(id.line) else {
+            return Ok(None);
+        };
+        match self.set.events().get(standing) {
+            Some(entry) => Ok(Some(entry.event.copy()?)),
+            None => Ok(None),
+        }
+    }
+
+    /// The rank of a standing event: one more than the greatest rank of a direct cause, and 0 without causes; `None` for
+    /// an id that holds no more. It takes no memory.
+    pub fn rank(&self, id: EventId) -> Option<u32>
+        ensures { IsRankOf self.now id result }
+    {
+        self.set.lawful();
+        let Some(standing) = self.set.events().at_line(id.line) else {
+            return None;
+        };
+        let Some(entry) = self.set.events().get(standing) else {
+            return None;
+        };
+        Some(entry.rank)
+    }
+
+    /// A proposal that the agents under two ids meet. It is `NotActive` where an id holds no more or both are one. It
+    /// changes nothing and adds no line.
+    pub fn propose(&self, a: AgentId, b: AgentId) -> Result<Proposal, ProposeFault>
+        ensures { Proposes self.now a b result }
+    {
+        self.set.lawful();
+        if a == b {
+            return Err(ProposeFault::NotActive);
+        }
+        let Some(left) = self.set.agents().get(a) else {
+            return Err(ProposeFault::NotActive);
+        };
+        let Some(right) = self.set.agents().get(b) else {
+            return Err(ProposeFault::NotActive);
+        };
+        match meeting(left.name, left.kind, right.name, right.kind) {
+            Ok(Some(proposal)) => Ok(proposal),
+            Ok(None) => Err(ProposeFault::NotActive),
+            Err(_) => Err(ProposeFault::Memory),
+        }
+    }
+
+    /// The direct causes of a standing event, in canonical order; `None` for an id that holds no more.
+    pub fn causes(&self, id: EventId) -> Result<Option<Vec<EventId>>, AllocError>
+        ensures { IfOk result (λ causes. AreCausesOf self.now id (option_map (λ ids. ids.items) causes)) }
+    {
+        match self.set.events().at_line(id.line) {
+            Some(standing) => Ok(Some(self.set.causes(standing)?)),
+            None => Ok(None),
+        }
+    }
+
+    /// The direct dependents of a standing event, in canonical order; `None` for an id that holds no more.
+    pub fn dependents(&self, id: EventId) -> Result<Option<Vec<EventId>>, AllocError>
+        ensures { IfOk result (λ dependents. AreDependentsOf self.now id (option_map (λ ids. ids.items) dependents)) }
+    {
+        match self.set.events().at_line(id.line) {
+            Some(standing) => Ok(Some(self.set.dependents(standing)?)),
+            None => Ok(None),
+        }
+    }
+
+    /// The standing events, in canonical order.
+    pub fn standing(&self) -> Result<Vec<EventId>, AllocError>
+        ensures { IfOk result (λ ids. AreInOrder (set_of self.now) IsAny ids.items) }
+    {
+        self.set.standing()
+    }
+
+    /// The standing events with their ranks, in canonical order.
+    pub fn ranked(&self) -> Result<Vec<RankedEvent>, AllocError>
+        ensures { IfOk result (λ events. AreRanked (set_of self.now) events.items) }
+    {
+        self.set.ranked()
+    }
+
+    /// The active pairs, by lead.
+    pub fn active(&self) -> Result<Vec<ActivePair>, AllocError>
+        ensures { IfOk result (λ pairs. AreActivePairs (set_of self.now) pairs.items) }
+    {
+        self.set.active()
+    }
+
+    /// At most four active pairs in which children of this event are, as hints of what to fire next: it may have made
+    /// others active, too.
+    pub fn born_pairs(&self, id: EventId) -> Result<Vec<ActivePair>, AllocError>
+        ensures active { IfOk result (λ pairs. All (λ pair. (e : AnEvent) × IsPairOf (set_of self.now) e pair) pairs.items) }
+        ensures few { IfOk result (λ pairs. length pairs.items ≤ 4) }
+    {
+        self.set.lawful();
+        let Some(standing) = self.set.events().at_line(id.line) else {
+            return Ok(Vec::new(self.alloc));
+        };
+        match self.set.events().get(standing) {
+            Some(entry) => pairs_of(self.alloc, &self.set, entry.born),
+            None => Ok(Vec::new(self.alloc)),
+        }
+    }
+
+    /// The net of what stands: the one in which the steps of its events end, in each causal order of them (Lafont 1997).
+    pub fn net(&self) -> Result<Net, AllocError>
+        ensures left { IfOk result (λ net. IsSameNet (shown net) (net_of self.now.start (standing (set_of self.now)))) }
+        ensures defined { IfOk result (λ _. (order : List AnEvent) → Alike (standing (set_of self.now)) (then_fired [] order) → AreAfterCauses self.now.start (then_fired [] order) (then_fired [] order) → AreDefined (net_of self.now.start []) order) }
+        ensures every_order { IfOk result (λ net. (order : List AnEvent) → Alike (standing (set_of self.now)) (then_fired [] order) → AreAfterCauses self.now.start (then_fired [] order) (then_fired [] order) → IsSameNet (shown net) (steps (net_of self.now.start []) order)) }
+    {
+        self.set.net()
+    }
+
+    /// The history: each call with its reply, numbered from 0 on.
+    pub fn history(&self) -> Result<Vec<Line>, AllocError>
+        ensures { IfOk result (λ lines. lines.items ≡ self.now.lines) }
+    {
+        self.history.copy(self.alloc)
+    }
+}
+
+/// A proposal that two agents meet; `None` where both have one name.
+fn meeting(
+    a: &AgentName,
+    a_kind: Kind,
+    b: &AgentName,
+    b_kind: Kind,
+) -> Result<Option<Proposal>, AllocError>
+    ensures made { IfOk result (λ made. IfSome made (λ event. event ≡ event_of a.now a_kind b.now b_kind)) }
+    ensures none { IfOk result (λ made. IfNone made (a.now ≢ b.now → ⊥)) }
+{
+    let first = a.copy()?;
+    let second = b.copy()?;
+    Ok(Proposal::make(first, a_kind, second, b_kind))
+}
+
+/// The active pairs that these agents are of.
+fn pairs_of<L: LinkStore>(
+    alloc: Global,
+    set: &StandingSet<L>,
+    agents: &[AgentId],
+) -> Result<Vec<ActivePair>, AllocError>
+    ensures active { IfOk result (λ pairs. All (λ pair. (e : AnEvent) × IsPairOf set.now e pair) pairs.items) }
+    ensures few { IfOk result (λ pairs. length pairs.items ≤ length agents.now) }
+{
+    let mut pairs = Vec::new(alloc);
+    for agent in agents {
+        if let Some(pair) = set.pair_with(*agent) {
+            pairs.push(pair)?;
+        }
+    }
+    Ok(pairs)
+}

@@ -1,0 +1,108 @@
+-- The steps of an admission, by what its calls say.
+use Rattle.std.proofs.Common.{◌≡◌, ℕ, ◌+◌, ◌<◌, ◌≤◌, List, refl, sym, arith, ◌∙◌, subst}
+use Rattle.ic_name.specs.Names.{Name}
+use Rattle.ic_name.specs.Events.{Event}
+use Rattle.ic_name.specs.declared.kinds.Kind.{Kind}
+use Rattle.ic_name.specs.declared.ids.AgentId.{AgentId}
+use Rattle.ic_name.specs.declared.ids.EventId.{EventId}
+use Rattle.ic_name.specs.declared.ids.Link.{Link}
+use Rattle.ic_name.specs.declared.rules.Profile.{Profile}
+use Rattle.ic_name.specs.declared.rules.RuleEnd.{RuleEnd}
+use Rattle.ic_name.specs.declared.limits.TheConstants.{MAX_LINES}
+use Rattle.ic_path.specs.Orders.{IsIn, Alike}
+use Rattle.ic_path.proofs.Alikes.{alike_self, alike_back}
+use Rattle.ic_link.specs.Links.{IsLawful}
+use Rattle.ic_theory.specs.Born.{born_agents}
+use Rattle.ic_theory.specs.Rules.{born_ends}
+use Rattle.ic_cause.specs.Dependents.{Causes}
+use Rattle.ic_roster.specs.Rosters.{Member, Stander, HaveOwnNames, HaveOwnLines}
+use Rattle.ic_set.specs.declared.pairs.ActivePair.{ActivePair}
+use Rattle.ic_set.specs.Views.{SetView, standing, AreChildren}
+use Rattle.ic_set.specs.Sets.{IsKept}
+use Rattle.ic_set.specs.Pairs.{IsPairOf}
+use Rattle.ic_set.specs.Changes.{Admits, IsSame}
+use Rattle.ic_set.specs.Entering.{CanEnter, Enters}
+use Rattle.ic_set.specs.Joining.{made_links}
+use Rattle.ic_set.specs.Admission.{AreCausesOf, IsRankOver, CanPutIn, PutsIn}
+use Rattle.ic_set.proofs.Namings.{own_lines_alike}
+use Rattle.ic_set.proofs.KeptOrders.{kept_alike}
+use Rattle.ic_set.proofs.NewEvents.{sound_more, new_event, no_causes, no_links, causes_kept, causes_once}
+use Rattle.ic_set.proofs.Children.{new_children}
+use Rattle.ic_set.proofs.Admitted.{digits, lawful_more, kept_more}
+
+-- a set is the same as it was seen, in whatever order
+pub same_again : {v w : SetView} {ms : List Member} {ss : List Stander} → v ≡ w → Alike v.agents ms → Alike v.events ss → IsSame w (record { start = v.start; agents = ms; events = ss })
+same_again {v} {w} {ms} {ss} seen agents events = subst (λ u. IsSame u (record { start = v.start; agents = ms; events = ss })) seen (record { start = refl; agents = agents; events = events })
+
+-- a set that was seen is the same
+pub same_self : (w : SetView) → IsSame w w
+same_self w = record { start = refl; agents = alike_self w.agents; events = alike_self w.events }
+
+-- the ends of the links of an event's rule, by the answers to what its kinds and the profile are
+pub ends_same : {ends : List (RuleEnd × RuleEnd)} {t t' : Profile} {a a' b b' : Kind} → ends ≡ born_ends t a b → t ≡ t' → a ≡ a' → b ≡ b' → ends ≡ born_ends t' a' b'
+ends_same q r x y = q ∙ (λ u. born_ends (r u) (x u) (y u))
+
+module _ (v w : SetView) (seen : v ≡ w) (ls : List Link) (kept : Causes) (k : IsKept v ls kept) (e : Event) (p : ActivePair) (active : IsPairOf w e p)
+    (line : ℕ) (before : (x : Stander) → IsIn x w.events → x.id.line < line) where
+  -- the pair is active in what was seen
+  pair : IsPairOf v e p
+  pair = subst (λ (u : SetView). IsPairOf u e p) (sym seen) active
+
+  -- whose lines are lesser
+  later : (x : Stander) → IsIn x v.events → x.id.line < line
+  later = subst (λ (u : SetView). (x : Stander) → IsIn x u.events → x.id.line < line) (sym seen) before
+
+  -- ranks are at most lines, of which there are few
+  pub ranks_fit : line < MAX_LINES → (x : Stander) → IsIn x w.events → x.rank ≤ MAX_LINES
+  ranks_fit few x i = let low = k.set.low_ranks x (subst (λ (u : SetView). IsIn x u.events) (sym seen) i) in let less = before x i in omega arith
+
+  module _ (entering : List (Name × Kind)) (its : entering ≡ born_agents e) where
+    -- the children can be entered
+    pub can_enter : CanEnter v.agents entering
+    can_enter = rw its (new_children v.start (standing v) e v.agents (sound_more v ls kept k e pair.active) k.set.agents)
+
+    module _ (born : List AgentId) (ms : List Member) (enters : Enters v.agents entering (line + 1) born ms) (own : HaveOwnNames ms)
+        (rank : ℕ) (ids : List EventId) (causes : AreCausesOf w e ids) where
+      -- they are then the event's
+      are : AreChildren e born enters.entered
+      are = record { under = enters.under; named = enters.named ∙ its }
+
+      -- the causes are those in what was seen
+      its_causes : AreCausesOf v e ids
+      its_causes = subst (λ (u : SetView). AreCausesOf u e ids) (sym seen) causes
+
+      -- the event can be put in
+      pub can_put_in : IsLawful ls → CanPutIn e line rank p born (born_ends v.start.profile e.lead_kind e.other_kind) ids v.events ls kept
+      can_put_in h = record {
+        new = new_event v ls kept k e pair.active line later;
+        digits = digits v ls kept k e p pair line later enters.entered born are ms enters.alike own;
+        no_links = λ d l q i. no_links v ls kept k e pair.active line later d q l i;
+        lawful = λ d q lines. lawful_more v ls kept k e p pair line later enters.entered born are ms enters.alike own d q rank lines h;
+        no_causes = λ d q. no_causes v ls kept k e pair.active line later d q;
+        causes = causes_kept v ls kept k e pair.active ids its_causes;
+        once = causes_once v ls kept k e pair.active ids its_causes;
+      }
+
+      module _ (over : IsRankOver w.events ids rank) (d : EventId) (in_line : d.line ≡ line) (ss : List Stander) (ls' : List Link) (kept' : Causes) (lines : HaveOwnLines ss)
+          (puts : PutsIn (record { id = d; event = e; rank = rank; born = born }) (made_links d p born 0 (born_ends v.start.profile e.lead_kind e.other_kind)) ids v.events ss ls ls' kept kept') where
+        -- with it the set is a standing set
+        pub put_keeps : IsKept (record { start = v.start; agents = ms; events = ss }) ls' kept'
+        put_keeps =
+            kept_alike v.start (alike_self ms) puts.events puts.links puts.causes
+            (kept_more v ls kept k e p pair line later enters.entered born are ms enters.alike own d in_line rank (own_lines_alike (alike_back puts.events) lines) ids its_causes
+            (subst (λ (u : SetView). IsRankOver u.events ids rank) (sym seen) over))
+
+        -- which admits it
+        pub put_admits : Admits w e line d (record { start = v.start; agents = ms; events = ss })
+        put_admits = subst (λ (u : SetView). Admits u e line d (record { start = v.start; agents = ms; events = ss })) seen (record {
+          entry = record { id = d; event = e; rank = rank; born = born };
+          children = enters.entered;
+          under = refl;
+          in_line = in_line;
+          event = refl;
+          born = are;
+          serials = enters.serials;
+          start = refl;
+          agents = enters.alike;
+          events = puts.events;
+        })

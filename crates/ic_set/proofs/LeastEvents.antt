@@ -1,0 +1,70 @@
+-- The least of standing events in canonical order, as more of them are seen.
+use Rattle.std.proofs.Common.{◌≡◌, ℕ, Bool, true, false, List, [], ◌∷◌, ◌++◌, take, drop, ◌⊎◌, inl, inr, refl, sym, ap, subst, ◌∙◌}
+use Rattle.std.specs.declared.cmp.Ordering.{Ordering}
+use Rattle.std.specs.declared.cmp.Ordering.TheVariants.{Less, Equal, Greater}
+use Rattle.std.specs.Ordering.{ordering_reverse, is_lt}
+use Rattle.ic_name.specs.Events.{Event}
+use Rattle.ic_name.specs.declared.ids.EventId.{EventId}
+use Rattle.ic_path.specs.Orders.{IsIn}
+use Rattle.ic_path.proofs.Picks.{pick_before}
+use Rattle.std.proofs.lemmas.List.{take-append-drop}
+use Rattle.ic_theory.specs.Causes.{canonical_cmp}
+use Rattle.ic_theory.proofs.Replies.{canonical_total}
+use Rattle.ic_cause.proofs.ListEnds.{in-end_cases, in_end, in_before}
+use Rattle.ic_roster.specs.Rosters.{Stander, HaveOwnLines}
+use Rattle.ic_set.specs.Removal.{AreNoted, TellsOrder, IsLeastOf}
+use Rattle.ic_set.proofs.Namings.{same_stander}
+
+-- what compares two entries by their noted ranks compares the events under their ids
+pub compared : (ss : List Stander) → HaveOwnLines ss → (x y a b : Stander) (rank : Event → ℕ) (o : Ordering) → IsIn x ss → IsIn y ss → IsIn a ss → IsIn b ss → x.id ≡ a.id → y.id ≡ b.id → AreNoted ss rank
+    → ((r : Event → ℕ) → r a.event ≡ a.rank → r b.event ≡ b.rank → o ≡ canonical_cmp r a.event b.event) → o ≡ canonical_cmp rank x.event y.event
+compared ss own x y a b rank o i j k l e f noted h =
+    let first : a ≡ x = sym (same_stander ss x a own i k (inl e)) in
+    let second : b ≡ y = sym (same_stander ss y b own j l (inl f)) in
+    h rank (sym (noted a k)) (sym (noted b l)) ∙ ap (λ (z : Stander). canonical_cmp rank z.event b.event) first ∙ ap (λ (z : Stander). canonical_cmp rank x.event z.event) second
+
+-- no event is greater than itself
+not_itself : (rank : Event → ℕ) (e : Event) → canonical_cmp rank e e ≡ Greater → ⊥
+not_itself rank e h = let r : canonical_cmp rank e e ≡ Less = (canonical_total rank).antisymm e e ∙ ap ordering_reverse h in cc
+
+-- the first one is the least so far
+pub least_first : (ss : List Stander) → HaveOwnLines ss → (ds : List EventId) (d : EventId) → ((e : EventId) → IsIn e ds → ⊥) → IsLeastOf ss (ds ++ d ∷ []) d
+least_first ss own ds d none = record { among = in_end d ds; none_before = λ x y rank i j e k noted h. by x y rank i j e noted h (in-end_cases k) }
+  where
+    by : (x y : Stander) (rank : Event → ℕ) → IsIn x ss → IsIn y ss → x.id ≡ d → AreNoted ss rank → canonical_cmp rank x.event y.event ≡ Greater → (y.id ≡ d) ⊎ IsIn y.id ds → ⊥
+    by x y rank i j e noted h (inl f) = not_itself rank x.event (subst (λ (z : Stander). canonical_cmp rank x.event z.event ≡ Greater) (same_stander ss y x own j i (inl (f ∙ sym e))) h)
+    by x y rank i j e noted h (inr k) = none y.id k
+
+-- the test for what comes before decides it
+lesser : (o : Ordering) → is_lt o ≡ true → o ≡ Less
+lesser Less h = refl
+lesser Equal h = cc
+lesser Greater h = cc
+
+-- one that comes before the least so far is the least then
+pub least_moves : (ss : List Stander) → HaveOwnLines ss → (ds : List EventId) (least d : EventId) → (z : Stander) → IsIn z ss → z.id ≡ least → (before : Bool) → before ≡ true → TellsOrder ss d least before
+    → IsLeastOf ss ds least → IsLeastOf ss (ds ++ d ∷ []) d
+least_moves ss own ds least d z m g before true_is tells h = record { among = in_end d ds; none_before = λ x y rank i j e k noted q. by x y rank i j e noted q (in-end_cases k) }
+  where
+    by : (x y : Stander) (rank : Event → ℕ) → IsIn x ss → IsIn y ss → x.id ≡ d → AreNoted ss rank → canonical_cmp rank x.event y.event ≡ Greater → (y.id ≡ d) ⊎ IsIn y.id ds → ⊥
+    by x y rank i j e noted q (inl f) = not_itself rank x.event (subst (λ (w : Stander). canonical_cmp rank x.event w.event ≡ Greater) (same_stander ss y x own j i (inl (f ∙ sym e))) q)
+    by x y rank i j e noted q (inr k) =
+        let total = canonical_total rank in
+        let low : canonical_cmp rank y.event x.event ≡ Less = total.antisymm y.event x.event ∙ ap ordering_reverse q in
+        let less = total.trans y.event x.event z.event low (lesser _ (sym (tells x z rank i m e g noted) ∙ true_is)) in
+        h.none_before z y rank m j g k noted (total.antisymm z.event y.event ∙ ap ordering_reverse less)
+
+-- else the least stays
+pub least_stays : (ss : List Stander) (ds : List EventId) (least d : EventId) (before : Bool) → before ≡ false → TellsOrder ss d least before → IsLeastOf ss ds least → IsLeastOf ss (ds ++ d ∷ []) least
+least_stays ss ds least d before false_is tells h = record { among = in_before d h.among; none_before = λ x y rank i j e k noted q. by x y rank i j e noted q (in-end_cases k) }
+  where
+    by : (x y : Stander) (rank : Event → ℕ) → IsIn x ss → IsIn y ss → x.id ≡ least → AreNoted ss rank → canonical_cmp rank x.event y.event ≡ Greater → (y.id ≡ d) ⊎ IsIn y.id ds → ⊥
+    by x y rank i j e noted q (inl f) =
+        let less : canonical_cmp rank y.event x.event ≡ Less = (canonical_total rank).antisymm y.event x.event ∙ ap ordering_reverse q in
+        let both : false ≡ true = sym false_is ∙ tells y x rank j i f e noted ∙ ap is_lt less in
+        cc
+    by x y rank i j e noted q (inr k) = h.none_before x y rank i j e k noted q
+
+-- what is among the first is in the list
+pub in_taken : {X : Type 0} {x : X} (i : ℕ) (xs : List X) → IsIn x (take i xs) → IsIn x xs
+in_taken {X} {x} i xs j = subst (λ ys. IsIn x ys) (take-append-drop i xs) (_, pick_before (drop i xs) j.1)

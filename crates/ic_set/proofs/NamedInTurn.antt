@@ -1,0 +1,26 @@
+-- Agents named by place, as one more is named.
+use Rattle.std.proofs.Common.{◌≡◌, ℕ, ◌+◌, ◌<◌, List, [], ◌∷◌, ◌++◌, take, length, arith, ap, ◌∙◌}
+use Rattle.std.specs.Prelude.{slice_index_or}
+use Rattle.std.proofs.lemmas.List.{map-append, take_more, length-take-le}
+use Rattle.ic_name.specs.Names.{Name}
+use Rattle.ic_name.specs.declared.kinds.Kind.{Kind}
+use Rattle.ic_theory.specs.Born.{named}
+use Rattle.ic_set.specs.declared.entering.NewAgent.{NewAgent}
+use Rattle.ic_set.specs.Entering.{agents_in}
+
+-- the last of them has the name of its place
+named_behind : (name : ℕ → Name) (k : ℕ) (xs : List Kind) (x : Kind) → named name k (xs ++ x ∷ []) ≡ named name k xs ++ (name (k + length xs), x) ∷ []
+named_behind name k [] x = ap (λ n. (name n, x) ∷ []) (omega arith)
+named_behind name k (y ∷ xs) x = ap (λ zs. (name k, y) ∷ zs) (named_behind name (k + 1) xs x ∙ ap (λ n. named name (k + 1) xs ++ (name n, x) ∷ []) (omega arith))
+
+-- so with one more kind taken there is one more agent
+pub named_more : (name : ℕ → Name) (xs : List Kind) (i : ℕ) (d : Kind) → i < length xs → named name 0 (take (i + 1) xs) ≡ named name 0 (take i xs) ++ (name i, slice_index_or xs i d) ∷ []
+named_more name xs i d h =
+    let long = length-take-le i xs (omega arith) in
+    let place : 0 + length (take i xs) ≡ i = omega arith in
+    ap (named name 0) (take_more xs i d h) ∙ named_behind name 0 (take i xs) (slice_index_or xs i d)
+    ∙ ap (λ n. named name 0 (take i xs) ++ (name n, slice_index_or xs i d) ∷ []) place
+
+-- and of a list with one agent more
+pub agents_behind : (xs ys : List NewAgent) (x : NewAgent) → ys ≡ xs ++ x ∷ [] → agents_in ys ≡ agents_in xs ++ (x.name, x.kind) ∷ []
+agents_behind xs ys x e = ap agents_in e ∙ map-append (λ (y : NewAgent). (y.name, y.kind)) xs (x ∷ [])

@@ -1,0 +1,48 @@
+-- What an event that is admitted brings.
+use Rattle.std.specs.Prelude.{◌≡◌, ℕ, ◌+◌, ◌≤◌, false, List, ◌∷◌, ◌++◌, ◌⊎◌, Some, None, IsSome, All}
+use Rattle.ic_name.specs.Events.{Event}
+use Rattle.ic_name.specs.Spots.{made_by}
+use Rattle.ic_name.specs.declared.ids.AgentId.{AgentId}
+use Rattle.ic_name.specs.declared.ids.EventId.{EventId}
+use Rattle.ic_name.specs.declared.ids.Link.{Link}
+use Rattle.ic_name.specs.declared.rules.RuleEnd.{RuleEnd}
+use Rattle.ic_path.specs.Orders.{IsIn, Alike}
+use Rattle.ic_path.specs.Rings.{HasEachOnce}
+use Rattle.ic_link.specs.Links.{IsLawful}
+use Rattle.ic_theory.specs.Causes.{IsCause}
+use Rattle.ic_cause.specs.Dependents.{Causes, with_event}
+use Rattle.ic_roster.specs.Rosters.{Stander, HaveOwnLines, IsNewEvent}
+use Rattle.ic_set.specs.declared.pairs.ActivePair.{ActivePair}
+use Rattle.ic_set.specs.Views.{SetView, standing}
+use Rattle.ic_set.specs.Joining.{made_links, HaveDigits}
+
+-- the ids are those of the standing events on the path between the event's agents, each once
+abbrev pub AreCausesOf : SetView → Event → List EventId → Type 0
+AreCausesOf v e ids = HasEachOnce (λ d. (y : Stander) × IsIn y v.events × (y.id ≡ d) × IsCause v.start (standing v) e y.event) ids
+
+-- one more than the greatest rank of the events under the ids, and 0 where there are none
+pub record IsRankOver (ss : List Stander) (ids : List EventId) (rank : ℕ) : Type 0 where
+  pub above : (x : Stander) → IsIn x ss → IsIn x.id ids → x.rank + 1 ≤ rank
+  pub least : (rank ≡ 0) ⊎ ((x : Stander) × IsIn x ss × IsIn x.id ids × (rank ≡ x.rank + 1))
+
+-- an event can be put in under each id with this line: it is new, its links can be put in, and its causes are kept
+pub record CanPutIn (e : Event) (line rank : ℕ) (p : ActivePair) (born : List AgentId) (ends : List (RuleEnd × RuleEnd)) (its_causes : List EventId) (ss : List Stander) (ls : List Link) (kept : Causes) : Type 0 where
+  pub new : IsNewEvent ss line e
+  pub digits : HaveDigits born ends
+  pub no_links : (d : EventId) (l : Link) → d.line ≡ line → IsIn l ls → made_by d l ≡ false
+  pub lawful : (d : EventId) → d.line ≡ line → HaveOwnLines (record { id = d; event = e; rank = rank; born = born } ∷ ss) → IsLawful (made_links d p born 0 ends ++ ls)
+  pub no_causes : (d : EventId) → d.line ≡ line → kept d ≡ None
+  pub causes : All (λ d. IsSome (kept d)) its_causes
+  pub once : HasEachOnce (λ d. IsIn d its_causes) its_causes
+
+-- the event is there, too, with these links and these direct causes
+pub record PutsIn (x : Stander) (made : List Link) (its_causes : List EventId) (ss ss' : List Stander) (ls ls' : List Link) (kept kept' : Causes) : Type 0 where
+  pub events : Alike (x ∷ ss) ss'
+  pub links : Alike (made ++ ls) ls'
+  pub causes : (d : EventId) → kept' d ≡ with_event x.id (Some its_causes) kept d
+
+-- the events, the links and the causes are the same
+pub record LeavesAll (ss ss' : List Stander) (ls ls' : List Link) (kept kept' : Causes) : Type 0 where
+  pub events : Alike ss ss'
+  pub links : Alike ls ls'
+  pub causes : (d : EventId) → kept' d ≡ kept d

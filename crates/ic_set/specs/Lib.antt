@@ -1,0 +1,12 @@
+pub mod Views
+pub mod Ids
+pub mod Causes
+pub mod Sets
+pub mod Changes
+pub mod Pairs
+pub mod Orders
+pub mod Removal
+pub mod Entering
+pub mod Joining
+pub mod Admission
+pub mod Placed

@@ -1,0 +1,37 @@
+-- Active pairs by ids.
+use Rattle.std.specs.Prelude.{◌≡◌, List, map}
+use Rattle.std.specs.List.Sorted.{IsStrictlySortedBy}
+use Rattle.ic_name.specs.Names.{name_cmp}
+use Rattle.ic_name.specs.Events.{Event}
+use Rattle.ic_name.specs.declared.ids.AgentId.{AgentId}
+use Rattle.ic_name.specs.declared.ports.Port.TheVariants.{Of}
+use Rattle.ic_path.specs.Orders.{IsIn}
+use Rattle.ic_path.specs.Rings.{HasEachOnce}
+use Rattle.ic_theory.specs.Active.{IsActive}
+use Rattle.ic_theory.specs.Wires.{IsWire}
+use Rattle.ic_roster.specs.Rosters.{Member}
+use Rattle.ic_set.specs.declared.pairs.ActivePair.{ActivePair}
+use Rattle.ic_set.specs.Views.{SetView, standing}
+
+-- a wire joins the principal ports of the agents under these ids
+pub record AreJoined (v : SetView) (a b : AgentId) : Type 0 where
+  pub left : Member
+  pub right : Member
+  pub left_there : IsIn left v.agents
+  pub right_there : IsIn right v.agents
+  pub left_id : left.id ≡ a
+  pub right_id : right.id ≡ b
+  pub wire : IsWire v.start (standing v) (Of left.name 0) (Of right.name 0)
+
+-- the ids are those of the agents of this event, which is active
+pub record IsPairOf (v : SetView) (e : Event) (p : ActivePair) : Type 0 where
+  pub active : IsActive v.start (standing v) e
+  pub lead : IsIn (record { id = p.lead; name = e.lead; kind = e.lead_kind }) v.agents
+  pub other : IsIn (record { id = p.other; name = e.other; kind = e.other_kind }) v.agents
+
+-- the pairs are those of all active events, each once, by lead
+pub record AreActivePairs (v : SetView) (pairs : List ActivePair) : Type 0 where
+  pub order : List (Event × ActivePair)
+  pub each : HasEachOnce (λ (x : Event × ActivePair). IsPairOf v x.0 x.1) order
+  pub by_lead : IsStrictlySortedBy name_cmp (map (λ (x : Event × ActivePair). x.0.lead) order)
+  pub named : map (λ (x : Event × ActivePair). x.1) order ≡ pairs

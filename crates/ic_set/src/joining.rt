@@ -1,0 +1,97 @@
+ghost use Rattle.std.specs.Prelude.{◌≡◌, ◌++◌, List, map, IfOk, OnOk, OnErr};
+ghost use Rattle.ic_name.specs.declared.ids.Link.{Link as ALink};
+ghost use Rattle.ic_path.specs.Orders.{Alike};
+ghost use Rattle.ic_path.specs.Links.{IsSlim};
+ghost use Rattle.ic_link.specs.Links.{shape, HaveOwnIds};
+ghost use Rattle.ic_set.specs.Joining.{moved_spot as spot_moved, moved_link, made_links, spot_of as spot_at, HasDigit, HaveDigits, HasNumber, HaveNumbers};
+
+use crate::pairs::ActivePair;
+use ic_link::LinkStore;
+use ic_name::{AgentId, EventId, Link, LinkId, MakerId, RuleEnd, Spot};
+use std::alloc::{AllocError, Global};
+
+/// The links of a start, between the agents under these ids, by number.
+pub(crate) fn links_of_start(
+    alloc: Global,
+    ids: &[AgentId],
+    links: &[Link],
+) -> Result<Vec<Link>, AllocError>
+    requires { HaveNumbers ids.now links.now }
+    ensures { IfOk result (λ moved. moved.items ≡ map (moved_link ids.now) links.now) }
+{
+    let mut moved = Vec::with_capacity(alloc, links.len())?;
+    for link in links {
+        moved.push(Link {
+            id: link.id,
+            a: moved_spot(ids, link.a),
+            b: moved_spot(ids, link.b),
+        })?;
+    }
+    Ok(moved)
+}
+
+/// The links that an event makes, between its two agents and its children, by place.
+pub(crate) fn links_of_event(
+    alloc: Global,
+    ends: &[(RuleEnd, RuleEnd)],
+    event: EventId,
+    pair: ActivePair,
+    born: &[AgentId],
+) -> Result<Vec<Link>, AllocError>
+    requires { HaveDigits born.now ends.now }
+    ensures { IfOk result (λ links. links.items ≡ made_links event pair born.now 0 ends.now) }
+{
+    let mut links = Vec::with_capacity(alloc, ends.len())?;
+    for place in 0..ends.len() {
+        let (a, b) = ends[place];
+        let Ok(place) = u32::try_from(place) else {
+            return Err(AllocError);
+        };
+        let id = LinkId {
+            maker: MakerId::Event(event),
+            place,
+        };
+        links.push(Link {
+            id,
+            a: spot_of(pair, born, a),
+            b: spot_of(pair, born, b),
+        })?;
+    }
+    Ok(links)
+}
+
+/// Puts in these links. At an error some of them may have been put in, from the first one on.
+pub(crate) fn add_all<L: LinkStore>(store: &mut L, links: &[Link]) -> Result<(), AllocError>
+    requires slim { IsSlim shape (links.now ++ L.links store.old) }
+    requires own_ids { HaveOwnIds (links.now ++ L.links store.old) }
+    ensures added { OnOk result (Alike (links.now ++ L.links store.old) (L.links store.new)) }
+    ensures some { OnErr result ((front back : List ALink) × (links.now ≡ front ++ back) × Alike (front ++ L.links store.old) (L.links store.new)) }
+{
+    for link in links {
+        store.add(*link)?;
+    }
+    Ok(())
+}
+
+/// A spot of a start, with the agent under the id that has its number.
+fn moved_spot(ids: &[AgentId], spot: Spot) -> Spot
+    requires { HasNumber ids.now spot }
+    ensures { result ≡ spot_moved ids.now spot }
+{
+    match spot {
+        Spot::Agent(agent, port) => Spot::Agent(ids[agent.slot as usize], port),
+        Spot::Name(name) => Spot::Name(name),
+    }
+}
+
+/// The spot that an end of a rule is.
+fn spot_of(pair: ActivePair, born: &[AgentId], end: RuleEnd) -> Spot
+    requires { HasDigit born.now end }
+    ensures { result ≡ spot_at pair born.now end }
+{
+    match end {
+        RuleEnd::Child(digit, port) => Spot::Agent(born[digit as usize], port),
+        RuleEnd::Lead(port) => Spot::Agent(pair.lead, port),
+        RuleEnd::Other(port) => Spot::Agent(pair.other, port),
+    }
+}

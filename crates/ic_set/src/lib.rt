@@ -1,0 +1,14 @@
+// The standing set of a bench: its events with the agents, the links and the causes that they leave, under ids.
+#![tactic(auto)]
+
+pub mod admission;
+mod entering;
+mod joining;
+pub mod nets;
+pub mod orders;
+pub mod pairs;
+pub mod removal;
+pub mod set;
+
+pub use pairs::ActivePair;
+pub use set::StandingSet;

@@ -1,0 +1,96 @@
+ghost use Rattle.std.specs.Prelude.{◌≡◌, All, List, map, IfOk};
+ghost use Rattle.ic_name.specs.declared.ids.EventId.{EventId as AnEventId};
+ghost use Rattle.ic_path.specs.Orders.{Pick, IsIn};
+ghost use Rattle.ic_set.specs.Orders.{AreInOrder, IsAny, IsCauseOf, DependsOn};
+ghost use Rattle.ic_set.specs.Placed.{IsPlaced, ArePlaced};
+ghost use Rattle.ic_set.specs.Removal.{Stands};
+
+use crate::set::StandingSet;
+use ic_cause::canonical_cmp;
+use ic_link::LinkStore;
+use ic_name::{Event, EventId};
+use std::alloc::{AllocError, Global};
+
+/// A standing event that is put in order.
+#[derive(Clone, Copy)]
+pub(crate) struct Placed<'a> {
+    pub id: EventId,
+    pub event: &'a Event,
+    pub rank: u32,
+}
+
+impl<L: LinkStore> StandingSet<L> {
+    /// All standing events, in canonical order.
+    pub fn standing(&self) -> Result<Vec<EventId>, AllocError>
+        ensures { IfOk result (λ ids. AreInOrder self.now IsAny ids.items) }
+    {
+        ids_of(self.alloc, &self.all_placed()?)
+    }
+
+    /// The direct causes of a standing event, in canonical order.
+    pub fn causes(&self, id: EventId) -> Result<Vec<EventId>, AllocError>
+        requires { Stands self.now id }
+        ensures { IfOk result (λ ids. AreInOrder self.now (IsCauseOf self.now id) ids.items) }
+    {
+        match self.dependents.causes(id) {
+            Some(ids) => ids_of(self.alloc, &self.in_order(ids)?),
+            None => Err(AllocError),
+        }
+    }
+
+    /// The direct dependents of a standing event, in canonical order.
+    pub fn dependents(&self, id: EventId) -> Result<Vec<EventId>, AllocError>
+        requires { Stands self.now id }
+        ensures { IfOk result (λ ids. AreInOrder self.now (DependsOn self.now id) ids.items) }
+    {
+        ids_of(self.alloc, &self.in_order(self.dependents.dependents(id))?)
+    }
+
+    /// All standing events, in canonical order, with their ids and ranks.
+    pub(crate) fn all_placed(&self) -> Result<Vec<Placed<'_>>, AllocError>
+        ensures { IfOk result (λ placed. ArePlaced self.now IsAny placed.items) }
+    {
+        self.in_order(&self.events.ids(self.alloc)?)
+    }
+
+    /// The standing events under these ids, in canonical order.
+    fn in_order(&self, ids: &[EventId]) -> Result<Vec<Placed<'_>>, AllocError>
+        requires { (d : AnEventId) (rest : List AnEventId) → Pick d ids.now rest → IsIn d rest → ⊥ }
+        ensures { IfOk result (λ placed. ArePlaced self.now (λ x. IsIn x.id ids.now) placed.items) }
+    {
+        self.lawful();
+        let mut placed = self.placed(ids)?;
+        placed.sort_by(|a, b| canonical_cmp(a.event, a.rank, b.event, b.rank))?;
+        Ok(placed)
+    }
+
+    /// The standing events under these ids, in the order of the ids.
+    fn placed(&self, ids: &[EventId]) -> Result<Vec<Placed<'_>>, AllocError>
+        ensures under { IfOk result (λ placed. map (λ p. p.id) placed.items ≡ ids.now) }
+        ensures shown { IfOk result (λ placed. All (IsPlaced self.now) placed.items) }
+    {
+        let mut placed = Vec::with_capacity(self.alloc, ids.len())?;
+        for id in ids {
+            let Some(entry) = self.events.get(*id) else {
+                return Err(AllocError);
+            };
+            placed.push(Placed {
+                id: *id,
+                event: entry.event,
+                rank: entry.rank,
+            })?;
+        }
+        Ok(placed)
+    }
+}
+
+/// The ids of these events.
+fn ids_of(alloc: Global, placed: &[Placed<'_>]) -> Result<Vec<EventId>, AllocError>
+    ensures { IfOk result (λ ids. ids.items ≡ map (λ p. p.id) placed.now) }
+{
+    let mut ids = Vec::with_capacity(alloc, placed.len())?;
+    for event in placed {
+        ids.push(event.id)?;
+    }
+    Ok(ids)
+}

@@ -1,0 +1,121 @@
+ghost use Rattle.std.specs.Prelude.{◌≡◌, ◌≢◌, ◌⊎◌, ◌↔◌, IsTrue, IfSome, IfNone, IfOk};
+ghost use Rattle.ic_name.specs.declared.ids.AgentId.{AgentId as AnAgentId};
+ghost use Rattle.ic_name.specs.declared.ids.Spot.TheVariants.{Agent};
+ghost use Rattle.ic_name.specs.Events.{Event as AnEvent};
+ghost use Rattle.ic_link.specs.declared.store.Far.TheVariants.{End};
+ghost use Rattle.ic_set.specs.declared.pairs.ActivePair.{ActivePair as APair};
+ghost use Rattle.ic_theory.specs.Active.{IsActive};
+ghost use Rattle.ic_set.specs.Views.{standing};
+ghost use Rattle.ic_set.specs.Pairs.{AreJoined, IsPairOf, AreActivePairs};
+
+use crate::set::StandingSet;
+use ic_link::{Far, LinkStore};
+use ic_name::{AgentId, AgentName, Event, Kind, Spot};
+use ic_roster::AgentEntry;
+use std::alloc::AllocError;
+use std::cmp::Ordering;
+
+/// An active pair: the ids of its two agents, of which the lead has the lesser name.
+#[derive(Clone, Copy, Debug, PartialEq, Eq)]
+pub struct ActivePair {
+    pub lead: AgentId,
+    pub other: AgentId,
+}
+
+impl<L: LinkStore> StandingSet<L> {
+    /// The agent whose principal port a wire joins to that of this agent; `None` where there is none. It takes no memory.
+    pub fn partner(&self, agent: AgentId) -> Option<AgentId>
+        ensures found { IfSome result (λ partner. AreJoined self.now agent partner) }
+        ensures absent { IfNone result ((partner : AnAgentId) → AreJoined self.now agent partner → ⊥) }
+    {
+        let entry = self.agents.get(agent)?;
+        let partner = principal_end(self.store.far(Spot::Agent(agent, 0)))?;
+        let other = self.agents.get(partner)?;
+        if self.events.led_by(entry.name).is_some() || self.events.led_by(other.name).is_some() {
+            return None;
+        }
+        Some(partner)
+    }
+
+    /// The ids of the agents of an event, where it is active; `None` where it isn't. It takes no memory.
+    pub fn active_pair(&self, event: &Event) -> Option<ActivePair>
+        ensures found { IfSome result (λ pair. IsPairOf self.now event.now pair) }
+        ensures absent { IfNone result (IsActive self.now.start (standing self.now) event.now → ⊥) }
+    {
+        event.lawful();
+        let lead = self.agents.find(event.lead())?;
+        if !is_agent(self.agents.get(lead)?, event.lead(), event.lead_kind()) {
+            return None;
+        }
+        let other = self.partner(lead)?;
+        if !is_agent(self.agents.get(other)?, event.other(), event.other_kind()) {
+            return None;
+        }
+        Some(ActivePair { lead, other })
+    }
+
+    /// The active pair that this agent is of, if it is of one. It takes no memory.
+    pub fn pair_with(&self, agent: AgentId) -> Option<ActivePair>
+        ensures found { IfSome result (λ pair. ((pair.lead ≡ agent) ⊎ (pair.other ≡ agent)) × (e : AnEvent) × IsPairOf self.now e pair) }
+        ensures absent { IfNone result ((e : AnEvent) (pair : APair) → (pair.lead ≡ agent) ⊎ (pair.other ≡ agent) → IsPairOf self.now e pair → ⊥) }
+    {
+        self.lawful();
+        let partner = self.partner(agent)?;
+        match self
+            .agents
+            .get(agent)?
+            .name
+            .cmp(self.agents.get(partner)?.name)
+        {
+            Ordering::Less => Some(ActivePair {
+                lead: agent,
+                other: partner,
+            }),
+            Ordering::Equal | Ordering::Greater => Some(ActivePair {
+                lead: partner,
+                other: agent,
+            }),
+        }
+    }
+
+    /// All active pairs, by lead.
+    pub fn active(&self) -> Result<Vec<ActivePair>, AllocError>
+        ensures { IfOk result (λ pairs. AreActivePairs self.now pairs.items) }
+    {
+        self.lawful();
+        let mut pairs = Vec::new(self.alloc);
+        for agent in &self.agents.in_order(self.alloc)? {
+            let Some(pair) = self.pair_with(*agent) else {
+                continue;
+            };
+            if pair.lead == *agent {
+                pairs.push(pair)?;
+            }
+        }
+        Ok(pairs)
+    }
+}
+
+/// The agent at whose principal port a path ends, if it ends at one.
+fn principal_end(far: Far) -> Option<AgentId>
+    ensures found { IfSome result (λ agent. far ≡ End (Agent agent 0)) }
+    ensures absent { IfNone result ((agent : AnAgentId) → far ≢ End (Agent agent 0)) }
+{
+    let Far::End(spot) = far else {
+        return None;
+    };
+    let Spot::Agent(agent, port) = spot else {
+        return None;
+    };
+    if port != 0 {
+        return None;
+    }
+    Some(agent)
+}
+
+/// Whether the agent has this name and this kind.
+fn is_agent(agent: AgentEntry<'_>, name: &AgentName, kind: Kind) -> bool
+    ensures { IsTrue result ↔ ((agent.entry.name.now ≡ name.now) × (agent.entry.kind ≡ kind)) }
+{
+    agent.name.is(name) && agent.kind == kind
+}
