@@ -1,15 +1,8 @@
 // The program icbench: a session over standard input and output.
 #![tactic(auto)]
 
-pub mod command;
-pub mod laws;
-pub mod net_input;
-pub mod reply;
-pub mod session;
-pub mod words;
-
 use ic_lines::IoFault;
-use session::{Status, run_session};
+use ic_session::{Status, run_session};
 use std::io;
 use std::process::ExitCode;
 
@@ -32,8 +25,3 @@ fn main(rt: HostRuntime) -> ExitCode {
         }
     }
 }
-
-#[cfg(test)]
-mod step_tests;
-#[cfg(test)]
-mod tests;

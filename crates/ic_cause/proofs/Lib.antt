@@ -16,3 +16,4 @@ pub mod KeptViews
 pub mod AddedEvents
 pub mod RemovedEvents
 pub mod Dependences
+pub mod OneFuture

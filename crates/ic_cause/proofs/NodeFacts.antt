@@ -1,7 +1,8 @@
 -- What a write to the dependents of one event changes.
-use Rattle.std.proofs.Common.{◌≡◌, ◌≤◌, Bool, true, false, cond, ◌||◌, List, [], ◌∷◌, Some, refl, sym, ap, ◌∙◌, subst, arith, vec_len, vec_capacity}
+use Rattle.std.proofs.Common.{◌≡◌, ◌≤◌, Bool, true, false, cond, ◌||◌, List, [], ◌∷◌, Some, refl, sym, ap, ◌∙◌, subst, arith}
 use Rattle.std.specs.Prelude.{option_map, unwrap_or, IsSome}
 use Rattle.std.specs.BTreeMap.{BTreeMap, WritesThrough}
+use Rattle.smallvec.specs.SmallVec.{small_vec_len}
 use Rattle.ic_name.specs.declared.ids.EventId.{EventId}
 use Rattle.ic_name.specs.Spots.{same_event}
 use Rattle.ic_cause.specs.declared.nodes.Node.{Node}
@@ -60,7 +61,7 @@ module _ (m n : BTreeMap EventId Node) (c : EventId) (old new : Node) (found : S
   }
 
   -- where there was room there is
-  pub rooms_after : vec_len new.dependents ≡ vec_len old.dependents → vec_capacity old.dependents ≤ vec_capacity new.dependents → (q : EventId) → HasRoom m q → HasRoom n q
+  pub rooms_after : small_vec_len new.dependents ≡ small_vec_len old.dependents → old.dependents.capacity ≤ new.dependents.capacity → (q : EventId) → HasRoom m q → HasRoom n q
   rooms_after l k q room = by (same_event q c) refl
     where
       by : (b : Bool) → same_event q c ≡ b → HasRoom n q

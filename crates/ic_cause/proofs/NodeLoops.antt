@@ -1,8 +1,9 @@
 -- Writes to the dependents of several events, one after the other.
 use Rattle.std.proofs.Common.{◌≡◌, ℕ, ◌<◌, Bool, true, false, ◌||◌, List, [], ◌∷◌, ◌++◌, length, get_or, take, Option, Some, None, refl, sym, ap, ◌∙◌, subst}
-use Rattle.std.specs.Prelude.{option_map, is_some, vec_len, vec_capacity}
+use Rattle.std.specs.Prelude.{option_map, is_some}
 use Rattle.std.specs.Option.{IsSomeAnd}
 use Rattle.std.specs.BTreeMap.{BTreeMap}
+use Rattle.smallvec.specs.SmallVec.{HasRoomFor}
 use Rattle.ic_path.specs.Orders.{IsIn}
 use Rattle.ic_name.specs.declared.ids.EventId.{EventId}
 use Rattle.ic_name.specs.Spots.{same_event}
@@ -87,7 +88,7 @@ kept_still m n e same = sym (some_mapped (λ x. x.causes.items) (node_of n e)) �
 
 -- room stays where the node does
 pub room_still : (m n : BTreeMap EventId Node) (e : EventId) → node_of n e ≡ node_of m e → HasRoom m e → HasRoom n e
-room_still m n e same room = subst (λ o. IsSomeAnd o (λ x. vec_len x.dependents < vec_capacity x.dependents)) (sym same) room
+room_still m n e same room = subst (λ o. IsSomeAnd o (λ x. HasRoomFor x.dependents 1)) (sym same) room
 
 -- those that are left keep their room as one event's dependents are written
 pub rooms_left : (m n : BTreeMap EventId Node) (c : EventId) (done : List EventId) (e : EventId) → (has e done ≡ false → HasRoom m e) → (same_event e c ≡ false → node_of n e ≡ node_of m e) → has e (done ++ c ∷ []) ≡ false → HasRoom n e

@@ -1,7 +1,8 @@
 -- What a write to the dependents of events changes.
-use Rattle.std.specs.Prelude.{◌≡◌, ◌<◌, true, false, List, ◌∷◌, vec_len, vec_capacity}
+use Rattle.std.specs.Prelude.{◌≡◌, true, false, List, ◌∷◌}
 use Rattle.std.specs.BTreeMap.{BTreeMap}
 use Rattle.std.specs.Option.{IsSomeAnd}
+use Rattle.smallvec.specs.SmallVec.{HasRoomFor}
 use Rattle.ic_path.specs.Orders.{Alike}
 use Rattle.ic_name.specs.declared.ids.EventId.{EventId}
 use Rattle.ic_cause.specs.declared.nodes.Node.{Node}
@@ -9,7 +10,7 @@ use Rattle.ic_cause.specs.Nodes.{node_of, causes_of, dependents_of, dependents_a
 
 -- the event is kept, and there is a place for a dependent more
 abbrev pub HasRoom : BTreeMap EventId Node → EventId → Type 0
-HasRoom nodes e = IsSomeAnd (node_of nodes e) (λ n. vec_len n.dependents < vec_capacity n.dependents)
+HasRoom nodes e = IsSomeAnd (node_of nodes e) (λ n. HasRoomFor n.dependents 1)
 
 -- the same events with the same lists
 pub record SameNodes (old new : BTreeMap EventId Node) : Type 0 where

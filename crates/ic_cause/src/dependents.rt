@@ -6,6 +6,7 @@ ghost use Rattle.ic_cause.specs.Dependents.{causes_in, with_event, DependsOn, Ar
 
 use crate::nodes::{Node, put_at_each, reserve_places, take_at_each};
 use ic_name::EventId;
+use smallvec::SmallVec;
 use std::alloc::{AllocError, Global};
 use std::collections::BTreeMap;
 use std::marker::Model;
@@ -53,11 +54,11 @@ impl Dependents {
         ensures unchanged { OnErr result ((e : AnEventId) → causes_in self.new e ≡ causes_in self.old e) }
     {
         reserve_places(&mut self.nodes, causes)?;
-        let mut kept = Vec::new(self.alloc);
+        let mut kept = SmallVec::new(self.alloc);
         kept.extend_from_slice(causes)?;
         let node = Node {
             causes: kept,
-            dependents: Vec::new(self.alloc),
+            dependents: SmallVec::new(self.alloc),
         };
         self.nodes.insert(event, node)?;
         put_at_each(&mut self.nodes, causes, event);
@@ -69,9 +70,10 @@ impl Dependents {
         requires { (f : AnEventId) → DependsOn (causes_in self.old) event f → ⊥ }
         ensures { (e : AnEventId) → causes_in self.new e ≡ with_event event None (causes_in self.old) e }
     {
-        if let Some(node) = self.nodes.remove(&event) {
-            take_at_each(&mut self.nodes, node.causes.as_slice(), event);
-        }
+        let Some(node) = self.nodes.remove(&event) else {
+            return;
+        };
+        take_at_each(&mut self.nodes, node.causes.as_slice(), event);
     }
 
     /// The direct causes of an event; `None` for one that isn't kept. It takes no memory.

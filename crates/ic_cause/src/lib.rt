@@ -4,12 +4,14 @@
 
 pub mod dependents;
 pub mod journal;
+pub mod laws;
 pub mod makers;
 mod nodes;
 pub mod order;
 
 pub use dependents::Dependents;
 pub use journal::{RankedEvent, journal_text};
+pub use laws::one_future;
 pub use makers::direct_causes;
 pub use order::{canonical_cmp, rank_of};
 

@@ -5,14 +5,15 @@ ghost use Rattle.ic_cause.specs.Nodes.{node_of, has, IsOnce};
 ghost use Rattle.ic_cause.specs.NodeChanges.{HasRoom, SameNodes, Changes, Puts, Takes};
 
 use ic_name::EventId;
+use smallvec::SmallVec;
 use std::alloc::AllocError;
 use std::collections::BTreeMap;
 
 /// An event's direct causes, and the events whose direct cause it is.
 #[derive(Drop)]
 pub(crate) struct Node {
-    pub(crate) causes: Vec<EventId>,
-    pub(crate) dependents: Vec<EventId>,
+    pub(crate) causes: SmallVec<EventId, 4>,
+    pub(crate) dependents: SmallVec<EventId, 4>,
 }
 
 /// Makes room for a dependent more of each of these events, which are kept. At an error some have room, and nothing else
@@ -86,10 +87,10 @@ fn take_at(nodes: &mut BTreeMap<EventId, Node>, cause: EventId, event: EventId)
 }
 
 /// Takes an event out of a list, where it stands first. The last one takes its place.
-fn take_out(events: &mut Vec<EventId>, event: EventId)
+fn take_out(events: &mut SmallVec<EventId, 4>, event: EventId)
     ensures { Takes event events.old.items events.new.items }
 {
-    if let Some(at) = events.iter().position(|e| *e == event) {
+    if let Some(at) = events.as_slice().iter().position(|e| *e == event) {
         let _ = events.swap_remove(at);
     }
 }

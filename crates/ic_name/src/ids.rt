@@ -1,13 +1,13 @@
 /// An agent of one bench: the slot in which to look for it, and its serial number, which is 0 for a start agent,
 /// else one more than the history number of its maker's firing.
-#[derive(Clone, Copy, Debug, PartialEq, Eq, PartialOrd, Ord, Hash)]
+#[derive(Clone, Copy, Debug, Default, PartialEq, Eq, PartialOrd, Ord, Hash)]
 pub struct AgentId {
     pub slot: u32,
     pub serial: u32,
 }
 
 /// An event of one bench: the slot in which to look for it, and the history number of its firing.
-#[derive(Clone, Copy, Debug, PartialEq, Eq, PartialOrd, Ord, Hash)]
+#[derive(Clone, Copy, Debug, Default, PartialEq, Eq, PartialOrd, Ord, Hash)]
 pub struct EventId {
     pub slot: u32,
     pub line: u32,

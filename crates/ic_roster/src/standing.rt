@@ -5,6 +5,7 @@ ghost use Rattle.ic_roster.specs.Rosters.{Stander, HaveOwnLines, IsNewEvent};
 
 use ic_name::{AgentId, AgentName, Event, EventId, EventName};
 use slab::Slab;
+use smallvec::SmallVec;
 use std::alloc::{AllocError, Global};
 use std::collections::BTreeMap;
 use std::marker::Model;
@@ -24,7 +25,7 @@ struct StandingRecord {
     event: Event,
     line: u32,
     rank: u32,
-    born: Vec<AgentId>,
+    born: SmallVec<AgentId, 4>,
 }
 
 /// A standing event, to be read.
@@ -155,7 +156,7 @@ impl Standing {
         ensures entered { IfOk result (λ id. (id.line ≡ line) × Alike (record { id = id; event = event; rank = rank; born = born.now } ∷ self.old) self.new) }
         ensures unchanged { OnErr result (self.new ≡ self.old) }
     {
-        let born = Vec::from_slice(self.alloc, born)?;
+        let born = SmallVec::from_slice(self.alloc, born)?;
         let lead = event.lead().copy()?;
         self.records.reserve(1)?;
         let Ok(slot) = u32::try_from(self.records.vacant_key()) else {

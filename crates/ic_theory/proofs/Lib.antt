@@ -22,5 +22,7 @@ pub mod Machines
 pub mod Replies
 pub mod Restored
 pub mod NormalEnds
+pub mod Neighbours
 pub mod Exchanging
 pub mod LastUndone
+pub mod LinkOrder

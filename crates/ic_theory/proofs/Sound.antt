@@ -29,7 +29,7 @@ use Rattle.ic_theory.proofs.Counts.{port_degree, names_once}
 use Rattle.ic_theory.proofs.Future.{in_rest, fired_apart, loose_agent, unequal, was_fired, same_links, trail_included, in_included, consumed_in, pick_part, includes_self, kind_once}
 
 -- the makers of links
-placed_maker : (m : Option Event) (k : ℕ) (ps : List (Port × Port)) {l : Link} {rest : List Link} → Pick l (placed m k ps) rest → l.maker ≡ m
+pub placed_maker : (m : Option Event) (k : ℕ) (ps : List (Port × Port)) {l : Link} {rest : List Link} → Pick l (placed m k ps) rest → l.maker ≡ m
 placed_maker m k [] i = elim i [ ]
 placed_maker m k (p ∷ ps) here = refl
 placed_maker m k (p ∷ ps) (there i) = placed_maker m (k + 1) ps i

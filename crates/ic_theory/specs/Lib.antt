@@ -14,3 +14,4 @@ pub mod Letters
 pub mod Exchanges
 pub mod Machine
 pub mod Listed
+pub mod Seals

@@ -1,7 +1,7 @@
 // Interactions as events over a start: the nets that sets of events leave, the steps, and the machine, with laws.
 #![tactic(auto)]
 
-ghost use Rattle.std.specs.Prelude.{◌≡◌, ◌≢◌, ◌+◌, ◌<◌, ℕ, ◌⊎◌, ◌↔◌, List, [], ◌∷◌, length, Some};
+ghost use Rattle.std.specs.Prelude.{◌≡◌, ◌≢◌, ◌+◌, ◌<◌, ℕ, ◌⊎◌, ◌↔◌, List, [], ◌∷◌, ◌++◌, length, Some};
 ghost use Rattle.ic_name.specs.Names.{Name};
 ghost use Rattle.ic_name.specs.Events.{Event};
 ghost use Rattle.ic_name.specs.declared.lines.Call.{Call};
@@ -11,7 +11,11 @@ ghost use Rattle.ic_name.specs.declared.lines.Reply.{Reply};
 ghost use Rattle.ic_name.specs.declared.lines.Reply.TheVariants.{Fired, Undone};
 ghost use Rattle.ic_name.specs.declared.ports.Port.{Port};
 ghost use Rattle.ic_path.specs.Orders.{IsIn, Alike, Pick};
-ghost use Rattle.ic_theory.specs.Starts.{Start, IsProper};
+ghost use Rattle.ic_path.specs.Rings.{IsOrder, IsSeal, HasEachOnce};
+ghost use Rattle.ic_theory.specs.Starts.{Start, IsProper, net_shape};
+ghost use Rattle.ic_theory.specs.Born.{Link};
+ghost use Rattle.ic_theory.specs.Sets.{links};
+ghost use Rattle.ic_theory.specs.Seals.{comes_before};
 ghost use Rattle.ic_theory.specs.Wires.{IsLoose, IsWire};
 ghost use Rattle.ic_theory.specs.Active.{IsActive};
 ghost use Rattle.ic_theory.specs.Causes.{IsCause, IsRank};
@@ -29,6 +33,16 @@ pub fn wires()
     ensures loose { (s : Start) (es : List Event) (p : Port) → IsProper s → IsFired s es → IsLoose s es p → (q : Port) × ((net_of s es).partner p ≡ Some q) }
     ensures back { (s : Start) (es : List Event) (p q : Port) → IsProper s → IsFired s es → (net_of s es).partner p ≡ Some q → (q ≢ p) × ((net_of s es).partner q ≡ Some p) }
     ensures ends { (s : Start) (es : List Event) (p q : Port) → IsProper s → IsFired s es → (net_of s es).partner p ≡ Some q ↔ IsWire s es p q }
+{}
+
+/// The net of a sound set has as many rings as there are seals, links through which a closed trail goes that goes
+/// through no link before it. The links of the set stand in one order, no two of them level: those of the start first,
+/// by place, then those of events by lead, other agent and place. There is a list that has each seal once, and each
+/// such list is as long as the net has rings.
+pub fn seals()
+    ensures listed { (s : Start) (es : List Event) → IsProper s → IsSound s es → (list : List Link) × HasEachOnce (IsSeal net_shape comes_before (links s es)) list }
+    ensures counted { (s : Start) (es : List Event) (list : List Link) → IsProper s → IsSound s es → HasEachOnce (IsSeal net_shape comes_before (links s es)) list → length list ≡ (net_of s es).rings }
+    ensures ordered { (s : Start) (es : List Event) → IsProper s → IsSound s es → IsOrder comes_before (links s es) }
 {}
 
 /// A plain step is defined for the active events, and gives the net of the set with that event.
@@ -59,11 +73,14 @@ pub fn sound_sets()
     ensures causes { (s : Start) (all es : List Event) (e c : Event) → IsProper s → IsSound s all → Includes all es → IsSound s es → IsIn e es → IsCause s all e c ↔ IsCause s es e c }
 {}
 
-/// Neighbours in a firing change places where neither is a direct cause of the other: the net is the same, its rings
-/// included. Any firing reaches the canonical order of its events by such exchanges.
+/// Neighbours in a firing, wherever they stand, change places where the earlier is no direct cause of the later, and
+/// the list is a firing still; whichever way round they stand, the net is the same, its rings included. Exchanges of
+/// neighbours of which neither is a direct cause of the other lead from a firing only to firings of the same events
+/// with the same net, and by them any firing reaches the canonical order of its events.
 pub fn exchange()
-    ensures fired { (s : Start) (es : List Event) (e f : Event) → IsProper s → IsFired s (f ∷ e ∷ es) → (IsCause s (f ∷ e ∷ es) f e → ⊥) → IsFired s (e ∷ f ∷ es) }
-    ensures net { (s : Start) (es : List Event) (e f : Event) → IsProper s → IsFired s (f ∷ e ∷ es) → IsSameNet (net_of s (f ∷ e ∷ es)) (net_of s (e ∷ f ∷ es)) }
+    ensures fired { (s : Start) (later es : List Event) (e f : Event) → IsProper s → IsFired s (later ++ f ∷ e ∷ es) → (IsCause s (f ∷ e ∷ es) f e → ⊥) → IsFired s (later ++ e ∷ f ∷ es) }
+    ensures net { (s : Start) (later es : List Event) (e f : Event) → IsProper s → IsFired s (later ++ f ∷ e ∷ es) → IsSameNet (net_of s (later ++ f ∷ e ∷ es)) (net_of s (later ++ e ∷ f ∷ es)) }
+    ensures along { (s : Start) (es gs : List Event) → IsProper s → IsFired s es → Exchanges s es gs → IsFired s gs × IsSameNet (net_of s es) (net_of s gs) × Alike es gs }
     ensures canonical { (s : Start) (es : List Event) (rank : Event → ℕ) → IsProper s → IsFired s es → IsRank s es rank → (order : List Event) × Exchanges s es order × IsFired s order × IsCanonical rank order × Alike es order }
 {}
 

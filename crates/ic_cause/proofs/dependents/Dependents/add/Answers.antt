@@ -44,12 +44,12 @@ put_at_each-requires-clause-room c =
 
 pub invariant_of-self-2 : goal.invariant_of-self-2
 invariant_of-self-2 c =
-    let its = c.in_ok-extend_from_slice.ensures.items ∙ ap (λ (es : List EventId). es ++ c.args.causes.now) c.new-kept.ensures.items in
+    let its = c.in_ok-extend_from_slice.ensures.ok ∙ ap (λ (es : List EventId). es ++ c.args.causes.now) c.new-kept.ensures.items in
     event_linked c.args.self.now c.self.inside.nodes c.reserve_places.new.nodes c.insert.new.self c.args.event c.args.causes.now _ c.self.view_is c.reserve_places.ensures.same
     c.requires.fresh c.requires.kept c.in_ok-insert.ensures.updates.0 c.put_at_each.new.nodes its c.new.ensures.items c.put_at_each.ensures c.self.invariant c.requires.once
 
 pub returns-clause-added : goal.returns-clause-added
 returns-clause-added c =
-    let its = c.in_ok-extend_from_slice.ensures.items ∙ ap (λ (es : List EventId). es ++ c.args.causes.now) c.new-kept.ensures.items in
+    let its = c.in_ok-extend_from_slice.ensures.ok ∙ ap (λ (es : List EventId). es ++ c.args.causes.now) c.new-kept.ensures.items in
     event_seen c.args.self.now c.self.inside.nodes c.reserve_places.new.nodes c.insert.new.self c.args.event c.args.causes.now _ c.self.view_is c.reserve_places.ensures.same
     c.requires.fresh c.requires.kept c.in_ok-insert.ensures.updates.0 c.put_at_each.new.nodes its c.new.ensures.items c.put_at_each.ensures c.self.invariant c.requires.once

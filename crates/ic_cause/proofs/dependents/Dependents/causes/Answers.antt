@@ -5,7 +5,7 @@ use Rattle.ic_cause.proofs.dependents.Dependents.causes.Goals as goal
 
 pub returns-in-Some : goal.returns-in-Some
 returns-in-Some c =
-    ap (λ es. Some es) c.as_slice.ensures.value ∙ ap (option_map (λ n. n.causes.items)) c.in-Some.ensures.value
+    ap (λ es. Some es) c.as_slice.ensures ∙ ap (option_map (λ n. n.causes.items)) c.in-Some.ensures.value
     ∙ sym (causes_seen_as c.self.inside.nodes c.args.self.now c.self.view_is c.args.event)
 
 pub returns-in-None : goal.returns-in-None

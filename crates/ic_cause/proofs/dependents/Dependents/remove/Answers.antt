@@ -7,21 +7,21 @@ use Rattle.ic_cause.proofs.dependents.Dependents.remove.Goals as goal
 
 pub take_at_each-requires : goal.take_at_each-requires
 take_at_each-requires c =
-    subst IsOnce (sym c.as_slice.ensures.value) (node_once c.self.inside.nodes c.args.event c.in-Some.node c.self.invariant c.in-Some.ensures.value)
+    subst IsOnce (sym c.as_slice.ensures) (node_once c.self.inside.nodes c.args.event c.in-Some.node c.self.invariant c.in-Some.ensures.value)
+
+pub invariant_of-self-2 : goal.invariant_of-self-2
+invariant_of-self-2 c =
+    rest_linked c.args.self.now c.self.inside.nodes c.remove.new.self _ c.args.event _ c.in-Some.node c.self.view_is c.self.invariant c.requires
+    c.in-Some.ensures.value c.in-Some.ensures.updates.0 c.as_slice.ensures c.take_at_each.ensures
 
 pub invariant_of-self : goal.invariant_of-self
 invariant_of-self c =
-    rest_linked c.args.self.now c.self.inside.nodes c.remove.new.self _ c.args.event _ c.in-Some.node c.self.view_is c.self.invariant c.requires
-    c.in-Some.ensures.value c.in-Some.ensures.updates.0 c.as_slice.ensures.value c.take_at_each.ensures
-
-pub invariant_of-self-in_default : goal.invariant_of-self-in_default
-invariant_of-self-in_default c =
     same_linked c.self.inside.nodes c.remove.new.self (same_nodes c.self.inside.nodes c.remove.new.self c.in_default.ensures.unchanged) c.self.invariant
 
-pub returns-in-Some : goal.returns-in-Some
-returns-in-Some c =
+pub returns : goal.returns
+returns c =
     rest_seen c.args.self.now c.self.inside.nodes c.remove.new.self _ c.args.event _ c.in-Some.node c.self.view_is c.self.invariant c.requires
-    c.in-Some.ensures.value c.in-Some.ensures.updates.0 c.as_slice.ensures.value c.take_at_each.ensures
+    c.in-Some.ensures.value c.in-Some.ensures.updates.0 c.as_slice.ensures c.take_at_each.ensures
 
 pub returns-in_default : goal.returns-in_default
 returns-in_default c =

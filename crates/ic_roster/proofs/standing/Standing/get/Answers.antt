@@ -17,4 +17,4 @@ returns-then-record-id-clause-absent c =
 pub returns-clause-found : goal.returns-clause-found
 returns-clause-found c =
     let h : slot_at c.self.inside.records.slots c.args.id.slot ≡ Some c.in_ok-record.record.now = sym c.in_ok-record.ensures in
-    rw (← c.self.view_is, c.as_slice.ensures.value) (event_of_id c.self.inside.records.slots c.args.id c.in_ok-record.record.now h c.if-record-id.false)
+    rw (← c.self.view_is, c.as_slice.ensures) (event_of_id c.self.inside.records.slots c.args.id c.in_ok-record.record.now h c.if-record-id.false)

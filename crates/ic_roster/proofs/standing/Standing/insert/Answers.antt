@@ -36,4 +36,4 @@ invariant_of-self-2 c =
     tabled_entered _ _ c.self.inside.lines.entries c.insert-2.new.self.entries c.self.inside.leads.entries c.insert.new.self.entries c.in-Ok.slot (made c) c.self.invariant (filled c) fresh c.in-Ok-insert-2.ensures.updates.0 enters
 
 pub returns-clause-entered : goal.returns-clause-entered
-returns-clause-entered c = (refl, rw (← c.self.view_is, ← c.in_ok-born.ensures.items) (shown_filled stander_at _ _ c.in-Ok.slot (made c) (filled c)))
+returns-clause-entered c = (refl, rw (← c.self.view_is, ← c.in_ok-born.ensures.ok) (shown_filled stander_at _ _ c.in-Ok.slot (made c) (filled c)))

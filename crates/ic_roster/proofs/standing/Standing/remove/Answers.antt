@@ -16,7 +16,7 @@ remove-record-requires c =
     holds_event c.self.inside.records.slots c.args.self.now _ c.self.view_is found.1
 
 -- the slot is emptied
-emptied : (c : goal.After-drop-record-3) → HoldsOneMore c.remove-record.new.self.slots c.self.inside.records.slots c.args.id.slot c.remove-record.result
+emptied : (c : goal.Joined-record-3) → HoldsOneMore c.remove-record.new.self.slots c.self.inside.records.slots c.args.id.slot c.remove-record.result
 emptied c = emptied_by_remove _ _ _ _ c.remove-record.ensures.value c.remove-record.ensures.updates
 
 pub invariant_of-self : goal.invariant_of-self

@@ -1,0 +1,143 @@
+-- The text of a session from what its parts did.
+use Rattle.std.proofs.Common.{◌≡◌, ℕ, ◌+◌, ◌-◌, ◌<◌, Bool, true, false, List, [], length, take, nat_le, rules, refl, sym, ap, arith, ◌∙◌, subst, inl, inr, Vec, Global}
+use Rattle.std.proofs.KnownBytes.{Appends-nil, prepend_known-nil}
+use Rattle.std.proofs.lemmas.List.{length-take}
+use Rattle.std.specs.Prelude.{Option, Some, None, IfSome}
+use Rattle.std.specs.Io.BufRead.{strip_last, ends_with_byte}
+use Rattle.ic_lines.specs.Lines.{Takes, first_line, behind_line}
+use Rattle.ic_lines.specs.Faults.{AppendsFront}
+use Rattle.ic_lines.specs.declared.piece.Piece.{Piece}
+use Rattle.ic_lines.specs.declared.piece.Piece.TheVariants as pieces
+use Rattle.ic_session.specs.Commands.{is_well_formed, unsaid}
+use Rattle.ic_session.specs.NextCommand.{TakesCommand}
+use Rattle.ic_session.specs.declared.command.TheConstants.{MAX_COMMAND}
+use Rattle.ic_session.specs.declared.command.Command.TheVariants.{Malformed}
+use Rattle.std.specs.Io.KnownBytes.{Appends, prepend_known}
+use Rattle.ic_theory.specs.Starts.{Start}
+use Rattle.ic_theory.specs.Machine.{initial}
+use Rattle.ic_grammar.specs.Grammar.{Denotes}
+use Rattle.ic_grammar.specs.Faults.{Stands, IsFirstFault, Precedes}
+use Rattle.ic_grammar.specs.declared.limits.TheConstants.{MAX_TEXT}
+use Rattle.ic_grammar.specs.declared.refusal.Refusal.{Refusal}
+use Rattle.ic_grammar.specs.declared.refusal.Refusal.TheVariants.{TooLong, BadByte, Syntax, NameTooLong, Thrice, TooManyAgents, TooNested, ReservedFree, TooManyFree}
+use Rattle.ic_session.specs.declared.net_input.NetInput.{NetInput}
+use Rattle.ic_session.specs.declared.net_input.NetInput.TheVariants as inputs
+use Rattle.ic_session.specs.declared.session.Status.{Status}
+use Rattle.ic_session.specs.declared.session.Status.TheVariants.{Ended, NetRefused}
+use Rattle.ic_session.specs.InputLines.{lines, net_part}
+use Rattle.ic_session.specs.NetInput.{ReadsNet}
+use Rattle.ic_session.specs.Texts.{refusal_line}
+use Rattle.ic_session.specs.Sessions.{AreAnswers, Writes, AreBegun, IsBegun, nothing, naming, answering}
+
+-- where nothing had been read in front of it, the net text begins the input
+pub fresh_read : {held : List ℕ} (known now : Option (List ℕ)) (net : NetInput) → held ≡ [] → IfSome (prepend_known held known) (λ xs. ReadsNet net xs now) → IfSome known (λ xs. ReadsNet net xs now)
+fresh_read known now net e h = subst (λ all. IfSome all (λ xs. ReadsNet net xs now)) (ap (λ bs. prepend_known bs known) e ∙ prepend_known-nil known) h
+
+-- a net text that is too long has no fault that goes before that
+long_first : (f : Refusal) → Precedes TooLong f
+long_first TooLong = inr (refl, inr (refl, omega arith))
+long_first (BadByte o) = inl (omega arith)
+long_first (Syntax o) = inl (omega arith)
+long_first (NameTooLong o) = inl (omega arith)
+long_first (Thrice o) = inl (omega arith)
+long_first (TooManyAgents o) = inl (omega arith)
+long_first (TooNested o) = inl (omega arith)
+long_first (ReservedFree o) = inl (omega arith)
+long_first TooManyFree = inl (omega arith)
+
+-- so it is the first
+too_long_first : (xs : List ℕ) → MAX_TEXT < length (net_part (lines xs)) → IsFirstFault (net_part (lines xs)) TooLong
+too_long_first xs many = record { stands = many; first = λ f _. long_first f }
+
+-- the net text was too long
+pub wrote_too_long : (known now before after : Option (List ℕ)) (input : NetInput) → input ≡ inputs.TooLong → IfSome known (λ xs. ReadsNet input xs now) → (s : Status) → (s ≡ NetRefused) × Appends before after (refusal_line TooLong)
+    → IfSome known (λ xs. Writes xs s before after)
+wrote_too_long None now before after input e h s a = tt
+wrote_too_long (Some xs) now before after input e h s a =
+    let many = subst (λ i. ReadsNet i xs now) e h in
+    rw a.0 (refusal_line TooLong, record { fault = TooLong; first = too_long_first xs many; named = refl }, a.1)
+
+-- the net text had a fault
+pub wrote_fault : (known now before after : Option (List ℕ)) (input : NetInput) (text : Vec ℕ Global) (f : Refusal) → input ≡ inputs.Whole text → IfSome known (λ xs. ReadsNet input xs now)
+    → IsFirstFault text.items f → (s : Status) → (s ≡ NetRefused) × Appends before after (refusal_line f) → IfSome known (λ xs. Writes xs s before after)
+wrote_fault None now before after input text f e h first s a = tt
+wrote_fault (Some xs) now before after input text f e h first s a =
+    let read = subst (λ i. ReadsNet i xs now) e h in
+    rw a.0 (refusal_line f, record { fault = f; first = subst (λ t. IsFirstFault t f) read.0 first; named = refl }, a.1)
+
+-- the net was read, and the commands were answered
+pub wrote_answers : (known now before after : Option (List ℕ)) (input : NetInput) (text : Vec ℕ Global) (start : Start) → input ≡ inputs.Whole text
+    → IfSome known (λ xs. ReadsNet input xs now) → Denotes text.items start → ((f : Refusal) → Stands text.items f → ⊥)
+    → IfSome now (λ ys. (reply : List ℕ) × AreAnswers start initial (lines ys) reply × Appends before after reply) → IfSome known (λ xs. Writes xs Ended before after)
+wrote_answers None now before after input text start e h d n a = tt
+wrote_answers (Some xs) None before after input text start e h d n a = let read = subst (λ i. ReadsNet i xs None) e h in absurd read.1
+wrote_answers (Some xs) (Some ys) before after input text start e h d n a =
+    let read = subst (λ i. ReadsNet i xs (Some ys)) e h in (
+      a.0,
+      record {
+        start = start;
+        denoted = subst (λ t. Denotes t start) read.0 d;
+        faultless = subst (λ t. (f : Refusal) → Stands t f → ⊥) read.0 n;
+        answers = subst (λ ls. AreAnswers start initial ls a.0) read.1 a.1;
+      },
+      a.2,
+    )
+
+-- nothing was written
+pub begun_nothing : (known before : Option (List ℕ)) → IfSome known (λ xs. (text : List ℕ) × IsBegun xs text × Appends before before text)
+begun_nothing None before = tt
+begun_nothing (Some xs) before = ([], nothing, Appends-nil before)
+
+-- of the line that names the fault, a front was written
+begun_naming : (xs : List ℕ) (before after : Option (List ℕ)) (f : Refusal) → IsFirstFault (net_part (lines xs)) f → AppendsFront before after (refusal_line f)
+    → (text : List ℕ) × IsBegun xs text × Appends before after text
+begun_naming xs before after f first a = (a.front, naming a.behind (record { fault = f; first = first; named = sym a.parts }), a.appended)
+
+-- the net text was too long
+pub begun_too_long : (known now before after : Option (List ℕ)) (input : NetInput) → input ≡ inputs.TooLong → IfSome known (λ xs. ReadsNet input xs now) → AppendsFront before after (refusal_line TooLong)
+    → IfSome known (λ xs. (text : List ℕ) × IsBegun xs text × Appends before after text)
+begun_too_long None now before after input e h a = tt
+begun_too_long (Some xs) now before after input e h a = begun_naming xs before after TooLong (too_long_first xs (subst (λ i. ReadsNet i xs now) e h)) a
+
+-- the net text had a fault
+pub begun_fault : (known now before after : Option (List ℕ)) (input : NetInput) (text : Vec ℕ Global) (f : Refusal) → input ≡ inputs.Whole text → IfSome known (λ xs. ReadsNet input xs now)
+    → IsFirstFault text.items f → AppendsFront before after (refusal_line f) → IfSome known (λ xs. (text : List ℕ) × IsBegun xs text × Appends before after text)
+begun_fault None now before after input text f e h first a = tt
+begun_fault (Some xs) now before after input text f e h first a =
+    let read = subst (λ i. ReadsNet i xs now) e h in
+    begun_naming xs before after f (subst (λ t. IsFirstFault t f) read.0 first) a
+
+-- the net was read, and a front of the answers was written
+pub begun_answers : (known now before after : Option (List ℕ)) (input : NetInput) (text : Vec ℕ Global) (start : Start) → input ≡ inputs.Whole text
+    → IfSome known (λ xs. ReadsNet input xs now) → Denotes text.items start → ((f : Refusal) → Stands text.items f → ⊥)
+    → IfSome now (λ ys. (reply : List ℕ) × AreBegun start initial (lines ys) reply × Appends before after reply) → IfSome known (λ xs. (text : List ℕ) × IsBegun xs text × Appends before after text)
+begun_answers None now before after input text start e h d n a = tt
+begun_answers (Some xs) None before after input text start e h d n a = let read = subst (λ i. ReadsNet i xs None) e h in absurd read.1
+begun_answers (Some xs) (Some ys) before after input text start e h d n a =
+    let read = subst (λ i. ReadsNet i xs (Some ys)) e h in
+    let denoted = subst (λ t. Denotes t start) read.0 d in
+    let faultless = subst (λ t. (f : Refusal) → Stands t f → ⊥) read.0 n in
+    (a.0, answering denoted faultless (subst (λ ls. AreBegun start initial ls a.0) read.1 a.1), a.2)
+
+-- a line that is longer by more than its end is no command
+long_line : (line : List ℕ) → MAX_COMMAND + 1 < length line → is_well_formed (strip_last 13 line) ≡ false
+long_line line long = go (ends_with_byte 13 line) refl
+  where
+    over : (body : List ℕ) → MAX_COMMAND < length body → is_well_formed body ≡ false
+    over body more = let no : nat_le (length body) MAX_COMMAND ≡ false = search (rules, arith, more) in rw no refl
+
+    go : (b : Bool) → ends_with_byte 13 line ≡ b → is_well_formed (strip_last 13 line) ≡ false
+    go true e =
+        let cut : strip_last 13 line ≡ take (length line - 1) line = rw e refl in
+        let count = length-take (length line - 1) line in
+        ap is_well_formed cut ∙ over (take (length line - 1) line) (omega arith)
+    go false e = let cut : strip_last 13 line ≡ line = rw e refl in ap is_well_formed cut ∙ over line (omega arith)
+
+-- such a line was taken
+pub long_taken : (old now new : Option (List ℕ)) (line : List ℕ) (p : Piece) → p ≡ pieces.TooLong → IfSome old (λ xs. Takes p line (MAX_COMMAND + 1) xs now) → IfSome now (λ ys. new ≡ Some (behind_line ys))
+    → IfSome old (λ xs. TakesCommand (Some Malformed) xs new)
+long_taken None now new line p e t s = tt
+long_taken (Some xs) None new line p e t s = let t' = subst (λ q. Takes q line (MAX_COMMAND + 1) xs None) e t in absurd t'.1
+long_taken (Some xs) (Some ys) new line p e t s =
+    let t' = subst (λ q. Takes q line (MAX_COMMAND + 1) xs (Some ys)) e t in
+    (unsaid (long_line (first_line xs) t'.0), s ∙ ap Some t'.1)

@@ -1,0 +1,13 @@
+use Rattle.std.proofs.Common.{◌≤◌}
+use Rattle.ic_lines.specs.Left.{left, work}
+use Rattle.ic_session.proofs.InputFacts.{HasRead}
+use Rattle.ic_session.proofs.net_input.read_net_text.Given as goal
+
+abbrev pub invariant-loop-line : goal.invariant-loop-line
+invariant-loop-line g l = record {
+  read : HasRead (left l.fn.input (g.R.Read.remaining l.fn.reader)) (left l.input (g.R.Read.remaining l.reader)) l.text.items;
+  fewer : l.input.reads ≤ l.fn.input.reads;
+}
+
+abbrev pub decreases-loop-line : goal.decreases-loop-line
+decreases-loop-line g l = work l.input

@@ -1,0 +1,10 @@
+pub mod InputLines
+pub mod Words
+pub mod Commands
+pub mod NetInput
+pub mod NextCommand
+pub mod Texts
+pub mod Standing
+pub mod Replies
+pub mod Turns
+pub mod Sessions

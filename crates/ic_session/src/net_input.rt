@@ -1,0 +1,65 @@
+ghost use Rattle.std.specs.Prelude.{◌≡◌, ◌++◌, IfErr, IfOk, IfSome, OnOk};
+ghost use Rattle.ic_lines.specs.Left.{left};
+ghost use Rattle.ic_lines.specs.Faults.{IsReadFault};
+ghost use Rattle.ic_session.specs.InputLines.{is_bar, whole_line};
+ghost use Rattle.ic_session.specs.NetInput.{ReadsNet};
+
+use ic_grammar::limits::MAX_TEXT;
+use ic_lines::{Input, IoFault, Piece};
+use std::alloc::{AllocError, Global};
+use std::io::Read;
+
+/// The net text of a session: all in front of the bar.
+#[derive(Drop)]
+pub enum NetInput {
+    Whole(Vec<u8>),
+    /// It has more bytes than a net text may have. Reading stops where that is known.
+    TooLong,
+}
+
+/// Whether the line parts the net from the commands.
+fn is_bar(line: &[u8]) -> bool
+    ensures { result ≡ is_bar line.now }
+{
+    matches!(line, b"---" | b"---\r")
+}
+
+/// Reads the net text of a session, and the bar behind it. `IoFault::Read` where the reader fails or no call of it is
+/// left, `IoFault::Memory` where there is no memory.
+pub fn read_net_text<R: Read>(
+    alloc: Global,
+    input: &mut Input,
+    reader: &mut R,
+) -> Result<NetInput, IoFault>
+    ensures read { IfOk result (λ net. IfSome (left input.old (R.remaining reader.old)) (λ bytes. ReadsNet net bytes (left input.new (R.remaining reader.new)))) }
+    ensures fault { IfErr result (IsReadFault input.old.reads input.new.reads) }
+{
+    let mut text = Vec::new(alloc);
+    let mut line = Vec::new(alloc);
+    loop {
+        match input.next_line(reader, &mut line, MAX_TEXT)? {
+            Piece::End => return Ok(NetInput::Whole(text)),
+            Piece::TooLong => return Ok(NetInput::TooLong),
+            Piece::Line(ended) => {
+                if is_bar(&line) {
+                    return Ok(NetInput::Whole(text));
+                }
+                append(&mut text, &line, ended)?;
+                if text.len() > MAX_TEXT {
+                    return Ok(NetInput::TooLong);
+                }
+            }
+        }
+    }
+}
+
+/// Puts a line at the end, as it stood in the input.
+fn append(text: &mut Vec<u8>, line: &[u8], ended: bool) -> Result<(), AllocError>
+    ensures { OnOk result (text.new.items ≡ text.old.items ++ whole_line (record { bytes = line.now; ended = ended })) }
+{
+    text.extend_from_slice(line)?;
+    if ended {
+        text.push(b'\n')?;
+    }
+    Ok(())
+}

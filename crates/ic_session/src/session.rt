@@ -1,0 +1,122 @@
+ghost use Rattle.std.specs.Prelude.{◌≡◌, ◌≢◌, ◌<◌, ◌≤◌, ℕ, List, IfErr, IfOk, IfSome, IsSome, OnErr, OnOk};
+ghost use Rattle.std.specs.Io.KnownBytes.{Appends};
+ghost use Rattle.ic_lines.specs.Left.{left, work};
+ghost use Rattle.ic_lines.specs.Faults.{AppendsFront, IsReadFault};
+ghost use Rattle.ic_lines.specs.declared.piece.IoFault.TheVariants.{Read};
+ghost use Rattle.ic_session.specs.InputLines.{lines};
+ghost use Rattle.ic_theory.specs.Machine.{State};
+ghost use Rattle.ic_journal.specs.Benches.{IsAt};
+ghost use Rattle.ic_session.specs.Texts.{refusal_line};
+ghost use Rattle.ic_session.specs.NextCommand.{TakesCommand};
+ghost use Rattle.ic_session.specs.Sessions.{AreAnswers, AreBegun, IsBegun, Writes};
+ghost use Rattle.ic_session.specs.declared.session.Status.TheVariants.{NetRefused};
+
+use crate::answer::carry_out;
+use crate::command::{Command, MAX_COMMAND, command_of};
+use crate::named::refusal_line;
+use crate::net_input::{NetInput, read_net_text};
+use ic_grammar::Refusal;
+use ic_journal::{Bench, Store};
+use ic_lines::{Input, IoFault, Piece, write_reply};
+use ic_text::{TextFault, read_net};
+use std::alloc::Global;
+use std::io::{Read, Write};
+
+/// The calls of `read` that a session makes, at most; after so many, it ends with `IoFault::Read`.
+pub const MAX_READS: u32 = 1_073_741_824;
+
+/// How a session ended.
+#[derive(Clone, Copy, Debug, PartialEq, Eq)]
+pub enum Status {
+    /// The input ended, and each command was answered.
+    Ended,
+    /// The net text was refused, and its first fault was named.
+    NetRefused,
+}
+
+/// Runs a session: reads a net as text and commands, and writes an answer to each command.
+///
+/// `IoFault::Read` where the reader fails or `MAX_READS` calls were made, `IoFault::Write` where the writer fails, and
+/// `IoFault::Memory` where there is no memory. What was written by then is a front of what a session may write.
+pub fn run_session<R: Read, W: Write>(
+    alloc: Global,
+    reader: &mut R,
+    writer: &mut W,
+) -> Result<Status, IoFault>
+    ensures written { IfOk result (λ status. IfSome (R.remaining reader.old) (λ input. Writes input status (W.contents writer.old) (W.contents writer.new))) }
+    ensures begun { OnErr result (IfSome (R.remaining reader.old) (λ input. (text : List ℕ) × IsBegun input text × Appends (W.contents writer.old) (W.contents writer.new) text)) }
+{
+    let mut input = Input::new(alloc, MAX_READS)?;
+    let text = match read_net_text(alloc, &mut input, reader)? {
+        NetInput::TooLong => return refuse(alloc, Refusal::TooLong, writer),
+        NetInput::Whole(text) => text,
+    };
+    let start = match read_net(alloc, &text) {
+        Ok(start) => start,
+        Err(TextFault::Memory) => return Err(IoFault::Memory),
+        Err(TextFault::Refused(refusal)) => return refuse(alloc, refusal, writer),
+    };
+    let mut bench = Bench::over(alloc, start)?;
+    answer_all(alloc, &mut bench, &mut input, reader, writer)?;
+    Ok(Status::Ended)
+}
+
+/// Names the fault of a net text.
+fn refuse<W: Write>(alloc: Global, refusal: Refusal, writer: &mut W) -> Result<Status, IoFault>
+    ensures named { IfOk result (λ status. (status ≡ NetRefused) × Appends (W.contents writer.old) (W.contents writer.new) (refusal_line refusal)) }
+    ensures front { OnErr result (AppendsFront (W.contents writer.old) (W.contents writer.new) (refusal_line refusal)) }
+    ensures fault { IfErr result (λ fault. fault ≢ Read) }
+{
+    let line = refusal_line(alloc, refusal)?;
+    write_reply(writer, &line)?;
+    Ok(Status::NetRefused)
+}
+
+/// Answers the lines that are left.
+fn answer_all<R: Read, W: Write>(
+    alloc: Global,
+    bench: &mut Bench<Store>,
+    input: &mut Input,
+    reader: &mut R,
+    writer: &mut W,
+) -> Result<(), IoFault>
+    ensures answered { OnOk result (IfSome (left input.old (R.remaining reader.old)) (λ bytes. (st : State) → IsAt bench.old st →
+        (text : List ℕ) × AreAnswers bench.old.start st (lines bytes) text × Appends (W.contents writer.old) (W.contents writer.new) text)) }
+    ensures begun { OnErr result (IfSome (left input.old (R.remaining reader.old)) (λ bytes. (st : State) → IsAt bench.old st →
+        (text : List ℕ) × AreBegun bench.old.start st (lines bytes) text × Appends (W.contents writer.old) (W.contents writer.new) text)) }
+    ensures fault { IfErr result (λ fault. fault ≡ Read → IsReadFault input.old.reads input.new.reads Read) }
+{
+    let mut line = Vec::new(alloc);
+    loop {
+        match next_command(alloc, input, reader, &mut line)? {
+            Some(command) => {
+                let reply = carry_out(alloc, bench, command);
+                write_reply(writer, reply.bytes())?;
+            }
+            None => return Ok(()),
+        }
+    }
+}
+
+/// The command of the next line; `None` where the input has ended. `line` is room for a line.
+fn next_command<R: Read>(
+    alloc: Global,
+    input: &mut Input,
+    reader: &mut R,
+    line: &mut Vec<u8>,
+) -> Result<Option<Command>, IoFault>
+    ensures taken { IfOk result (λ command. IfSome (left input.old (R.remaining reader.old))
+        (λ bytes. TakesCommand command bytes (left input.new (R.remaining reader.new)))) }
+    ensures less { IfOk result (λ command. IsSome command → work input.new < work input.old) }
+    ensures fewer { input.new.reads ≤ input.old.reads }
+    ensures fault { IfErr result (IsReadFault input.old.reads input.new.reads) }
+{
+    match input.next_line(reader, line, MAX_COMMAND + 1)? {
+        Piece::Line(_) => Ok(Some(command_of(alloc, line)?)),
+        Piece::TooLong => {
+            input.skip_line(reader)?;
+            Ok(Some(Command::Malformed))
+        }
+        Piece::End => Ok(None),
+    }
+}

@@ -1,0 +1,61 @@
+-- Elements at the places of a list, and what is told of their images.
+use Rattle.std.proofs.Common.{◌≡◌, ℕ, zero, suc, ◌+◌, ◌<◌, Bool, true, false, ◌||◌, List, [], ◌∷◌, ◌++◌, map, length, get_or, take, ◌⊎◌, inl, inr, refl, ap, sym, subst, arith, add-one, ◌∙◌}
+use Rattle.std.specs.List.{AllByRecursion, list_any}
+use Rattle.std.specs.List.Sorted.{IsStrictlySortedBy}
+use Rattle.std.specs.declared.cmp.Ordering.{Ordering}
+use Rattle.std.specs.declared.cmp.Ordering.TheVariants.{Less}
+use Rattle.ic_path.specs.Orders.{Pick, here, there, IsIn}
+use Rattle.ic_path.proofs.Picks.{in_first, in_more, in-cons_cases, pick_behind}
+
+-- the element at a place, with those before it and those behind it
+pub record At {X Y : Type 0} (f : X → Y) (xs : List X) (k : ℕ) (d : Y) : Type 0 where
+  pub item : X
+  pub behind : List X
+  pub image : get_or (map f xs) k d ≡ f item
+  pub next : take (k + 1) xs ≡ take k xs ++ item ∷ []
+  pub whole : xs ≡ take k xs ++ item ∷ behind
+
+-- there is one at each place below the length
+pub at : {X Y : Type 0} (f : X → Y) (xs : List X) (k : ℕ) (d : Y) → k < length (map f xs) → At f xs k d
+at f [] k d h = absurd (omega (arith, h))
+at f (x ∷ xs) zero d h = record { item = x; behind = xs; image = refl; next = refl; whole = refl }
+at f (x ∷ xs) (suc k) d h =
+    let a = at f xs k d (omega (arith, h)) in
+    record { item = a.item; behind = a.behind; image = a.image; next = rw add-one (ap (λ ys. x ∷ ys) (rw add-one at a.next)); whole = ap (λ ys. x ∷ ys) a.whole }
+
+-- what a test finds among images is the image of an element
+pub any_image : {X Y : Type 0} (test : Y → Bool) (f : X → Y) (xs : List X) → list_any test (map f xs) ≡ true → (x : X) × IsIn x xs × (test (f x) ≡ true)
+any_image test f [] h = cc
+any_image {X} test f (x ∷ xs) h = by (test (f x)) refl h (any_image test f xs)
+  where
+    by : (b : Bool) → test (f x) ≡ b → b || list_any test (map f xs) ≡ true → (list_any test (map f xs) ≡ true → (y : X) × IsIn y xs × (test (f y) ≡ true)) → (y : X) × IsIn y (x ∷ xs) × (test (f y) ≡ true)
+    by true e i again = (x, in_first x xs, e)
+    by false e i again = let r = again i in (r.0, in_more x r.1, r.2)
+
+-- and it finds the image of each element that passes
+pub image_any : {X Y : Type 0} (test : Y → Bool) (f : X → Y) {xs rest : List X} {x : X} → Pick x xs rest → test (f x) ≡ true → list_any test (map f xs) ≡ true
+image_any test f here e = rw e refl
+image_any test f (there {y = y} k) e = or_true (test (f y)) (image_any test f k e)
+  where
+    or_true : (b : Bool) {c : Bool} → c ≡ true → b || c ≡ true
+    or_true true h = refl
+    or_true false h = h
+
+-- in a sorted list, what is behind an element is greater
+pub sorted_behind : {X Y : Type 0} (cmp : Y → Y → Ordering) (f : X → Y) (front back : List X) (x y : X) → IsStrictlySortedBy cmp (map f (front ++ x ∷ back)) → IsIn y back → cmp (f x) (f y) ≡ Less
+unfolding IsStrictlySortedBy
+sorted_behind {X} {Y} cmp f [] back x y up i = below back up.0 i
+  where
+    below : (zs : List X) → AllByRecursion (λ w. cmp (f x) w ≡ Less) (map f zs) → IsIn y zs → cmp (f x) (f y) ≡ Less
+    below [] all (rest, k) = elim k [ ]
+    below (z ∷ zs) all j = elim (in-cons_cases j) [ inl e ↦ ap (λ w. cmp (f x) (f w)) e ∙ all.0 | inr r ↦ below zs all.1 r ]
+sorted_behind cmp f (z ∷ front) back x y up i = sorted_behind cmp f front back x y up.1 i
+
+-- what is in a list is before an element of it, that element, or behind it
+pub parts : {X : Type 0} {y : X} (front : List X) {x : X} {back : List X} → IsIn y (front ++ x ∷ back) → IsIn y front ⊎ ((y ≡ x) ⊎ IsIn y back)
+parts [] i = inr (in-cons_cases i)
+parts (z ∷ front) i = elim (in-cons_cases i) [ inl e ↦ inl (front, subst (λ w. Pick w (z ∷ front) front) (sym e) here) | inr j ↦ elim (parts front j) [ inl f ↦ inl (in_more z f) | inr r ↦ inr r ] ]
+
+-- that element is in the list
+pub in_part : {X : Type 0} (front : List X) (x : X) (back : List X) → IsIn x (front ++ x ∷ back)
+in_part front x back = (front ++ back, pick_behind front here)

@@ -1,0 +1,29 @@
+use Rattle.std.proofs.Common.{subst}
+use Rattle.ic_set.specs.Orders.{IsAny}
+use Rattle.ic_undo.specs.Backwards.{AreUndoneBack}
+use Rattle.ic_undo.proofs.StayedBenches.{unchanged}
+use Rattle.ic_undo.proofs.FreeOrders.{all_with_dependents}
+use Rattle.ic_undo.proofs.Unwinds.{ids_of_free, unwound, dont_fit, nothing_left}
+use Rattle.ic_undo.proofs.unwinding.undo_all.Goals as goal
+
+pub returns-in_default-clause-fault : goal.returns-in_default-clause-fault
+returns-in_default-clause-fault g c = unchanged c.args.bench.now
+
+pub undo_back-requires : goal.undo_back-requires
+undo_back-requires g c = rw c.deref.ensures.value (ids_of_free c.args.bench.now IsAny c.in-Ok.ids.items c.lawful.ensures (all_with_dependents c.args.bench.now) c.in-Ok.ensures)
+
+pub returns-in-Ok-undo_back-clause-undone : goal.returns-in-Ok-undo_back-clause-undone
+returns-in-Ok-undo_back-clause-undone g c =
+    unwound c.args.bench.now c.undo_back.new.bench IsAny c.in-Ok.ids.items c.in-Ok-undo_back.names.items c.lawful.ensures (all_with_dependents c.args.bench.now) c.in-Ok.ensures
+    (subst (λ ids. AreUndoneBack c.args.bench.now ids c.in-Ok-undo_back.names.items c.undo_back.new.bench) c.deref.ensures.value c.in-Ok-undo_back.ensures.undone)
+
+pub returns-in-Ok-undo_back-clause-nothing : goal.returns-in-Ok-undo_back-clause-nothing
+returns-in-Ok-undo_back-clause-nothing g c =
+    nothing_left c.args.bench.now c.undo_back.new.bench c.in-Ok-undo_back.names.items c.lawful.ensures.set.own_lines
+    (unwound c.args.bench.now c.undo_back.new.bench IsAny c.in-Ok.ids.items c.in-Ok-undo_back.names.items c.lawful.ensures (all_with_dependents c.args.bench.now) c.in-Ok.ensures
+    (subst (λ ids. AreUndoneBack c.args.bench.now ids c.in-Ok-undo_back.names.items c.undo_back.new.bench) c.deref.ensures.value c.in-Ok-undo_back.ensures.undone))
+
+pub returns-in-Err-HistoryFull-clause-fault : goal.returns-in-Err-HistoryFull-clause-fault
+returns-in-Err-HistoryFull-clause-fault g c =
+    let fault = rw (c.in-Err-HistoryFull.field-0-is, c.deref.ensures.value) at c.in-Err-HistoryFull.ensures.fault in
+    (dont_fit c.args.bench.now IsAny c.in-Ok.ids.items c.in-Ok.ensures fault.0, fault.1)

@@ -1,0 +1,4 @@
+pub mod Faults
+pub mod Undone
+pub mod Backwards
+pub mod Unwinding

@@ -1,0 +1,85 @@
+ghost use Rattle.std.specs.Prelude.{◌≡◌, List, Some, map, reverse, IfErr, IfOk};
+ghost use Rattle.ic_name.specs.Events.{pair};
+ghost use Rattle.ic_path.specs.Orders.{IsIn};
+ghost use Rattle.ic_roster.specs.Rosters.{Stander};
+ghost use Rattle.ic_journal.specs.Reads.{StandsIn};
+ghost use Rattle.ic_undo.specs.Backwards.{AreIdsOfFree, AreUndoneBack, ArentUndoneBack};
+
+use ic_journal::{Bench, LinkStore, ReserveFault};
+use ic_name::{Event, EventId, EventName};
+use std::alloc::{AllocError, Global};
+
+/// Why events aren't undone.
+#[derive(Clone, Copy)]
+pub(crate) enum BackFault {
+    HistoryFull,
+    Memory,
+}
+
+/// Undoes these events, the last one first, and answers their names in that order. The names are made, and the room is
+/// reserved, before the first of them is undone.
+pub(crate) fn undo_back<L: LinkStore>(
+    alloc: Global,
+    bench: &mut Bench<L>,
+    ids: &[EventId],
+) -> Result<Vec<EventName>, BackFault>
+    requires { AreIdsOfFree bench.old ids.now }
+    ensures undone { IfOk result (λ names. AreUndoneBack bench.old ids.now names.items bench.new) }
+    ensures fault { IfErr result (λ fault. ArentUndoneBack bench.old ids.now fault bench.new) }
+{
+    bench.lawful();
+    let Ok(names) = names_backwards(alloc, bench, ids) else {
+        return Err(BackFault::Memory);
+    };
+    match bench.reserve(ids.len()) {
+        Ok(()) => {}
+        Err(ReserveFault::HistoryFull) => return Err(BackFault::HistoryFull),
+        Err(ReserveFault::Memory) => return Err(BackFault::Memory),
+    }
+    for place in (0..ids.len()).rev() {
+        bench.lawful();
+        let Ok(()) = bench.undo(ids[place]) else {
+            return Err(BackFault::Memory);
+        };
+    }
+    Ok(names)
+}
+
+/// The names of these events, that of the last one first.
+fn names_backwards<L: LinkStore>(
+    alloc: Global,
+    bench: &Bench<L>,
+    ids: &[EventId],
+) -> Result<Vec<EventName>, AllocError>
+    ensures { IfOk result (λ names. (order : List Stander) → ((x : Stander) → IsIn x order → IsIn x bench.now.events) → map (λ x. x.id) order ≡ ids.now → map (λ x. pair x.event) (reverse order) ≡ names.items) }
+{
+    let mut names = Vec::with_capacity(alloc, ids.len())?;
+    for place in (0..ids.len()).rev() {
+        let Some(name) = name_under(bench, ids[place])? else {
+            continue;
+        };
+        names.push(name)?;
+    }
+    Ok(names)
+}
+
+/// The name of the standing event whose firing is the line of the id.
+fn name_under<L: LinkStore>(bench: &Bench<L>, id: EventId) -> Result<Option<EventName>, AllocError>
+    ensures { IfOk result (λ name. (x : Stander) → StandsIn bench.now id x → name ≡ Some (pair x.event)) }
+{
+    bench.lawful();
+    match bench.event_of(id)? {
+        Some(event) => name_of(&event),
+        None => Ok(None),
+    }
+}
+
+/// The name of an event.
+fn name_of(event: &Event) -> Result<Option<EventName>, AllocError>
+    ensures { IfOk result (λ name. name ≡ Some (pair event.now)) }
+{
+    event.lawful();
+    let lead = event.lead().copy()?;
+    let other = event.other().copy()?;
+    Ok(EventName::of(lead, other))
+}

@@ -1,0 +1,54 @@
+ghost use Rattle.std.specs.Prelude.{◌≡◌};
+ghost use Rattle.ic_undo.specs.Faults.{undo_all_number, unwind_number};
+
+use thiserror::Error;
+
+/// Why an event isn't unwound.
+#[derive(Clone, Copy, Debug, PartialEq, Eq, Error)]
+pub enum UnwindFault {
+    /// No event stands that was fired in the line of the id.
+    #[error("no such event stands")]
+    NotStanding,
+    /// The history would have more lines than it may have.
+    #[error("the history has no room for so many lines")]
+    HistoryFull,
+    /// Memory ran out.
+    #[error("memory ran out while unwinding")]
+    Memory,
+}
+
+/// Why not all events are undone.
+#[derive(Clone, Copy, Debug, PartialEq, Eq, Error)]
+pub enum UndoAllFault {
+    /// The history would have more lines than it may have.
+    #[error("the history has no room for so many lines")]
+    HistoryFull,
+    /// Memory ran out.
+    #[error("memory ran out while undoing")]
+    Memory,
+}
+
+impl UnwindFault {
+    /// The number of the refusal: 24, 25 or 31.
+    pub fn number(self) -> u8
+        ensures { result ≡ unwind_number self }
+    {
+        match self {
+            UnwindFault::NotStanding => 31,
+            UnwindFault::HistoryFull => 24,
+            UnwindFault::Memory => 25,
+        }
+    }
+}
+
+impl UndoAllFault {
+    /// The number of the refusal: 24 or 25.
+    pub fn number(self) -> u8
+        ensures { result ≡ undo_all_number self }
+    {
+        match self {
+            UndoAllFault::HistoryFull => 24,
+            UndoAllFault::Memory => 25,
+        }
+    }
+}

@@ -1,0 +1,63 @@
+ghost use Rattle.std.specs.Prelude.{◌≡◌, [], IfErr, IfOk, OnOk};
+ghost use Rattle.ic_set.specs.Orders.{IsAny};
+ghost use Rattle.ic_undo.specs.Undone.{IsUnwound, RestsOn};
+ghost use Rattle.ic_undo.specs.Unwinding.{ArentUndone, IsntUnwound};
+
+use crate::backwards::{BackFault, undo_back};
+use crate::faults::{UndoAllFault, UnwindFault};
+use crate::resting::resting_on;
+use ic_journal::{Bench, LinkStore};
+use ic_name::{EventId, EventName};
+use std::alloc::Global;
+
+/// Undoes an event with all events that rest on it: those that depend on it directly or through others. They are undone
+/// the last in canonical order first, and their names are answered in that order. Each undoing adds a line.
+///
+/// `NotStanding` where no standing event was fired in the line of the id; else `HistoryFull` exactly where a line for
+/// each of them doesn't fit into the history; `Memory` may stand in its place. A refused call changes nothing but the
+/// room.
+pub fn unwind<L: LinkStore>(
+    alloc: Global,
+    bench: &mut Bench<L>,
+    id: EventId,
+) -> Result<Vec<EventName>, UnwindFault>
+    ensures unwound { IfOk result (λ names. IsUnwound bench.old (RestsOn bench.old id.line) names.items bench.new) }
+    ensures fault { IfErr result (λ fault. IsntUnwound bench.old id fault bench.new) }
+{
+    bench.lawful();
+    if bench.rank(id).is_none() {
+        return Err(UnwindFault::NotStanding);
+    }
+    let Ok(ids) = resting_on(alloc, bench, id) else {
+        return Err(UnwindFault::Memory);
+    };
+    match undo_back(alloc, bench, &ids) {
+        Ok(names) => Ok(names),
+        Err(BackFault::HistoryFull) => Err(UnwindFault::HistoryFull),
+        Err(BackFault::Memory) => Err(UnwindFault::Memory),
+    }
+}
+
+/// Undoes all events, the last in canonical order first, and answers their names in that order. The net is then that of
+/// the start.
+///
+/// `HistoryFull` exactly where a line for each of them doesn't fit into the history; `Memory` may stand in its place. A
+/// refused call changes nothing but the room.
+pub fn undo_all<L: LinkStore>(
+    alloc: Global,
+    bench: &mut Bench<L>,
+) -> Result<Vec<EventName>, UndoAllFault>
+    ensures undone { IfOk result (λ names. IsUnwound bench.old IsAny names.items bench.new) }
+    ensures nothing { OnOk result (bench.new.events ≡ []) }
+    ensures fault { IfErr result (λ fault. ArentUndone bench.old fault bench.new) }
+{
+    bench.lawful();
+    let Ok(ids) = bench.standing() else {
+        return Err(UndoAllFault::Memory);
+    };
+    match undo_back(alloc, bench, &ids) {
+        Ok(names) => Ok(names),
+        Err(BackFault::HistoryFull) => Err(UndoAllFault::HistoryFull),
+        Err(BackFault::Memory) => Err(UndoAllFault::Memory),
+    }
+}
