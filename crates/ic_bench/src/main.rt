@@ -11,7 +11,7 @@ use std::process::ExitCode;
 fn main(rt: HostRuntime) -> ExitCode {
     let mut reader = rt.reader();
     let mut writer = io::writer(&rt);
-    match run_session(rt.alloc(), &mut reader, &mut writer) {
+    match run_session(rt.alloc(), &mut reader, &mut writer, 1_048_576) {
         Ok(Status::Ended) => ExitCode::from(0),
         Ok(Status::NetRefused) => ExitCode::from(2),
         Err(fault) => {

@@ -1,17 +1,20 @@
 -- What a bench keeps through a call.
-use Rattle.std.proofs.Common.{◌≡◌, ◌+◌, ◌≤◌, ◌<◌, map, Err, List, [], ◌∷◌, ◌++◌, ◌∙◌, length, ◌⊎◌, inl, inr, refl, ap, arith, length-append}
+use Rattle.std.proofs.Common.{◌≡◌, ◌≢◌, ◌+◌, ◌≤◌, ◌<◌, map, Err, List, [], ◌∷◌, ◌++◌, ◌∙◌, length, ◌⊎◌, inl, inr, refl, ap, arith, length-append}
+use Rattle.std.proofs.lemmas.List.{length-map}
 use Rattle.ic_name.specs.Events.{Event}
 use Rattle.ic_name.specs.declared.ids.EventId.{EventId}
 use Rattle.ic_name.specs.declared.limits.TheConstants.{MAX_LINES}
 use Rattle.ic_name.specs.declared.lines.Call.{Call}
 use Rattle.ic_name.specs.declared.lines.Call.TheVariants.{Fire}
 use Rattle.ic_name.specs.declared.lines.Reply.{Reply}
+use Rattle.ic_name.specs.declared.lines.Line.{Line}
 use Rattle.ic_path.specs.Orders.{IsIn, none}
-use Rattle.ic_path.proofs.Alikes.{alike_self, alike_back, alike_then, alike-map, alike-in}
-use Rattle.ic_path.proofs.Picks.{in_first, in_more, in-cons_cases, pick_behind, pick-map}
+use Rattle.ic_path.proofs.Alikes.{alike_self, alike_back, alike_then, alike-map, alike-in, alike-length}
+use Rattle.ic_path.proofs.Picks.{length-pick, in_first, in_more, in-cons_cases, pick_behind, pick-map}
 use Rattle.ic_theory.specs.Starts.{Start, IsProper}
-use Rattle.ic_theory.specs.Machine.{State, initial, noted, Answers, begins, goes_on}
+use Rattle.ic_theory.specs.Machine.{State, initial, noted, Answers, not_active, deep, full, fired, not_standing, held, undone, IsHistory, begins, goes_on}
 use Rattle.ic_theory.proofs.Machines.{history_kept, history_length}
+use Rattle.ic_shown.proofs.Elements.{in_behind, in-append_cases}
 use Rattle.ic_roster.specs.Rosters.{Member, Stander}
 use Rattle.ic_set.specs.Views.{SetView}
 use Rattle.ic_set.specs.Changes.{IsSame, Admits, TakesOut}
@@ -22,15 +25,6 @@ use Rattle.ic_journal.specs.declared.verdict.Refusal.{Refusal}
 use Rattle.ic_journal.specs.declared.verdict.Refusal.TheVariants.{NotActive, Deep, Full}
 use Rattle.ic_journal.specs.Verdicts.{reply_of, fault_of}
 use Rattle.ic_journal.proofs.MachineSteps.{noted_step}
-
--- a member of a list stands in a longer one
-in_behind : {X : Type 0} {x : X} (ys : List X) {xs : List X} → IsIn x xs → IsIn x (ys ++ xs)
-in_behind ys i = (ys ++ i.0, pick_behind ys i.1)
-
--- a member of two lists is one of the first or of the second
-in-append_cases : {X : Type 0} {x : X} (xs : List X) {ys : List X} → IsIn x (xs ++ ys) → IsIn x xs ⊎ IsIn x ys
-in-append_cases [] i = inr i
-in-append_cases (y ∷ xs) i = elim (in-cons_cases i) [ inl e ↦ inl (rw e (in_first y xs)) | inr j ↦ elim (in-append_cases xs j) [ inl k ↦ inl (in_more y k) | inr k ↦ inr k ] ]
 
 -- a line more
 pub length-noted : {X : Type 0} (old : List X) {new : List X} (x : X) → new ≡ old ++ x ∷ [] → length new ≡ length old + 1
@@ -89,6 +83,33 @@ pub lines_below : (old : BenchView) → IsProper old.start → IsRunning old →
 lines_below old ok r x i =
     let b = (history_kept old.start ok r.at.history).below (fired_in x) (alike-in r.at.standing (map fired_in i.0, pick-map fired_in i.1)) in
     let n = history_length r.at.history in
+    omega arith
+
+-- so none was fired in the next line
+pub next_line_new : (old : BenchView) → IsProper old.start → IsRunning old → (x : Stander) → IsIn x old.events → x.id.line ≢ length old.lines
+next_line_new old ok r x i e = let b = lines_below old ok r x i in omega arith
+
+-- no more events stand after a history than it has lines
+few_standing : {s : Start} {lines : List Line} {st : State} → IsHistory s lines st → length st.standing ≤ st.lines
+few_standing begins = omega arith
+few_standing (goes_on h a) = few_answered a (few_standing h)
+  where
+    few_answered : {s : Start} {st next : State} {call : Call} {reply : Reply} → Answers s st call reply next → length st.standing ≤ st.lines → length next.standing ≤ next.lines
+    few_answered (not_active n) few = omega arith
+    few_answered (deep a d) few = omega arith
+    few_answered (full a n f) few = omega arith
+    few_answered (fired a n m) few = omega arith
+    few_answered (not_standing n) few = omega arith
+    few_answered (held i e j l) few = omega arith
+    few_answered (undone k e n) few = let long = length-pick k in omega arith
+
+-- nor more than there are lines
+pub few_events : (old : BenchView) → IsRunning old → length old.events ≤ length old.lines
+few_events old r =
+    let few = few_standing r.at.history in
+    let count = history_length r.at.history in
+    let same = alike-length r.at.standing in
+    let long = length-map old.events fired_in in
     omega arith
 
 -- what a bench keeps, it keeps where its set is the same and only its room changes

@@ -27,7 +27,7 @@ use Rattle.ic_journal.specs.Calls.{Steps}
 use Rattle.ic_journal.proofs.SameSets.{full-alike, dependent-alike, least-alike}
 
 -- the events of what is noted with their lines
-fired_events : (xs : List Stander) → map (λ (y : Standing). y.event) (map fired_in xs) ≡ events_of xs
+pub fired_events : (xs : List Stander) → map (λ (y : Standing). y.event) (map fired_in xs) ≡ events_of xs
 fired_events [] = refl
 fired_events (x ∷ xs) = ap (λ ys. x.event ∷ ys) (fired_events xs)
 

@@ -2,6 +2,7 @@ ghost use Rattle.std.specs.Prelude.{◌≡◌, ◌≢◌, ◌≤◌, All, List, 
 ghost use Rattle.ic_name.specs.Events.{Event as AnEvent, event_of, pair};
 ghost use Rattle.ic_name.specs.declared.kinds.Kind.{Kind as AKind};
 ghost use Rattle.ic_path.specs.Orders.{Alike, IsIn};
+ghost use Rattle.ic_theory.specs.Active.{IsActive};
 ghost use Rattle.ic_theory.specs.Firings.{AreAfterCauses, then_fired};
 ghost use Rattle.ic_theory.specs.Listed.{shown};
 ghost use Rattle.ic_theory.specs.Nets.{IsSameNet, net_of};
@@ -9,7 +10,7 @@ ghost use Rattle.ic_theory.specs.Steps.{AreDefined, steps};
 ghost use Rattle.ic_roster.specs.Rosters.{Stander, IsNewName};
 ghost use Rattle.ic_set.specs.Views.{standing};
 ghost use Rattle.ic_set.specs.Orders.{AreInOrder, AreRanked, IsAny};
-ghost use Rattle.ic_set.specs.Pairs.{IsPairOf, AreActivePairs};
+ghost use Rattle.ic_set.specs.Pairs.{IsPairOf, IsLeastPair, AreActivePairs};
 ghost use Rattle.ic_journal.specs.Views.{set_of};
 ghost use Rattle.ic_journal.specs.Proposals.{Proposes};
 ghost use Rattle.ic_journal.specs.Reads.{IsKindOf, IsNameOf, IsEventUnder, IsRankOf, AreCausesOf, AreDependentsOf};
@@ -143,6 +144,14 @@ impl<L: LinkStore> Bench<L> {
         ensures { IfOk result (λ events. AreRanked (set_of self.now) events.items) }
     {
         self.set.ranked()
+    }
+
+    /// The active pair with the least lead; `None` where no pair is active. It takes no memory.
+    pub fn least_active(&self) -> Option<ActivePair>
+        ensures found { IfSome result (λ pair. IsLeastPair (set_of self.now) pair) }
+        ensures absent { IfNone result ((e : AnEvent) → IsActive self.now.start (standing (set_of self.now)) e → ⊥) }
+    {
+        self.set.least_active()
     }
 
     /// The active pairs, by lead.

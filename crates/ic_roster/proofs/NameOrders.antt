@@ -1,12 +1,13 @@
 -- The table of ids has the agents in order of their names.
-use Rattle.std.proofs.Common.{◌≡◌, List, [], ◌∷◌, map, Option, Some, None, All, refl, sym, ap, subst, ◌∙◌}
+use Rattle.std.proofs.Common.{◌≡◌, List, [], ◌∷◌, map, Bool, true, false, Option, Some, None, inl, inr, refl, sym, ap, subst, ◌∙◌}
 use Rattle.std.specs.BTreeMap.{is_at}
 use Rattle.std.specs.List.Sorted.{IsStrictlySortedBy}
 use Rattle.std.specs.Map.{keys_of, values_of}
-use Rattle.std.proofs.lemmas.List.Elements.{All-contains}
+use Rattle.std.specs.declared.cmp.Ordering.TheVariants.{Less, Equal}
+use Rattle.std.proofs.lemmas.Map.Entries.{lookup_head, lookup_tail}
 use Rattle.std.proofs.lemmas.Map.Keys.{sorted_tail}
 use Rattle.ic_path.specs.Orders.{IsIn}
-use Rattle.ic_path.proofs.Picks.{pick-map, in-contains}
+use Rattle.ic_path.proofs.Picks.{none_in, pick-map, in-cons_cases}
 use Rattle.ic_path.proofs.EachOnce.{IsOnce, once_alike}
 use Rattle.ic_name.specs.Names.{Name, name_cmp}
 use Rattle.ic_name.specs.declared.kinds.Kind.{Kind}
@@ -41,11 +42,27 @@ has_entry slots ids h x i =
     let same : agent_of slots d.0 ≡ member_at (x.id.slot, r.0) = λ u. record { id = d.3 u; name = n u; kind = kind u } in
     subst (λ y. IsIn y (map (agent_of slots) ids)) (same ∙ sym r.2) (map (agent_of slots) d.1.0, pick-map (agent_of slots) d.1.1)
 
+-- a look-up finds each entry of a table by rising name
+found_there : (ids : List (Name × AgentId)) → IsStrictlySortedBy name_cmp (keys_of ids) → (e : Name × AgentId) → IsIn e ids → id_under ids e.0 ≡ Some e.1
+found_there [] up e i = absurd (none_in i)
+found_there (d ∷ ds) up e i = elim (in-cons_cases i) [
+  | inl same ↦ subst (λ z. id_under (d ∷ ds) z.0 ≡ Some z.1) (sym same) (lookup_head (is_at (name_cmp d.0)) d ds (name_test d.0).passes)
+  | inr j ↦ lookup_tail (is_at (name_cmp e.0)) d ds (passed j (is_at (name_cmp e.0) d.0) refl) ∙ found_there ds (sorted_tail name_cmp d.0 (keys_of ds) up) e j
+]
+  where
+    passed : IsIn e ds → (b : Bool) → is_at (name_cmp e.0) d.0 ≡ b → is_at (name_cmp e.0) d.0 ≡ false
+    passed j false q = q
+    passed j true q =
+        let same : d.0 ≡ e.0 = (name_test e.0).only d.0 q in
+        let less : name_cmp e.0 e.0 ≡ Less = subst (λ n. name_cmp n e.0 ≡ Less) same (first_below name_cmp d ds up e j) in
+        let tied : name_cmp e.0 e.0 ≡ Equal = name_tied_itself e.0 in
+        absurd cc
+
 -- the agent of each entry is there
-is_there : (slots : List (Option AgentRecord)) (ids : List (Name × AgentId)) → IsIndexed slots ids → All (λ e. id_under ids e.0 ≡ Some e.1) ids → (x : Member) → IsIn x (map (agent_of slots) ids) → IsIn x (members_in slots)
-is_there slots ids h found x i =
+is_there : (slots : List (Option AgentRecord)) (ids : List (Name × AgentId)) → IsIndexed slots ids → IsStrictlySortedBy name_cmp (keys_of ids) → (x : Member) → IsIn x (map (agent_of slots) ids) → IsIn x (members_in slots)
+is_there slots ids h up x i =
     let p = picked_image (agent_of slots) ids i.1 in
-    let k = h.kept p.0.0 p.0.1 (All-contains (λ e. id_under ids e.0 ≡ Some e.1) ids p.0 found (in-contains (p.1, p.2))) in
+    let k = h.kept p.0.0 p.0.1 (found_there ids up p.0 (p.1, p.2)) in
     let kind : k.0.kind ≡ kind_in (slot_at slots p.0.1.slot) = sym (ap kind_in k.1) in
     let same : record { id = p.0.1; name = k.0.name; kind = k.0.kind } ≡ agent_of slots p.0 = λ u. record { id = p.0.1; name = k.2 u; kind = kind u } in
     subst (λ y. IsIn y (members_in slots)) (same ∙ sym p.3) (is_under slots p.0.1 k.0 k.1 k.3)
@@ -64,11 +81,11 @@ ids_of_entries slots [] = refl
 ids_of_entries slots (e ∷ es) = ap (λ js. e.1 ∷ js) (ids_of_entries slots es)
 
 -- the ids of the table are those of the agents, in order of their names
-pub by_name : (slots : List (Option AgentRecord)) (ids : List (Name × AgentId)) → IsIndexed slots ids → IsStrictlySortedBy name_cmp (keys_of ids) → All (λ e. id_under ids e.0 ≡ Some e.1) ids
+pub by_name : (slots : List (Option AgentRecord)) (ids : List (Name × AgentId)) → IsIndexed slots ids → IsStrictlySortedBy name_cmp (keys_of ids)
     → AreByName (members_in slots) (values_of ids)
-by_name slots ids h sorted found = record {
+by_name slots ids h sorted = record {
   order = map (agent_of slots) ids;
-  alike = once_alike (members_in slots) (map (agent_of slots) ids) once (shown_once name_cmp name_tied_itself (agent_of slots) (λ m. m.name) (λ e. refl) ids sorted) (has_entry slots ids h) (is_there slots ids h found);
+  alike = once_alike (members_in slots) (map (agent_of slots) ids) once (shown_once name_cmp name_tied_itself (agent_of slots) (λ m. m.name) (λ e. refl) ids sorted) (has_entry slots ids h) (is_there slots ids h sorted);
   rising = entries_rise slots ids sorted;
   named = ids_of_entries slots ids;
 }

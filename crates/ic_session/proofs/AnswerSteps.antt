@@ -5,49 +5,54 @@ use Rattle.ic_theory.specs.Starts.{Start}
 use Rattle.ic_theory.specs.Machine.{State}
 use Rattle.ic_session.specs.declared.command.Command.{Command}
 use Rattle.ic_session.specs.declared.command.Command.TheVariants.{Nothing}
-use Rattle.ic_session.specs.Commands.{is_well_formed, IsCommand, said, unsaid, AreWordsOf, asked, malformed, no_words}
+use Rattle.ic_session.specs.Commands.{is_well_formed, IsCommand, within, said, unsaid, AreWordsOf, asked, malformed, no_words}
 use Rattle.ic_session.specs.InputLines.{lines, TextLine}
 use Rattle.ic_session.specs.Replies.{Replies, nothing, memory}
 use Rattle.ic_session.specs.Sessions.{AreAnswers, none, more, AreBegun}
 use Rattle.ic_session.proofs.InputFacts.{line_with_feed, line_without_feed}
 
 -- the text answers the first of these lines, up to the others, and leads from the one state to the other
-pub record Leads (s : Start) (st next : State) (ls others : List TextLine) (text : List ℕ) : Type 0 where
+pub record Leads (s : Start) (budget : ℕ) (st next : State) (ls others : List TextLine) (text : List ℕ) : Type 0 where
   pub answered : List TextLine
   pub parts : ls ≡ answered ++ others
-  pub answers : (further : List TextLine) (behind : List ℕ) → AreAnswers s next further behind → AreAnswers s st (answered ++ further) (text ++ behind)
+  pub answers : (further : List TextLine) (behind : List ℕ) → AreAnswers s budget next further behind
+      → AreAnswers s budget st (answered ++ further) (text ++ behind)
 
 -- without an answer, all stays
-pub leads_none : (s : Start) (st : State) (ls : List TextLine) → Leads s st st ls ls []
-leads_none s st ls = record { answered = []; parts = refl; answers = λ further behind a. a }
+pub leads_none : (s : Start) (budget : ℕ) (st : State) (ls : List TextLine) → Leads s budget st st ls ls []
+leads_none s budget st ls = record { answered = []; parts = refl; answers = λ further behind a. a }
 
 -- answers, and others behind them
-pub leads_more : (s : Start) (st mid next : State) (ls between others : List TextLine) (text reply : List ℕ) → Leads s st mid ls between text → Leads s mid next between others reply
-    → Leads s st next ls others (text ++ reply)
-leads_more s st mid next ls between others text reply h k = record {
+pub leads_more : (s : Start) (budget : ℕ) (st mid next : State) (ls between others : List TextLine) (text reply : List ℕ)
+    → Leads s budget st mid ls between text → Leads s budget mid next between others reply
+    → Leads s budget st next ls others (text ++ reply)
+leads_more s budget st mid next ls between others text reply h k = record {
   answered = h.answered ++ k.answered;
   parts = h.parts ∙ ap (λ zs. h.answered ++ zs) k.parts ∙ sym (append_assoc h.answered k.answered others);
   answers = λ further behind a. rw (append_assoc h.answered k.answered further, append_assoc text reply behind) (h.answers (k.answered ++ further) (reply ++ behind) (k.answers further behind a));
 }
 
 -- the lines up to the others are answered
-leads_answers : (s : Start) (st next : State) (ls others : List TextLine) (text : List ℕ) (h : Leads s st next ls others text) → AreAnswers s st h.answered text
-leads_answers s st next ls others text h =
-    subst (λ t. AreAnswers s st h.answered t) (append-nil text) (subst (λ zs. AreAnswers s st zs (text ++ [])) (append-nil h.answered) (h.answers [] [] none))
+leads_answers : (s : Start) (budget : ℕ) (st next : State) (ls others : List TextLine) (text : List ℕ) (h : Leads s budget st next ls others text)
+    → AreAnswers s budget st h.answered text
+leads_answers s budget st next ls others text h =
+    subst (λ t. AreAnswers s budget st h.answered t) (append-nil text) (subst (λ zs. AreAnswers s budget st zs (text ++ [])) (append-nil h.answered) (h.answers [] [] none))
 
 -- where there are no others, all lines are
-pub leads_all : (s : Start) (st next : State) (ls : List TextLine) (text : List ℕ) → Leads s st next ls [] text → AreAnswers s st ls text
-leads_all s st next ls text h = subst (λ zs. AreAnswers s st zs text) (sym (append-nil h.answered) ∙ sym h.parts) (leads_answers s st next ls [] text h)
+pub leads_all : (s : Start) (budget : ℕ) (st next : State) (ls : List TextLine) (text : List ℕ)
+    → Leads s budget st next ls [] text → AreAnswers s budget st ls text
+leads_all s budget st next ls text h = subst (λ zs. AreAnswers s budget st zs text) (sym (append-nil h.answered) ∙ sym h.parts) (leads_answers s budget st next ls [] text h)
 
 -- a front of the answers
-pub leads_begun : (s : Start) (st next : State) (ls others : List TextLine) (whole text behind : List ℕ) → Leads s st next ls others whole → whole ≡ text ++ behind → AreBegun s st ls text
-leads_begun s st next ls others whole text behind h e = record {
+pub leads_begun : (s : Start) (budget : ℕ) (st next : State) (ls others : List TextLine) (whole text behind : List ℕ)
+    → Leads s budget st next ls others whole → whole ≡ text ++ behind → AreBegun s budget st ls text
+leads_begun s budget st next ls others whole text behind h e = record {
   answered = h.answered;
   others = others;
   whole = whole;
   behind = behind;
   parts = h.parts;
-  answers = leads_answers s st next ls others whole h;
+  answers = leads_answers s budget st next ls others whole h;
   front = e;
 }
 
@@ -67,27 +72,31 @@ empty_line (said w a) = words_none a
 empty_line (unsaid w) = absurd (apart (sym well_formed_none ∙ w))
 
 -- nothing is answered to it
-nothing_answered : {s : Start} {st next : State} {reply : List ℕ} → Replies s st Nothing reply next → (reply ≡ []) × (next ≡ st)
+nothing_answered : {s : Start} {st next : State} {reply : List ℕ} → Replies s st Nothing reply next
+    → (reply ≡ []) × (next ≡ st)
 nothing_answered nothing = (refl, refl)
-nothing_answered (memory n m) = absurd (n refl)
+nothing_answered (memory want) = absurd want
 
 -- the answer to a line
-leads_line : (s : Start) (st next : State) (line : TextLine) (ls : List TextLine) (c : Command) (reply : List ℕ) → IsCommand line.bytes c → Replies s st c reply next → Leads s st next (line ∷ ls) ls reply
-leads_line s st next line ls c reply k r = record { answered = line ∷ []; parts = refl; answers = λ further behind a. more k r a }
+leads_line : (s : Start) (budget : ℕ) (st next : State) (line : TextLine) (ls : List TextLine) (c : Command) (reply : List ℕ)
+    → IsCommand line.bytes c → Replies s st (within budget c) reply next → Leads s budget st next (line ∷ ls) ls reply
+leads_line s budget st next line ls c reply k r = record { answered = line ∷ []; parts = refl; answers = λ further behind a. more k r a }
 
 -- the answer to the first line of what is left; where nothing is, it is no answer
-pub leads_first : (s : Start) (st next : State) (ys : List ℕ) (c : Command) (reply : List ℕ) → IsCommand (first_line ys) c → Replies s st c reply next
-    → Leads s st next (lines ys) (lines (behind_line ys)) reply
-leads_first s st next ys c reply k r = go (has_feed ys) refl
+pub leads_first : (s : Start) (budget : ℕ) (st next : State) (ys : List ℕ) (c : Command) (reply : List ℕ)
+    → IsCommand (first_line ys) c → Replies s st (within budget c) reply next
+    → Leads s budget st next (lines ys) (lines (behind_line ys)) reply
+leads_first s budget st next ys c reply k r = go (has_feed ys) refl
   where
-    alone : (zs : List ℕ) → has_feed zs ≡ false → IsCommand (first_line zs) c → Leads s st next (lines zs) (lines (behind_line zs)) reply
+    alone : (zs : List ℕ) → has_feed zs ≡ false → IsCommand (first_line zs) c
+        → Leads s budget st next (lines zs) (lines (behind_line zs)) reply
     alone [] h k =
-        let n = nothing_answered (subst (λ d. Replies s st d reply next) (empty_line k) r) in
-        rw (n.0, n.1) (leads_none s st [])
+        let n = nothing_answered (subst (λ d. Replies s st (within budget d) reply next) (empty_line k) r) in
+        rw (n.0, n.1) (leads_none s budget st [])
     alone (z ∷ zs) h k =
         let w = line_without_feed z zs h in
-        rw (w.0, w.2) (leads_line s st next (record { bytes = z ∷ zs; ended = false }) [] c reply (subst (λ t. IsCommand t c) w.1 k) r)
+        rw (w.0, w.2) (leads_line s budget st next (record { bytes = z ∷ zs; ended = false }) [] c reply (subst (λ t. IsCommand t c) w.1 k) r)
 
-    go : (b : Bool) → has_feed ys ≡ b → Leads s st next (lines ys) (lines (behind_line ys)) reply
-    go true e = rw (line_with_feed ys e) (leads_line s st next (record { bytes = first_line ys; ended = true }) (lines (behind_line ys)) c reply k r)
+    go : (b : Bool) → has_feed ys ≡ b → Leads s budget st next (lines ys) (lines (behind_line ys)) reply
+    go true e = rw (line_with_feed ys e) (leads_line s budget st next (record { bytes = first_line ys; ended = true }) (lines (behind_line ys)) c reply k r)
     go false e = alone ys e k

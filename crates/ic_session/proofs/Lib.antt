@@ -16,3 +16,8 @@ pub mod TurnSteps
 pub mod FiringReplies
 pub mod UndoingReplies
 pub mod ToldReplies
+pub mod UndoneInTurn
+pub mod UnwoundEvents
+pub mod UnwindingReplies
+pub mod FiredInTurn
+pub mod LeastFired

@@ -1,5 +1,5 @@
 -- Turns: answers that change nothing, and answers of one step of the machine.
-use Rattle.std.proofs.Common.{◌≡◌, ◌≢◌, ℕ, ◌<◌, List, refl, sym, subst, arith}
+use Rattle.std.proofs.Common.{◌≡◌, ℕ, ◌<◌, List, refl, sym, subst, arith}
 use Rattle.ic_name.specs.declared.limits.TheConstants.{MAX_LINES}
 use Rattle.ic_name.specs.declared.lines.Call.{Call}
 use Rattle.ic_name.specs.declared.lines.Reply.{Reply}
@@ -11,9 +11,8 @@ use Rattle.ic_journal.specs.Benches.{fired_in, IsAt, IsBench}
 use Rattle.ic_journal.specs.Calls.{Steps, Stays}
 use Rattle.ic_journal.proofs.Answering.{length-noted}
 use Rattle.ic_session.specs.declared.command.Command.{Command}
-use Rattle.ic_session.specs.declared.command.Command.TheVariants.{Nothing, Malformed}
 use Rattle.ic_session.specs.declared.refused.Refused.TheVariants as refused
-use Rattle.ic_session.specs.Replies.{Replies, memory}
+use Rattle.ic_session.specs.Replies.{Replies, MayWant, memory}
 use Rattle.ic_session.specs.Texts.{refusal_text}
 use Rattle.ic_session.specs.Turns.{Tells, Turns}
 
@@ -26,25 +25,25 @@ pub told_same : (old new : BenchView) (c : Command) (text : List ℕ) → new �
 told_same old new c text same tells = subst (λ (v : BenchView). Turns old c text v) (sym same) (told old c text tells)
 
 -- a bench that stays is at the same states
-still_at : (old new : BenchView) → Stays old new → (st : State) → IsAt old st → IsAt new st
+pub still_at : (old new : BenchView) → Stays old new → (st : State) → IsAt old st → IsAt new st
 still_at old new stays st at = record {
   history = rw (stays.same.start, stays.lines) at.history;
   standing = alike_then (alike_back (alike-map fired_in stays.same.events)) at.standing;
 }
 
 -- where memory is wanting, a bench may stay
-pub stays_for_memory : (old new : BenchView) (c : Command) → c ≢ Nothing → c ≢ Malformed → Stays old new → Turns old c (refusal_text refused.Memory) new
-stays_for_memory old new c some formed stays = record {
+pub stays_for_memory : (old new : BenchView) (c : Command) → MayWant c → Stays old new → Turns old c (refusal_text refused.Memory) new
+stays_for_memory old new c want stays = record {
   start = stays.same.start;
-  replies = λ st at. (st, memory some formed, still_at old new stays st at);
+  replies = λ st at. (st, memory want, still_at old new stays st at);
 }
 
 -- a command that asks for something may be refused for memory
-pub tells_memory : (v : BenchView) (c : Command) → c ≢ Nothing → c ≢ Malformed → Tells v c (refusal_text refused.Memory)
-tells_memory v c some formed = λ st at. memory some formed
+pub tells_memory : (v : BenchView) (c : Command) → MayWant c → Tells v c (refusal_text refused.Memory)
+tells_memory v c want = λ st at. memory want
 
 -- a step is made only where the history has room
-line_left : (old new : BenchView) (call : Call) (answer : Reply) → IsBench new → Steps old call answer new → (st : State) → IsAt old st → st.lines < MAX_LINES
+pub line_left : (old new : BenchView) (call : Call) (answer : Reply) → IsBench new → Steps old call answer new → (st : State) → IsAt old st → st.lines < MAX_LINES
 line_left old new call answer bench steps st at =
     let count = history_length at.history in
     let more = length-noted old.lines _ steps.lines in

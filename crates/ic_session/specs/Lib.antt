@@ -5,6 +5,9 @@ pub mod NetInput
 pub mod NextCommand
 pub mod Texts
 pub mod Standing
+pub mod Unwinding
+pub mod Reducing
 pub mod Replies
+pub mod Reduced
 pub mod Turns
 pub mod Sessions

@@ -1,5 +1,5 @@
 -- What a command is answered, and what state it leaves.
-use Rattle.std.specs.Prelude.{◌≡◌, ◌≢◌, ◌<◌, List, [], codes, ℕ}
+use Rattle.std.specs.Prelude.{◌≡◌, ◌<◌, ◌≤◌, List, [], codes, length, ℕ}
 use Rattle.ic_name.specs.Events.{Event, Pair, pair}
 use Rattle.ic_name.specs.declared.limits.TheConstants.{MAX_LINES}
 use Rattle.ic_name.specs.declared.lines.Call.TheVariants as call
@@ -8,15 +8,17 @@ use Rattle.ic_path.specs.Orders.{IsIn}
 use Rattle.ic_theory.specs.Starts.{Start}
 use Rattle.ic_theory.specs.Nets.{net_of, IsSameNet}
 use Rattle.ic_theory.specs.Listed.{ListedNet, IsListing, shown}
-use Rattle.ic_theory.specs.Active.{ArePresent}
+use Rattle.ic_theory.specs.Active.{IsActive, ArePresent}
 use Rattle.ic_theory.specs.Machine.{Standing, State, events, Answers}
 use Rattle.ic_print.specs.NetText.{net_text}
 use Rattle.ic_cause.specs.Journals.{Ranked, journal_text}
 use Rattle.ic_session.specs.declared.command.Command.{Command}
-use Rattle.ic_session.specs.declared.command.Command.TheVariants.{Nothing, Net, Active, Journal, Fire, Undo, Why, Malformed}
+use Rattle.ic_session.specs.declared.command.Command.TheVariants.{Nothing, Net, Active, Journal, Fire, Undo, Why, Unwind, UndoAll, Reduce, Malformed}
 use Rattle.ic_session.specs.declared.refused.Refused.TheVariants as refused
-use Rattle.ic_session.specs.Texts.{pair_line, active_text, why_text, refusal_text}
+use Rattle.ic_session.specs.Texts.{pair_line, active_text, why_text, unwound_text, undone_all_text, reduced_text, wanting_after, refusal_text}
 use Rattle.ic_session.specs.Standing.{AreActive, AreJournal, HasRank, AreCauses}
+use Rattle.ic_session.specs.Unwinding.{RestsOn, IsAnyEvent, AreLastFirst, DontFit, events_of, AreUndoneInTurn}
+use Rattle.ic_session.specs.Reducing.{IsNormal, AreFiredInTurn, MeetsLimit}
 
 -- a standing event of this name
 pub record IsNamed (st : State) (p : Pair) (x : Standing) : Type 0 where
@@ -35,6 +37,20 @@ pub record IsPresent (s : Start) (st : State) (p : Pair) (e : Event) : Type 0 wh
 -- one of the two agents isn't there
 abbrev pub NoneIsPresent : Start → State → Pair → Type 0
 NoneIsPresent s st p = (e : Event) → ¬ (IsPresent s st p e)
+
+-- a command that may find no memory before it has changed anything
+abbrev pub MayWant : Command → Type 0
+MayWant Nothing = ⊥
+MayWant Malformed = ⊥
+MayWant (Reduce most) = ⊥
+MayWant Net = Unit {0}
+MayWant Active = Unit {0}
+MayWant Journal = Unit {0}
+MayWant (Why p) = Unit {0}
+MayWant (Fire p) = Unit {0}
+MayWant (Undo p) = Unit {0}
+MayWant (Unwind p) = Unit {0}
+MayWant UndoAll = Unit {0}
 
 -- the answer to a command, and the state after it
 pub data Replies (s : Start) (st : State) : Command → List ℕ → State → Type 0 where
@@ -64,4 +80,21 @@ pub data Replies (s : Start) (st : State) : Command → List ℕ → State → T
       → Answers s st (call.Undo x.line) (reply.Held y.line) next → Replies s st (Undo p) (pair_line (codes "refused 32 held by ") (pair y.event)) next
   undo_held_memory : {p : Pair} {x y : Standing} {next : State} → IsNamed st p x → st.lines < MAX_LINES → IsIn y st.standing
       → Answers s st (call.Undo x.line) (reply.Held y.line) next → Replies s st (Undo p) (refusal_text refused.Memory) next
-  memory : {c : Command} → c ≢ Nothing → c ≢ Malformed → Replies s st c (refusal_text refused.Memory) st
+  unwind_not_standing : {p : Pair} → NoneIsNamed st p → Replies s st (Unwind p) (refusal_text refused.NotStanding) st
+  unwind_history_full : {p : Pair} {x : Standing} {es : List Event} → IsNamed st p x → AreLastFirst s (events st) (RestsOn s (events st) x.event) es
+      → DontFit st es → Replies s st (Unwind p) (refusal_text refused.HistoryFull) st
+  unwound : {p : Pair} {x : Standing} {xs : List Standing} {next : State} → IsNamed st p x
+      → AreLastFirst s (events st) (RestsOn s (events st) x.event) (events_of xs) → AreUndoneInTurn s st xs next
+      → Replies s st (Unwind p) (unwound_text (events_of xs)) next
+  undo_all_history_full : {es : List Event} → AreLastFirst s (events st) IsAnyEvent es → DontFit st es
+      → Replies s st UndoAll (refusal_text refused.HistoryFull) st
+  undone_all : {xs : List Standing} {next : State} → AreLastFirst s (events st) IsAnyEvent (events_of xs) → AreUndoneInTurn s st xs next
+      → Replies s st UndoAll (undone_all_text (length xs)) next
+  reduced_normal : {most n : ℕ} {next : State} → AreFiredInTurn s n st next → n ≤ most → IsNormal s (events next)
+      → Replies s st (Reduce most) (reduced_text n (codes "normal")) next
+  reduced_budget : {most : ℕ} {e : Event} {next : State} → AreFiredInTurn s most st next → IsActive s (events next) e
+      → Replies s st (Reduce most) (reduced_text most (codes "budget")) next
+  reduced_limit : {most n : ℕ} {mid next : State} → AreFiredInTurn s n st mid → n < most → MeetsLimit s mid next
+      → Replies s st (Reduce most) (reduced_text n (codes "limit")) next
+  reduced_memory : {most n : ℕ} {next : State} → AreFiredInTurn s n st next → n < most → Replies s st (Reduce most) (wanting_after n) next
+  memory : {c : Command} → MayWant c → Replies s st c (refusal_text refused.Memory) st

@@ -31,6 +31,22 @@ active_text es = codes "active " ++ decimal (length es) ++ codes "\n" ++ flat_ma
 abbrev pub why_text : Pair → ℕ → List Event → List ℕ
 why_text p rank causes = codes "why " ++ pair_text p ++ codes " rank " ++ decimal rank ++ codes " causes " ++ decimal (length causes) ++ codes "\n" ++ flat_map event_line causes
 
+-- the events that were undone, in the order in which they were
+abbrev pub unwound_text : List Event → List ℕ
+unwound_text es = codes "unwound " ++ decimal (length es) ++ codes "\n" ++ flat_map event_line es
+
+-- how many events were undone
+abbrev pub undone_all_text : ℕ → List ℕ
+undone_all_text n = codes "undone-all " ++ decimal n ++ codes "\n"
+
+-- how many events were fired, and what ended it
+abbrev pub reduced_text : ℕ → List ℕ → List ℕ
+reduced_text n end = codes "reduced " ++ decimal n ++ codes " " ++ end ++ codes "\n"
+
+-- memory was wanting after so many firings
+abbrev pub wanting_after : ℕ → List ℕ
+wanting_after n = codes "refused 25 memory after " ++ decimal n ++ codes "\n"
+
 -- the line of a refusal
 abbrev pub refusal_text : Refused → List ℕ
 refusal_text NotActive = codes "refused 21 not active\n"

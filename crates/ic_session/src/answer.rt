@@ -6,7 +6,9 @@ ghost use Rattle.ic_session.specs.Turns.{Turns};
 use crate::changing::{fire, undo};
 use crate::command::Command;
 use crate::reading;
+use crate::reducing::reduce;
 use crate::refused::Refused;
+use crate::unwinding::{undo_everything, undo_with_dependents};
 use crate::why::why;
 use ic_journal::{Bench, Store};
 use std::alloc::{AllocError, Global};
@@ -32,20 +34,28 @@ impl Answer {
     }
 }
 
-/// Carries out a command over a bench. The answer is `Refused::Memory` where there is no memory, and then neither net nor
-/// standing set have changed.
-pub fn carry_out(alloc: Global, bench: &mut Bench<Store>, command: Command) -> Answer
-    ensures { Turns bench.old command (answer_text result) bench.new }
+/// Carries out a command over a bench. Where there is no memory for it, the answer is a refusal, and then neither net nor
+/// standing set have changed, but for what a `reduce` says that it has fired. An error where there is no memory for the
+/// answer to a command that has changed them.
+pub fn carry_out(
+    alloc: Global,
+    bench: &mut Bench<Store>,
+    command: Command,
+) -> Result<Answer, AllocError>
+    ensures { IfOk result (λ answer. Turns bench.old command (answer_text answer) bench.new) }
 {
     match command {
-        Command::Nothing => Answer::Text(Vec::new(alloc)),
-        Command::Malformed => Answer::Refused(Refused::Command),
-        Command::Net => text_or_memory(reading::net(alloc, bench)),
-        Command::Active => text_or_memory(reading::active(alloc, bench)),
-        Command::Journal => text_or_memory(reading::journal(alloc, bench)),
-        Command::Why(event) => answer_or_memory(why(alloc, bench, &event)),
-        Command::Fire(event) => fire(alloc, bench, &event),
-        Command::Undo(event) => undo(alloc, bench, &event),
+        Command::Nothing => Ok(Answer::Text(Vec::new(alloc))),
+        Command::Malformed => Ok(Answer::Refused(Refused::Command)),
+        Command::Net => Ok(text_or_memory(reading::net(alloc, bench))),
+        Command::Active => Ok(text_or_memory(reading::active(alloc, bench))),
+        Command::Journal => Ok(text_or_memory(reading::journal(alloc, bench))),
+        Command::Why(event) => Ok(answer_or_memory(why(alloc, bench, &event))),
+        Command::Fire(event) => Ok(fire(alloc, bench, &event)),
+        Command::Undo(event) => Ok(undo(alloc, bench, &event)),
+        Command::Unwind(event) => undo_with_dependents(alloc, bench, &event),
+        Command::UndoAll => undo_everything(alloc, bench),
+        Command::Reduce(most) => reduce(alloc, bench, most),
     }
 }
 

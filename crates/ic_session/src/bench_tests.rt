@@ -3,9 +3,19 @@ use std::test::Fail;
 
 /// Whether a session over memory ends well, and has then written this.
 fn answers(rt: &HostRuntime, input: &[u8], output: &[u8]) -> Result<bool, Fail> {
+    answers_within(rt, 1_048_576, input, output)
+}
+
+/// The same of a session of this budget.
+fn answers_within(
+    rt: &HostRuntime,
+    budget: u32,
+    input: &[u8],
+    output: &[u8],
+) -> Result<bool, Fail> {
     let mut reader = input;
     let mut writer = Vec::new(rt.alloc());
-    let ended = run_session(rt.alloc(), &mut reader, &mut writer);
+    let ended = run_session(rt.alloc(), &mut reader, &mut writer, budget);
     Ok(ended == Ok(Status::Ended) && writer.as_slice() == output)
 }
 
@@ -106,6 +116,43 @@ fn words_that_are_no_commands(rt: HostRuntime) -> Result<(), Fail> {
         b"E = E;\n---\nfire 0\nfire 0 0\nfire 0 9\nundo 0 1\nwhy 0 1\nfire 0 1 2\nfire 00 1\nwhy 0 1.4\njournal 1\njournal\nfire 1 0\nwhy 1 0\n";
     let output =
         b"refused 40 command\nrefused 40 command\nrefused 21 not active\nrefused 31 not standing\nrefused 31 not standing\nrefused 40 command\nrefused 40 command\nrefused 40 command\nrefused 40 command\njournal 0\nfired 0 1\nwhy 0 1 rank 0 causes 0\n";
+    assert!(rt; answers(&rt, input, output)?);
+    Ok(())
+}
+
+#[test]
+fn what_rests_on_an_event_is_undone_with_it(rt: HostRuntime) -> Result<(), Fail> {
+    let input =
+        b"G(E,a) = D(b,E);\n---\nfire 0 2\nfire 1 0.0\nfire 3 0.3\nundo 0 2\nfire 1.1 3.0\nwhy 1.1 3.0\nunwind 3 0.3\n";
+    let output =
+        b"fired 0 2\nfired 1 0.0\nfired 3 0.3\nrefused 32 held by 1 0.0\nfired 1.1 3.0\nwhy 1.1 3.0 rank 2 causes 3\n0 2\n1 0.0\n3 0.3\nunwound 2\n1.1 3.0\n3 0.3\n";
+    assert!(rt; answers(&rt, input, output)?);
+    Ok(())
+}
+
+#[test]
+fn a_net_without_a_normal_form_is_reduced_and_unwound(rt: HostRuntime) -> Result<(), Fail> {
+    let input =
+        b"G(x,a) = D(x,b);\n---\nfire 0 1\nfire 0.0 0.2\nreduce 2\nunwind 0.0 0.2\nundo-all\n";
+    let output =
+        b"fired 0 1\nfired 0.0 0.2\nreduced 2 budget\nunwound 3\n0.0.0.0 0.0.0.2\n0.0.0 0.0.2\n0.0 0.2\nundone-all 1\n";
+    assert!(rt; answers(&rt, input, output)?);
+    Ok(())
+}
+
+#[test]
+fn no_more_is_fired_than_the_budget(rt: HostRuntime) -> Result<(), Fail> {
+    let input = b"G(x,a) = D(x,b);\n---\nreduce 3\n";
+    assert!(rt; answers_within(&rt, 1, input, b"reduced 1 budget\n")?);
+    Ok(())
+}
+
+#[test]
+fn numbers_and_normal_forms(rt: HostRuntime) -> Result<(), Fail> {
+    let input =
+        b"E = E;\n---\nreduce 5\nreduce 0\nreduce 01\nreduce\nreduce 1048577\nundo-all\nundo-all\n";
+    let output =
+        b"reduced 1 normal\nreduced 0 normal\nrefused 40 command\nrefused 40 command\nrefused 40 command\nundone-all 1\nundone-all 0\n";
     assert!(rt; answers(&rt, input, output)?);
     Ok(())
 }

@@ -1,11 +1,12 @@
 ghost use Rattle.std.specs.Prelude.{◌≡◌, ◌≢◌, [], IfOk};
 ghost use Rattle.std.specs.List.{list_all};
 ghost use Rattle.std.specs.Io.BufRead.{strip_last};
-ghost use Rattle.ic_session.specs.Commands.{AreWordsOf, IsCommand, IsEventIn, IsNameIn, is_comment, is_plain, is_well_formed};
+ghost use Rattle.ic_session.specs.Commands.{AreNumber, AreWordsOf, IsCommand, IsEventIn, IsNameIn, IsNumberIn, is_comment, is_plain, is_well_formed, within};
 ghost use Rattle.ic_session.specs.Words.{words};
 ghost use Rattle.ic_session.specs.declared.command.Command.TheVariants.{Malformed};
 
 use crate::words::next_word;
+use ic_name::limits::MAX_LINES;
 use ic_name::{AgentName, EventName, NameFault};
 use std::alloc::{AllocError, Global};
 
@@ -29,8 +30,26 @@ pub enum Command {
     Undo(EventName),
     /// The rank and the direct causes of an event.
     Why(EventName),
+    /// To undo an event with all that rests on it.
+    Unwind(EventName),
+    /// To undo all events.
+    UndoAll,
+    /// To fire active pairs, at most so many.
+    Reduce(u32),
     /// No command.
     Malformed,
+}
+
+impl Command {
+    /// The command in a session that fires at most so many events at once.
+    pub fn within(self, budget: u32) -> Command
+        ensures { result ≡ within budget self }
+    {
+        match self {
+            Command::Reduce(most) => Command::Reduce(most.min(budget)),
+            other => other,
+        }
+    }
 }
 
 /// The command of a line without its line feed. An error where there is no memory for the names in it.
@@ -98,6 +117,13 @@ fn command_of_words(alloc: Global, body: &[u8]) -> Result<Command, AllocError>
         Ok(alone(behind, Command::Active))
     } else if word == b"journal".as_slice() {
         Ok(alone(behind, Command::Journal))
+    } else if word == b"undo-all".as_slice() {
+        Ok(alone(behind, Command::UndoAll))
+    } else if word == b"reduce".as_slice() {
+        Ok(match number_in(alloc, behind)? {
+            Some(most) => Command::Reduce(most),
+            None => Command::Malformed,
+        })
     } else if word == b"fire".as_slice() {
         Ok(match event_in(alloc, behind)? {
             Some(event) => Command::Fire(event),
@@ -111,6 +137,11 @@ fn command_of_words(alloc: Global, body: &[u8]) -> Result<Command, AllocError>
     } else if word == b"why".as_slice() {
         Ok(match event_in(alloc, behind)? {
             Some(event) => Command::Why(event),
+            None => Command::Malformed,
+        })
+    } else if word == b"unwind".as_slice() {
+        Ok(match event_in(alloc, behind)? {
+            Some(event) => Command::Unwind(event),
             None => Command::Malformed,
         })
     } else {
@@ -160,4 +191,33 @@ fn name_in(alloc: Global, word: &[u8]) -> Result<Option<AgentName>, AllocError>
         Err(NameFault::Memory) => Err(AllocError),
         Err(_) => Ok(None),
     }
+}
+
+/// The number that the words of a line write; `None` where they aren't one number that a history may be long.
+fn number_in(alloc: Global, line: &[u8]) -> Result<Option<u32>, AllocError>
+    ensures { IfOk result (λ number. AreNumber (words line.now) number) }
+{
+    let Some((word, rest)) = next_word(line) else {
+        return Ok(None);
+    };
+    if next_word(rest).is_some() {
+        return Ok(None);
+    }
+    number_of(alloc, word)
+}
+
+/// The number that a word writes, without leading zeros; `None` where it writes none that a history may be long.
+fn number_of(alloc: Global, word: &[u8]) -> Result<Option<u32>, AllocError>
+    ensures { IfOk result (λ number. IsNumberIn word.now number) }
+{
+    let Ok(text) = str::from_utf8(word) else {
+        return Ok(None);
+    };
+    let Ok(number) = text.parse::<u32>() else {
+        return Ok(None);
+    };
+    if number as usize > MAX_LINES || format!(in alloc; "{}", number)?.as_bytes() != word {
+        return Ok(None);
+    }
+    Ok(Some(number))
 }

@@ -8,8 +8,10 @@ pub mod laws;
 mod named;
 pub mod net_input;
 mod reading;
+mod reducing;
 pub mod refused;
 pub mod session;
+mod unwinding;
 mod why;
 pub mod words;
 

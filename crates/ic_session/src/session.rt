@@ -34,7 +34,8 @@ pub enum Status {
     NetRefused,
 }
 
-/// Runs a session: reads a net as text and commands, and writes an answer to each command.
+/// Runs a session: reads a net as text and commands, and writes an answer to each command. A `reduce` fires no more than
+/// the budget, whatever it asks for.
 ///
 /// `IoFault::Read` where the reader fails or `MAX_READS` calls were made, `IoFault::Write` where the writer fails, and
 /// `IoFault::Memory` where there is no memory. What was written by then is a front of what a session may write.
@@ -42,9 +43,10 @@ pub fn run_session<R: Read, W: Write>(
     alloc: Global,
     reader: &mut R,
     writer: &mut W,
+    budget: u32,
 ) -> Result<Status, IoFault>
-    ensures written { IfOk result (λ status. IfSome (R.remaining reader.old) (λ input. Writes input status (W.contents writer.old) (W.contents writer.new))) }
-    ensures begun { OnErr result (IfSome (R.remaining reader.old) (λ input. (text : List ℕ) × IsBegun input text × Appends (W.contents writer.old) (W.contents writer.new) text)) }
+    ensures written { IfOk result (λ status. IfSome (R.remaining reader.old) (λ input. Writes budget input status (W.contents writer.old) (W.contents writer.new))) }
+    ensures begun { OnErr result (IfSome (R.remaining reader.old) (λ input. (text : List ℕ) × IsBegun budget input text × Appends (W.contents writer.old) (W.contents writer.new) text)) }
 {
     let mut input = Input::new(alloc, MAX_READS)?;
     let text = match read_net_text(alloc, &mut input, reader)? {
@@ -57,7 +59,7 @@ pub fn run_session<R: Read, W: Write>(
         Err(TextFault::Refused(refusal)) => return refuse(alloc, refusal, writer),
     };
     let mut bench = Bench::over(alloc, start)?;
-    answer_all(alloc, &mut bench, &mut input, reader, writer)?;
+    answer_all(alloc, &mut bench, &mut input, reader, writer, budget)?;
     Ok(Status::Ended)
 }
 
@@ -79,18 +81,19 @@ fn answer_all<R: Read, W: Write>(
     input: &mut Input,
     reader: &mut R,
     writer: &mut W,
+    budget: u32,
 ) -> Result<(), IoFault>
     ensures answered { OnOk result (IfSome (left input.old (R.remaining reader.old)) (λ bytes. (st : State) → IsAt bench.old st →
-        (text : List ℕ) × AreAnswers bench.old.start st (lines bytes) text × Appends (W.contents writer.old) (W.contents writer.new) text)) }
+        (text : List ℕ) × AreAnswers bench.old.start budget st (lines bytes) text × Appends (W.contents writer.old) (W.contents writer.new) text)) }
     ensures begun { OnErr result (IfSome (left input.old (R.remaining reader.old)) (λ bytes. (st : State) → IsAt bench.old st →
-        (text : List ℕ) × AreBegun bench.old.start st (lines bytes) text × Appends (W.contents writer.old) (W.contents writer.new) text)) }
+        (text : List ℕ) × AreBegun bench.old.start budget st (lines bytes) text × Appends (W.contents writer.old) (W.contents writer.new) text)) }
     ensures fault { IfErr result (λ fault. fault ≡ Read → IsReadFault input.old.reads input.new.reads Read) }
 {
     let mut line = Vec::new(alloc);
     loop {
         match next_command(alloc, input, reader, &mut line)? {
             Some(command) => {
-                let reply = carry_out(alloc, bench, command);
+                let reply = carry_out(alloc, bench, command.within(budget))?;
                 write_reply(writer, reply.bytes())?;
             }
             None => return Ok(()),

@@ -42,7 +42,7 @@ impl Write for Full {
 fn runs(rt: &HostRuntime, input: &[u8], status: Status, output: &[u8]) -> Result<bool, Fail> {
     let mut reader = input;
     let mut writer = Vec::new(rt.alloc());
-    let ended = run_session(rt.alloc(), &mut reader, &mut writer);
+    let ended = run_session(rt.alloc(), &mut reader, &mut writer, 1_048_576);
     Ok(ended == Ok(status) && writer.as_slice() == output)
 }
 
@@ -148,11 +148,11 @@ fn lines_that_are_no_commands(rt: HostRuntime) -> Result<(), Fail> {
 #[test]
 fn faults_of_reading_and_writing(rt: HostRuntime) -> Result<(), Fail> {
     let mut writer = Vec::new(rt.alloc());
-    let unread = run_session(rt.alloc(), &mut Broken, &mut writer);
+    let unread = run_session(rt.alloc(), &mut Broken, &mut writer, 1_048_576);
     assert_eq!(rt; unread, Err(IoFault::Read));
     assert!(rt; writer.is_empty());
     let mut reader = b"---\nnet\n".as_slice();
-    let unwritten = run_session(rt.alloc(), &mut reader, &mut Full);
+    let unwritten = run_session(rt.alloc(), &mut reader, &mut Full, 1_048_576);
     assert_eq!(rt; unwritten, Err(IoFault::Write));
     Ok(())
 }
@@ -170,7 +170,7 @@ fn the_parts_alone(rt: HostRuntime) -> Result<(), Fail> {
     assert_eq!(rt; text.as_slice(), b"x = x;\n".as_slice());
     let start = read_net(alloc, &text)?;
     let mut bench = Bench::over(alloc, start)?;
-    let active = carry_out(alloc, &mut bench, Command::Active);
+    let active = carry_out(alloc, &mut bench, Command::Active)?;
     assert_eq!(rt; active.bytes(), b"active 0\n".as_slice());
     assert_eq!(rt; Refused::Deep.line(), b"refused 22 deep\n".as_slice());
     let line = refusal_line(alloc, Refusal::Thrice(4))?;

@@ -1,5 +1,6 @@
 -- The steps of an admission, by what its calls say.
-use Rattle.std.proofs.Common.{◌≡◌, ℕ, ◌+◌, ◌<◌, ◌≤◌, List, refl, sym, arith, ◌∙◌, subst}
+use Rattle.std.proofs.Common.{◌≡◌, ◌≢◌, ℕ, ◌+◌, ◌<◌, ◌≤◌, List, length, refl, sym, arith, ◌∙◌, subst}
+use Rattle.std.proofs.lemmas.List.{length-map}
 use Rattle.ic_name.specs.Names.{Name}
 use Rattle.ic_name.specs.Events.{Event}
 use Rattle.ic_name.specs.declared.kinds.Kind.{Kind}
@@ -14,11 +15,12 @@ use Rattle.ic_path.proofs.Alikes.{alike_self, alike_back}
 use Rattle.ic_link.specs.Links.{IsLawful}
 use Rattle.ic_theory.specs.Born.{born_agents}
 use Rattle.ic_theory.specs.Rules.{born_ends}
+use Rattle.ic_shown.proofs.Elements.{in-map}
 use Rattle.ic_cause.specs.Dependents.{Causes}
 use Rattle.ic_roster.specs.Rosters.{Member, Stander, HaveOwnNames, HaveOwnLines}
 use Rattle.ic_set.specs.declared.pairs.ActivePair.{ActivePair}
 use Rattle.ic_set.specs.Views.{SetView, standing, AreChildren}
-use Rattle.ic_set.specs.Sets.{IsKept}
+use Rattle.ic_set.specs.Sets.{IsStandingSet, IsKept}
 use Rattle.ic_set.specs.Pairs.{IsPairOf}
 use Rattle.ic_set.specs.Changes.{Admits, IsSame}
 use Rattle.ic_set.specs.Entering.{CanEnter, Enters}
@@ -26,6 +28,7 @@ use Rattle.ic_set.specs.Joining.{made_links}
 use Rattle.ic_set.specs.Admission.{AreCausesOf, IsRankOver, CanPutIn, PutsIn}
 use Rattle.ic_set.proofs.Namings.{own_lines_alike}
 use Rattle.ic_set.proofs.KeptOrders.{kept_alike}
+use Rattle.ic_set.proofs.RankBounds.{rank_below_length}
 use Rattle.ic_set.proofs.NewEvents.{sound_more, new_event, no_causes, no_links, causes_kept, causes_once}
 use Rattle.ic_set.proofs.Children.{new_children}
 use Rattle.ic_set.proofs.Admitted.{digits, lawful_more, kept_more}
@@ -42,19 +45,23 @@ same_self w = record { start = refl; agents = alike_self w.agents; events = alik
 pub ends_same : {ends : List (RuleEnd × RuleEnd)} {t t' : Profile} {a a' b b' : Kind} → ends ≡ born_ends t a b → t ≡ t' → a ≡ a' → b ≡ b' → ends ≡ born_ends t' a' b'
 ends_same q r x y = q ∙ (λ u. born_ends (r u) (x u) (y u))
 
+-- the ranks of few events are small
+pub ranks_fit : (v : SetView) → IsStandingSet v → length v.events < MAX_LINES → (x : Stander) → IsIn x v.events → x.rank ≤ MAX_LINES
+ranks_fit v is few x i =
+    let same = is.ranks is.sound.rank is.sound.ranked x i in
+    let low = rank_below_length v.start (standing v) is.sound.rank is.sound.ranked x.event (in-map (λ (y : Stander). y.event) i) in
+    let long = length-map v.events (λ (y : Stander). y.event) in
+    omega arith
+
 module _ (v w : SetView) (seen : v ≡ w) (ls : List Link) (kept : Causes) (k : IsKept v ls kept) (e : Event) (p : ActivePair) (active : IsPairOf w e p)
-    (line : ℕ) (before : (x : Stander) → IsIn x w.events → x.id.line < line) where
+    (line : ℕ) (unused : (x : Stander) → IsIn x w.events → x.id.line ≢ line) where
   -- the pair is active in what was seen
   pair : IsPairOf v e p
   pair = subst (λ (u : SetView). IsPairOf u e p) (sym seen) active
 
-  -- whose lines are lesser
-  later : (x : Stander) → IsIn x v.events → x.id.line < line
-  later = subst (λ (u : SetView). (x : Stander) → IsIn x u.events → x.id.line < line) (sym seen) before
-
-  -- ranks are at most lines, of which there are few
-  pub ranks_fit : line < MAX_LINES → (x : Stander) → IsIn x w.events → x.rank ≤ MAX_LINES
-  ranks_fit few x i = let low = k.set.low_ranks x (subst (λ (u : SetView). IsIn x u.events) (sym seen) i) in let less = before x i in omega arith
+  -- of whose events none has the line
+  new_line : (x : Stander) → IsIn x v.events → x.id.line ≢ line
+  new_line = subst (λ (u : SetView). (x : Stander) → IsIn x u.events → x.id.line ≢ line) (sym seen) unused
 
   module _ (entering : List (Name × Kind)) (its : entering ≡ born_agents e) where
     -- the children can be entered
@@ -74,11 +81,11 @@ module _ (v w : SetView) (seen : v ≡ w) (ls : List Link) (kept : Causes) (k : 
       -- the event can be put in
       pub can_put_in : IsLawful ls → CanPutIn e line rank p born (born_ends v.start.profile e.lead_kind e.other_kind) ids v.events ls kept
       can_put_in h = record {
-        new = new_event v ls kept k e pair.active line later;
-        digits = digits v ls kept k e p pair line later enters.entered born are ms enters.alike own;
-        no_links = λ d l q i. no_links v ls kept k e pair.active line later d q l i;
-        lawful = λ d q lines. lawful_more v ls kept k e p pair line later enters.entered born are ms enters.alike own d q rank lines h;
-        no_causes = λ d q. no_causes v ls kept k e pair.active line later d q;
+        new = new_event v ls kept k e pair.active line new_line;
+        digits = digits v ls kept k e p pair line new_line enters.entered born are ms enters.alike own;
+        no_links = λ d l q i. no_links v ls kept k e pair.active line new_line d q l i;
+        lawful = λ d q lines. lawful_more v ls kept k e p pair line new_line enters.entered born are ms enters.alike own d q rank lines h;
+        no_causes = λ d q. no_causes v ls kept k e pair.active line new_line d q;
         causes = causes_kept v ls kept k e pair.active ids its_causes;
         once = causes_once v ls kept k e pair.active ids its_causes;
       }
@@ -89,7 +96,7 @@ module _ (v w : SetView) (seen : v ≡ w) (ls : List Link) (kept : Causes) (k : 
         pub put_keeps : IsKept (record { start = v.start; agents = ms; events = ss }) ls' kept'
         put_keeps =
             kept_alike v.start (alike_self ms) puts.events puts.links puts.causes
-            (kept_more v ls kept k e p pair line later enters.entered born are ms enters.alike own d in_line rank (own_lines_alike (alike_back puts.events) lines) ids its_causes
+            (kept_more v ls kept k e p pair line new_line enters.entered born are ms enters.alike own d in_line rank (own_lines_alike (alike_back puts.events) lines) ids its_causes
             (subst (λ (u : SetView). IsRankOver u.events ids rank) (sym seen) over))
 
         -- which admits it

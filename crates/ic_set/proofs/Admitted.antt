@@ -1,5 +1,5 @@
 -- What a standing set keeps once an active event was put in with its children, its links and its causes.
-use Rattle.std.proofs.Common.{◌≡◌, ℕ, ◌+◌, ◌<◌, ◌≤◌, Bool, true, false, List, ◌∷◌, ◌++◌, map, length, ◌⊎◌, inl, inr, Some, None, refl, sym, ap, arith, ◌∙◌, subst}
+use Rattle.std.proofs.Common.{◌≡◌, ◌≢◌, ℕ, ◌+◌, ◌<◌, ◌≤◌, Bool, true, false, List, ◌∷◌, ◌++◌, map, length, ◌⊎◌, inl, inr, Some, None, refl, sym, ap, arith, ◌∙◌, subst}
 use Rattle.std.specs.Prelude.{slice_index_or}
 use Rattle.std.proofs.lemmas.List.{map-append}
 use Rattle.ic_name.specs.Names.{child_name}
@@ -47,7 +47,7 @@ use Rattle.ic_set.proofs.SlimSets.{slim_shown}
 use Rattle.ic_set.proofs.NewEvents.{sound_more, causes_nothing, own_causes, new_id, no_links}
 
 module _ (v : SetView) (ls : List Link) (kept : Causes) (k : IsKept v ls kept) (e : Event) (p : ActivePair) (pair : IsPairOf v e p)
-    (line : ℕ) (later : (x : Stander) → IsIn x v.events → x.id.line < line)
+    (line : ℕ) (new_line : (x : Stander) → IsIn x v.events → x.id.line ≢ line)
     (children : List Member) (born : List AgentId) (are : AreChildren e born children) (ms : List Member) (entered : Alike (children ++ v.agents) ms) (own : HaveOwnNames ms) where
   -- the set with the event has the set
   inside : Includes (e ∷ standing v) (standing v)
@@ -127,7 +127,7 @@ module _ (v : SetView) (ls : List Link) (kept : Causes) (k : IsKept v ls kept) (
       -- so they can be put in
       pub lawful_more : IsLawful ls → IsLawful (made ++ ls)
       lawful_more h =
-          lawful_made d p born ls h (no_links v ls kept k e pair.active line later d in_line) 0 (born_ends v.start.profile e.lead_kind e.other_kind)
+          lawful_made d p born ls h (no_links v ls kept k e pair.active line new_line d in_line) 0 (born_ends v.start.profile e.lead_kind e.other_kind)
           (slim_shown named.0 v.start (e ∷ standing v) (made ++ ls) k.set.proper sound shows)
 
       module _ (ids : List EventId) (its_causes : AreCausesOf v e ids) (over : IsRankOver v.events ids rank) where
@@ -165,14 +165,6 @@ module _ (v : SetView) (ls : List Link) (kept : Causes) (k : IsKept v ls kept) (
                 let top = w.3 in
                 omega arith
 
-        -- it is at most the line
-        rank_in_line : rank ≤ d.line
-        rank_in_line = by over.least
-          where
-            by : (rank ≡ 0) ⊎ ((x : Stander) × IsIn x v.events × IsIn x.id ids × (rank ≡ x.rank + 1)) → rank ≤ d.line
-            by (inl z) = omega arith
-            by (inr w) = let few = k.set.low_ranks w.0 w.1 in let before = later w.0 w.1 in let top = w.3 in omega arith
-
         -- what is seen
         set_more : IsStandingSet (record { start = v.start; agents = ms; events = entry ∷ v.events })
         set_more = record {
@@ -183,7 +175,6 @@ module _ (v : SetView) (ls : List Link) (kept : Causes) (k : IsKept v ls kept) (
           own_lines = lines;
           children = λ x i. has_children x (in-cons_cases i);
           ranks = λ r h x i. has_rank r h x (in-cons_cases i);
-          low_ranks = λ x i. is_low x (in-cons_cases i);
         }
           where
             has_children : (x : Stander) → (x ≡ entry) ⊎ IsIn x v.events → HasChildren ms x
@@ -197,10 +188,6 @@ module _ (v : SetView) (ls : List Link) (kept : Causes) (k : IsKept v ls kept) (
                 let same : rank ≡ r e = omega arith in
                 subst (λ (y : Stander). y.rank ≡ r y.event) (sym q) same
             has_rank r h x (inr i) = below r h x i
-
-            is_low : (x : Stander) → (x ≡ entry) ⊎ IsIn x v.events → x.rank ≤ x.id.line
-            is_low x (inl q) = subst (λ (y : Stander). y.rank ≤ y.id.line) (sym q) rank_in_line
-            is_low x (inr i) = k.set.low_ranks x i
 
         -- a direct cause by its id is one in the set with the event
         cause_up : (x : Stander) (c : EventId) → IsCauseId v.start v.events x c → IsCauseId v.start (entry ∷ v.events) x c
@@ -237,7 +224,7 @@ module _ (v : SetView) (ls : List Link) (kept : Causes) (k : IsKept v ls kept) (
                 let c = k.causes.each x i in
                 let there = in-map (λ (y : Stander). y.event) i in (
                   c.0,
-                  others_same x.id (new_id v ls kept k e pair.active line later d in_line x i) ∙ c.1,
+                  others_same x.id (new_id v ls kept k e pair.active line new_line d in_line x i) ∙ c.1,
                   each_once_so {P = IsCauseId v.start v.events x} {Q = IsCauseId v.start (entry ∷ v.events) x} (cause_up x)
                       (cause_down x (λ c q. cause_stays v.start k.set.proper sound.apart inside k.set.sound there q)) c.2,
                 )

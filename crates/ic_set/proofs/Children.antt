@@ -38,7 +38,7 @@ nth_entered name k (m ∷ ms) (x ∷ kinds) e (suc i) h =
     (ih.0, in_more m ih.1, ih.2, ih.3 ∙ ap name (omega arith))
 
 -- as many agents are named as there are kinds
-length-named : (name : ℕ → Name) (k : ℕ) (kinds : List Kind) → length (named name k kinds) ≡ length kinds
+pub length-named : (name : ℕ → Name) (k : ℕ) (kinds : List Kind) → length (named name k kinds) ≡ length kinds
 length-named name k [] = refl
 length-named name k (x ∷ kinds) = ap suc (length-named name (k + 1) kinds)
 

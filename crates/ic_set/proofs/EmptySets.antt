@@ -94,7 +94,6 @@ module _ (s : Start) (ok : IsProper s) (ids : List AgentId) (ms : List Member) (
           own_lines = none_own;
           children = λ x i. absurd (none_in i);
           ranks = λ rank is x i. absurd (none_in i);
-          low_ranks = λ x i. absurd (none_in i);
         };
         naming = n.0;
         named = n.1;

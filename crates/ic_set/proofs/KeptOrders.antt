@@ -36,7 +36,6 @@ module _ (s : Start) {ms ms' : List Member} {ss ss' : List Stander} (agents_alik
     own_lines = own_lines_alike events_alike k.own_lines;
     children = λ x i. (let c = k.children x (alike-in (alike_back events_alike) i) in record { children = c.children; are = c.are; there = λ m j. alike-in agents_alike (c.there m j) });
     ranks = λ rank r x i. k.ranks rank (part_ranks s k.proper rank sound k.sound (same_set standing_alike) r) x (alike-in (alike_back events_alike) i);
-    low_ranks = λ x i. k.low_ranks x (alike-in (alike_back events_alike) i);
   }
     where
       sound : IsSound s (events_of ss')

@@ -52,7 +52,7 @@ led_only v (leads {a} {as'} {x = y} e h l) x i = elim (in-cons_cases i) [
 ]
 
 -- a pair that one of the agents leads is among them
-led_each : (v : SetView) → IsStandingSet v → {as' : List AgentId} {xs : List EventPair} → LedBy v as' xs → (x : EventPair) → IsPairOf v x.0 x.1 → IsIn x.1.lead as' → IsIn x xs
+pub led_each : (v : SetView) → IsStandingSet v → {as' : List AgentId} {xs : List EventPair} → LedBy v as' xs → (x : EventPair) → IsPairOf v x.0 x.1 → IsIn x.1.lead as' → IsIn x xs
 led_each v set nothing x h i = absurd (none_in i)
 led_each v set (passes f l) x h i = elim (in-cons_cases i) [ inl e ↦ absurd (f x.0 x.1 e h) | inr j ↦ led_each v set l x h j ]
 led_each v set (leads {a} {as'} {x = y} {xs = xs} e k l) x h i = elim (in-cons_cases i) [

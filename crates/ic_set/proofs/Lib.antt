@@ -26,14 +26,17 @@ pub mod Children
 pub mod PutIn
 pub mod PairPaths
 pub mod CauseRanks
+pub mod RankBounds
 pub mod NewEvents
 pub mod Admitted
 pub mod Admissions
 pub mod Unled
 pub mod Partners
+pub mod ConsumedAgents
 pub mod ActivePairs
 pub mod EventPairs
 pub mod LedPairs
+pub mod LeastPairs
 pub mod PlacedOrders
 pub mod OrderedIds
 pub mod RankedEvents

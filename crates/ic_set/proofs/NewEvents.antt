@@ -1,5 +1,5 @@
 -- An active event is new to a standing set.
-use Rattle.std.proofs.Common.{◌≡◌, ◌≢◌, ℕ, ◌<◌, ◌≤◌, Bool, true, false, List, ◌∷◌, None, All, refl, sym, ap, arith, ◌∙◌, subst}
+use Rattle.std.proofs.Common.{◌≡◌, ◌≢◌, ℕ, ◌≤◌, Bool, true, false, List, ◌∷◌, None, All, refl, sym, ap, arith, ◌∙◌, subst}
 use Rattle.std.specs.Prelude.{IsSome, is_some}
 use Rattle.ic_name.specs.Events.{Event}
 use Rattle.ic_name.specs.Spots.{is_maker, made_by, same_event}
@@ -59,15 +59,15 @@ module _ (v : SetView) (ls : List Link) (kept : Causes) (k : IsKept v ls kept) (
   pub causes_once : (ids : List EventId) → AreCausesOf v e ids → HasEachOnce (λ d. IsIn d ids) ids
   causes_once ids are = record { each = λ d i. i; only = λ d i. i; once = are.once }
 
-  module _ (line : ℕ) (later : (x : Stander) → IsIn x v.events → x.id.line < line) where
+  module _ (line : ℕ) (new_line : (x : Stander) → IsIn x v.events → x.id.line ≢ line) where
     -- it can be put in
     pub new_event : IsNewEvent v.events line e
-    new_event x i = (λ q. (let below = later x i in omega arith), new_lead x i)
+    new_event x i = (new_line x i, new_lead x i)
 
     module _ (d : EventId) (in_line : d.line ≡ line) where
       -- no event is under an id with its line
       pub new_id : (x : Stander) → IsIn x v.events → x.id ≢ d
-      new_id x i q = let below = later x i in let same : x.id.line ≡ d.line = ap (λ c. c.line) q in omega arith
+      new_id x i q = new_line x i (ap (λ c. c.line) q ∙ in_line)
 
       -- no causes are kept there
       pub no_causes : kept d ≡ None

@@ -8,10 +8,11 @@ use Rattle.ic_name.specs.declared.ids.LinkId.{LinkId}
 use Rattle.ic_name.specs.declared.ids.Spot.{Spot}
 use Rattle.ic_name.specs.declared.ids.Spot.TheVariants as spot
 use Rattle.ic_name.specs.declared.ports.Port.TheVariants.{Of}
+use Rattle.ic_path.specs.FarEnds.{far as far_of}
 use Rattle.ic_path.specs.Links.{degree}
 use Rattle.ic_path.specs.Orders.{IsIn}
 use Rattle.ic_path.proofs.Alikes.{alike-in}
-use Rattle.ic_path.proofs.Ends.{hit, hit_self, even-trail, degree-trail, reversed, starts, reaches_one}
+use Rattle.ic_path.proofs.Ends.{hit, hit_self, even-trail, degree-trail, reversed, starts, reaches_one, reaches_far}
 use Rattle.ic_link.specs.Links.{shape, Joins, IsFar}
 use Rattle.ic_link.specs.declared.store.Far.{Far}
 use Rattle.ic_link.specs.declared.store.Far.TheVariants as far
@@ -90,24 +91,38 @@ module _ (v : SetView) (ls : List Link) (kept : Causes) (k : IsKept v ls kept) w
       let same : port_of k.naming q ≡ Of n.name 0 = reaches_one net_shape thin (few m.name) found there in
       one_port k.naming k.shows.apart q (spot.Agent n.id 0) (trail_held k.naming k.shows.held (spot_held m i) t.trail).0 (spot_held n j) (same ∙ sym (spot_port n j))
 
-  -- what is found at one end of a wire is the other
-  pub joined_far : (a b : AgentId) (f : Far) → AreJoined v a b → IsFar ls (spot.Agent a 0) f → f ≡ far.End (spot.Agent b 0)
-  joined_far a b f j h = by f (subst (λ x. IsFar ls (spot.Agent x 0) f) (sym j.left_id) h)
+  -- what is found at one end of a path between principal ports is the other
+  pub path_far : (m n : Member) (f : Far) → IsIn m v.agents → IsIn n v.agents → m.name ≢ n.name → Path (links v.start (standing v)) (Of m.name 0) (Of n.name 0)
+      → IsFar ls (spot.Agent m.id 0) f → f ≡ far.End (spot.Agent n.id 0)
+  path_far m n f i j other p h = by f h
     where
-      ends : degree shape ls (spot.Agent j.left.id 0) ≡ 1
+      ends : degree shape ls (spot.Agent m.id 0) ≡ 1
       ends =
-          let d = spot_degree j.left j.left_there in
-          let few = principal v.start k.set.proper (standing v) k.set.sound.apart j.left.name in
-          let first = starts net_shape j.wire.path.first j.wire.path.trail in
-          let all = degree-trail net_shape j.wire.path.trail (Of j.left.name 0) in
+          let d = spot_degree m i in
+          let few = principal v.start k.set.proper (standing v) k.set.sound.apart m.name in
+          let first = starts net_shape p.first p.trail in
+          let all = degree-trail net_shape p.trail (Of m.name 0) in
           omega arith
 
-      by : (f : Far) → IsFar ls (spot.Agent j.left.id 0) f → f ≡ far.End (spot.Agent b 0)
+      by : (f : Far) → IsFar ls (spot.Agent m.id 0) f → f ≡ far.End (spot.Agent n.id 0)
       by far.Bare z = absurd (omega (arith, ends, z))
       by far.Joint z = absurd (omega (arith, ends, z))
-      by (far.End q) (d, ids, t) =
-          let same = joined_end j.left j.right q ids j.left_there j.right_there (joined_apart v k.set j) j.wire.path t in
-          ap (λ x. far.End x) (same ∙ ap (λ x. spot.Agent x 0) j.right_id)
+      by (far.End q) (d, ids, t) = ap (λ x. far.End x) (joined_end m n q ids i j other p t)
+
+  -- what is found at one end of a wire is the other
+  pub joined_far : (a b : AgentId) (f : Far) → AreJoined v a b → IsFar ls (spot.Agent a 0) f → f ≡ far.End (spot.Agent b 0)
+  joined_far a b f j h =
+      path_far j.left j.right f j.left_there j.right_there (joined_apart v k.set j) j.wire.path (subst (λ x. IsFar ls (spot.Agent x 0) f) (sym j.left_id) h)
+      ∙ ap (λ x. far.End (spot.Agent x 0)) j.right_id
+
+  -- what is found there is the far end by names, too
+  pub named_far : (m n : Member) → IsIn m v.agents → IsIn n v.agents → IsFar ls (spot.Agent m.id 0) (far.End (spot.Agent n.id 0))
+      → far_of net_shape (links v.start (standing v)) (Of m.name 0) ≡ Of n.name 0
+  named_far m n i j (d, ids, t) =
+      let thin = slim v.start k.set.proper (standing v) k.set.sound.apart in
+      let few = principal v.start k.set.proper (standing v) k.set.sound.apart m.name in
+      let found = rw (spot_port m i, spot_port n j) at (reaches_named k.naming v.start (standing v) ls k.shows (spot_held m i) t) in
+      reaches_one net_shape thin few (reaches_far net_shape (links v.start (standing v)) (Of m.name 0) thin few) found
 
   -- so the partner is the agent that is found
   pub joined_one : (a b p : AgentId) (f : Far) → AreJoined v a b → IsFar ls (spot.Agent a 0) f → f ≡ far.End (spot.Agent p 0) → b ≡ p

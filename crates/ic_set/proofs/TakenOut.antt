@@ -75,7 +75,6 @@ module _ (v : SetView) (ls : List Link) (kept : Causes) (is : IsKept v ls kept) 
       own_lines = fewer_lines entry ss fewer is.set.own_lines;
       children = λ x i. children_left v.start is.set.proper entry ss v.events is.set.sound fewer no_cause entry.born held.children held.are v.agents ms split x i (is.set.children x (up i));
       ranks = same_rank;
-      low_ranks = λ x i. is.set.low_ranks x (up i);
     }
 
     -- and all is kept of it

@@ -18,7 +18,7 @@ IsUnled es m = (e : Event) → IsIn e es → e.lead ≢ m
 
 module _ (s : Start) (es : List Event) (ok : IsProper s) (sound : IsSound s es) where
   -- an agent that leads no event, nor does the one that its trail leads to
-  unled_end : (m n : Name) → far net_shape (links s es) (Of m 0) ≡ Of n 0 → IsUnled es m → IsUnled es n → consumed_times m es ≡ 0
+  pub unled_end : (m n : Name) → far net_shape (links s es) (Of m 0) ≡ Of n 0 → IsUnled es m → IsUnled es n → consumed_times m es ≡ 0
   unled_end m n joined free there = by (consumed_times m es) refl
     where
       leads_back : (e : Event) → IsIn e es → m ≡ e.other → e.lead ≡ n

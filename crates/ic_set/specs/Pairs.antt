@@ -1,6 +1,7 @@
 -- Active pairs by ids.
-use Rattle.std.specs.Prelude.{◌≡◌, List, map}
+use Rattle.std.specs.Prelude.{◌≡◌, false, List, map}
 use Rattle.std.specs.List.Sorted.{IsStrictlySortedBy}
+use Rattle.std.specs.Ordering.{is_gt}
 use Rattle.ic_name.specs.Names.{name_cmp}
 use Rattle.ic_name.specs.Events.{Event}
 use Rattle.ic_name.specs.declared.ids.AgentId.{AgentId}
@@ -28,6 +29,12 @@ pub record IsPairOf (v : SetView) (e : Event) (p : ActivePair) : Type 0 where
   pub active : IsActive v.start (standing v) e
   pub lead : IsIn (record { id = p.lead; name = e.lead; kind = e.lead_kind }) v.agents
   pub other : IsIn (record { id = p.other; name = e.other; kind = e.other_kind }) v.agents
+
+-- the pair is that of the active event with the least lead
+pub record IsLeastPair (v : SetView) (p : ActivePair) : Type 0 where
+  pub event : Event
+  pub pair : IsPairOf v event p
+  pub least : (f : Event) → IsActive v.start (standing v) f → is_gt (name_cmp event.lead f.lead) ≡ false
 
 -- the pairs are those of all active events, each once, by lead
 pub record AreActivePairs (v : SetView) (pairs : List ActivePair) : Type 0 where

@@ -1,5 +1,5 @@
 -- What a standing set keeps.
-use Rattle.std.specs.Prelude.{◌≡◌, ℕ, ◌≤◌, List, map}
+use Rattle.std.specs.Prelude.{◌≡◌, ℕ, List, map}
 use Rattle.ic_name.specs.Events.{Event}
 use Rattle.ic_name.specs.declared.ids.Link.{Link}
 use Rattle.ic_path.specs.Orders.{IsIn, Alike}
@@ -35,7 +35,6 @@ pub record IsStandingSet (v : SetView) : Type 0 where
   pub own_lines : HaveOwnLines v.events
   pub children : (x : Stander) → IsIn x v.events → HasChildren v.agents x
   pub ranks : HasRanks v
-  pub low_ranks : (x : Stander) → IsIn x v.events → x.rank ≤ x.id.line
 
 -- what is kept of it: the links that the set leaves, by ids, and the direct causes of each event
 pub record IsKept (v : SetView) (ls : List Link) (kept : Causes) : Type 0 where

@@ -1,4 +1,4 @@
-ghost use Rattle.std.specs.Prelude.{◌≡◌, ◌<◌, ◌≤◌, ◌++◌, false, IfOk, OnOk, OnErr};
+ghost use Rattle.std.specs.Prelude.{◌≡◌, ◌≢◌, ◌<◌, ◌≤◌, ◌++◌, false, length, IfOk, OnOk, OnErr};
 ghost use Rattle.ic_name.specs.declared.ids.Link.{Link as ALink};
 ghost use Rattle.ic_name.specs.declared.limits.TheConstants.{MAX_LINES};
 ghost use Rattle.ic_name.specs.Spots.{made_by};
@@ -39,8 +39,8 @@ struct Firing<'a> {
 }
 
 impl<L: LinkStore> StandingSet<L> {
-    /// One event more, which is active, under an id with this line: with it its children come, and the links of its rule
-    /// are put in. At an error nothing changes.
+    /// One event more, which is active, under an id with this line, which no standing event has: with it its children
+    /// come, and the links of its rule are put in. At an error nothing changes.
     pub fn admit(
         &mut self,
         event: &Event,
@@ -49,8 +49,9 @@ impl<L: LinkStore> StandingSet<L> {
     ) -> Result<EventId, AllocError>
         requires active { IsPairOf self.old event.now pair }
         requires shallow { ¬ (IsDeep event.now) }
-        requires later { (x : Stander) → IsIn x self.old.events → x.id.line < line }
+        requires new_line { (x : Stander) → IsIn x self.old.events → x.id.line ≢ line }
         requires few_lines { line < MAX_LINES }
+        requires few_events { length self.old.events < MAX_LINES }
         ensures admitted { IfOk result (λ id. Admits self.old event.now line id self.new) }
         ensures unchanged { OnErr result (IsSame self.old self.new) }
     {
@@ -90,7 +91,11 @@ impl<L: LinkStore> StandingSet<L> {
     }
 
     /// The standing events that an event of this active pair has as direct causes.
-    fn causes_of_pair(&self, event: &Event, pair: ActivePair) -> Result<Vec<EventId>, AllocError>
+    pub fn causes_of_pair(
+        &self,
+        event: &Event,
+        pair: ActivePair,
+    ) -> Result<Vec<EventId>, AllocError>
         requires { IsPairOf self.now event.now pair }
         ensures { IfOk result (λ causes. AreCausesOf self.now event.now causes.items) }
     {

@@ -4,11 +4,13 @@
 pub mod admission;
 mod entering;
 mod joining;
+pub mod kinds;
 pub mod nets;
 pub mod orders;
 pub mod pairs;
 pub mod removal;
 pub mod set;
 
+pub use nets::without_ranks;
 pub use pairs::ActivePair;
 pub use set::StandingSet;

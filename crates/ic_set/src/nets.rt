@@ -57,7 +57,7 @@ fn with_ranks(alloc: Global, placed: &[Placed<'_>]) -> Result<Vec<RankedEvent>, 
 }
 
 /// These events without their ranks.
-fn without_ranks(alloc: Global, ranked: Vec<RankedEvent>) -> Result<Vec<Event>, AllocError>
+pub fn without_ranks(alloc: Global, ranked: Vec<RankedEvent>) -> Result<Vec<Event>, AllocError>
     ensures { IfOk result (λ events. events.items ≡ map (λ x. x.event) ranked.items) }
 {
     let mut events = Vec::with_capacity(alloc, ranked.len())?;

@@ -6,7 +6,7 @@ ghost use Rattle.ic_link.specs.declared.store.Far.TheVariants.{End};
 ghost use Rattle.ic_set.specs.declared.pairs.ActivePair.{ActivePair as APair};
 ghost use Rattle.ic_theory.specs.Active.{IsActive};
 ghost use Rattle.ic_set.specs.Views.{standing};
-ghost use Rattle.ic_set.specs.Pairs.{AreJoined, IsPairOf, AreActivePairs};
+ghost use Rattle.ic_set.specs.Pairs.{AreJoined, IsPairOf, IsLeastPair, AreActivePairs};
 
 use crate::set::StandingSet;
 use ic_link::{Far, LinkStore};
@@ -78,6 +78,23 @@ impl<L: LinkStore> StandingSet<L> {
         }
     }
 
+    /// The active pair with the least lead; `None` where no pair is active. It takes no memory.
+    pub fn least_active(&self) -> Option<ActivePair>
+        ensures found { IfSome result (λ pair. IsLeastPair self.now pair) }
+        ensures absent { IfNone result ((e : AnEvent) → IsActive self.now.start (standing self.now) e → ⊥) }
+    {
+        self.lawful();
+        for agent in self.agents.by_name() {
+            let Some(pair) = self.pair_with(*agent) else {
+                continue;
+            };
+            if pair.lead == *agent {
+                return Some(pair);
+            }
+        }
+        None
+    }
+
     /// All active pairs, by lead.
     pub fn active(&self) -> Result<Vec<ActivePair>, AllocError>
         ensures { IfOk result (λ pairs. AreActivePairs self.now pairs.items) }
@@ -97,7 +114,7 @@ impl<L: LinkStore> StandingSet<L> {
 }
 
 /// The agent at whose principal port a path ends, if it ends at one.
-fn principal_end(far: Far) -> Option<AgentId>
+pub(crate) fn principal_end(far: Far) -> Option<AgentId>
     ensures found { IfSome result (λ agent. far ≡ End (Agent agent 0)) }
     ensures absent { IfNone result ((agent : AnAgentId) → far ≢ End (Agent agent 0)) }
 {

@@ -1,7 +1,7 @@
 -- The elements of lists that are mapped, filtered or joined.
 use Rattle.std.proofs.Common.{◌≡◌, Bool, true, false, not, cond, List, [], ◌∷◌, ◌++◌, map, filter, ◌⊎◌, inl, inr, refl, sym, ap, subst, ◌∙◌}
 use Rattle.ic_path.specs.Orders.{Pick, here, there, Alike, none, more, IsIn}
-use Rattle.ic_path.proofs.Picks.{none_in, in_first, in_more, in_picked, in-cons_cases, pick-map}
+use Rattle.ic_path.proofs.Picks.{none_in, in_first, in_more, in_picked, in-cons_cases, pick-map, pick_behind}
 use Rattle.ic_path.proofs.Alikes.{alike_back, alike_then, alike_past, alike-in}
 
 -- a map takes elements to elements
@@ -47,3 +47,12 @@ other_parts {X} P (x ∷ xs) ys zs ws f g h i (more k a) = elim (part_of zs ws k
   | inl c ↦ other_parts P xs ys c.0 ws (λ y j. f y (in_more x j)) g (λ y j. h y (in_picked c.1 j)) i (subst (λ us. Alike (xs ++ ys) us) c.2 a)
   | inr j ↦ absurd (i x j (f x (in_first x xs)))
 ]
+
+-- a member of a list stands in a longer one
+pub in_behind : {X : Type 0} {x : X} (ys : List X) {xs : List X} → IsIn x xs → IsIn x (ys ++ xs)
+in_behind ys i = (ys ++ i.0, pick_behind ys i.1)
+
+-- a member of two lists is one of the first or of the second
+pub in-append_cases : {X : Type 0} {x : X} (xs : List X) {ys : List X} → IsIn x (xs ++ ys) → IsIn x xs ⊎ IsIn x ys
+in-append_cases [] i = inr i
+in-append_cases (y ∷ xs) i = elim (in-cons_cases i) [ inl e ↦ inl (rw e (in_first y xs)) | inr j ↦ elim (in-append_cases xs j) [ inl k ↦ inl (in_more y k) | inr k ↦ inr k ] ]

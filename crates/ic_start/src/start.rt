@@ -1,10 +1,11 @@
-ghost use Rattle.std.specs.Prelude.{◌≡◌, ◌↔◌, ◌≤◌, ◌<◌, ◌^◌, IsTrue, length, map, slice_get};
+ghost use Rattle.std.specs.Prelude.{◌≡◌, ◌↔◌, ◌≤◌, ◌<◌, ◌^◌, IfOk, IsTrue, length, map, slice_get};
 ghost use Rattle.ic_theory.specs.Starts.{IsProper};
 ghost use Rattle.ic_start.specs.Starts.{IsStart, AreStartLinks, start_of, join_of};
 
 use crate::links::same_links;
 use ic_name::limits::MAX_START_AGENTS;
 use ic_name::{Kind, Link, Profile};
+use std::alloc::{AllocError, Global};
 use std::marker::Model;
 
 /// What a text denotes: the kinds of its agents, its links, the texts of its names, and its profile.
@@ -64,6 +65,21 @@ impl Start {
             && self.profile == other.profile
     }
 
+    /// The start once more.
+    pub fn copy(&self, alloc: Global) -> Result<Start, AllocError>
+        ensures { IfOk result (λ copy. copy ≡ self.now) }
+    {
+        let kinds = Vec::from_slice(alloc, &self.kinds)?;
+        let links = Vec::from_slice(alloc, &self.links)?;
+        let names = copy_texts(alloc, &self.names)?;
+        Ok(Start {
+            kinds,
+            links,
+            names,
+            profile: self.profile,
+        })
+    }
+
     /// The kind of the agent of this number, where there is one.
     pub fn kind(&self, number: usize) -> Option<Kind>
         ensures { result ≡ slice_get self.now.kinds number }
@@ -106,4 +122,15 @@ impl Start {
     {
         self.profile
     }
+}
+
+/// The texts once more.
+fn copy_texts(alloc: Global, texts: &[Vec<u8>]) -> Result<Vec<Vec<u8>>, AllocError>
+    ensures { IfOk result (λ copies. map (λ t. t.items) copies.items ≡ map (λ t. t.items) texts.now) }
+{
+    let mut copies = Vec::with_capacity(alloc, texts.len())?;
+    for text in texts {
+        copies.push(Vec::from_slice(alloc, text)?)?;
+    }
+    Ok(copies)
 }

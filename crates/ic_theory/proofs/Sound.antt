@@ -246,7 +246,7 @@ module _ (s : Start) (ok : IsProper s) (all : List Event) (sound : IsSound s all
       omega arith
 
   -- an event behind which its causes are was active there
-  active_there : (others : List Event) (e : Event) (es : List Event) → all ≡ others ++ e ∷ es → ((c : Event) → IsCause s all e c → IsIn c es) → IsActive s es e
+  pub active_there : (others : List Event) (e : Event) (es : List Event) → all ≡ others ++ e ∷ es → ((c : Event) → IsCause s all e c → IsIn c es) → IsActive s es e
   active_there others e es h after = record {
     present = record { lead = is_there e.lead e.lead_kind in_all.lead at_lead; other = is_there e.other e.other_kind in_all.other at_other; ordered = in_all.ordered };
     wire = record { path = way; from_loose = (e.lead_kind, is_there e.lead e.lead_kind in_all.lead at_lead, omega arith, loose_lead); to_loose = (e.other_kind, is_there e.other e.other_kind in_all.other at_other, omega arith, loose_other) };

@@ -1,10 +1,13 @@
 -- Lists read from their ends, and standing events that are told apart by their lines.
-use Rattle.std.proofs.Common.{◌≡◌, List, [], ◌∷◌, ◌++◌, ◌⊎◌, inl, inr, map, reverse, refl, sym, ap, subst, ◌∙◌}
+use Rattle.std.proofs.Common.{◌≡◌, List, [], ◌∷◌, ◌++◌, ◌⊎◌, inl, inr, Some, map, reverse, refl, sym, ap, subst, ◌∙◌}
 use Rattle.std.proofs.lemmas.List.{map-append, reverse-append}
+use Rattle.ic_name.specs.Events.{Event}
+use Rattle.ic_name.specs.declared.ids.EventId.{EventId}
 use Rattle.ic_path.specs.Orders.{IsIn, Alike, none}
 use Rattle.ic_path.proofs.Picks.{none_in, in_first, in_more, in_others, in-cons_cases, pick_behind, pick_before, pick-map}
 use Rattle.ic_path.proofs.Alikes.{alike_back, alike_then, alike_pick, alike-cons, alike-in, append-alike-comm}
 use Rattle.ic_roster.specs.Rosters.{Stander, HaveOwnLines}
+use Rattle.ic_journal.specs.Reads.{StandsIn, IsEventUnder}
 use Rattle.ic_journal.specs.Views.{BenchView}
 
 -- the first element comes last
@@ -33,6 +36,12 @@ in-append_cases (y ∷ xs) i = elim (in-cons_cases i) [ inl e ↦ inl (rw e (in_
 -- a standing event is known by its line
 pub one_in_line : (v : BenchView) → HaveOwnLines v.events → (x y : Stander) → IsIn x v.events → IsIn y v.events → x.id.line ≡ y.id.line → x ≡ y
 one_in_line v own x y i j e = elim (in_others j.1 i) [ inl q ↦ q | inr k ↦ absurd (own.lines y x j.0 j.1 k e) ]
+
+-- the event under an id is each event that stands in its line
+pub one_under : (v : BenchView) (d : EventId) (e : Event) → HaveOwnLines v.events → IsEventUnder v d (Some e) → (x : Stander) → StandsIn v d x → e ≡ x.event
+one_under v d e own under x s =
+    let same : under.0 ≡ x = one_in_line v own under.0 x under.1.0 s.0 (under.1.1 ∙ sym s.1) in
+    sym under.2 ∙ ap (λ (y : Stander). y.event) same
 
 -- no event stands in two parts of the set
 pub apart : (v : BenchView) → HaveOwnLines v.events → (xs ys : List Stander) → Alike v.events (xs ++ ys) → (z : Stander) → IsIn z xs → IsIn z ys → ⊥

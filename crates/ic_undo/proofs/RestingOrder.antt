@@ -7,7 +7,7 @@ use Rattle.std.specs.declared.cmp.Ordering.{Ordering}
 use Rattle.std.specs.declared.cmp.Ordering.TheVariants.{Less, Equal, Greater}
 use Rattle.std.proofs.lemmas.Bool.Decides.{nat_tests}
 use Rattle.std.proofs.lemmas.Cmp.{ranked}
-use Rattle.std.proofs.lemmas.List.{length-map, map-append, take_all}
+use Rattle.std.proofs.lemmas.List.{map-append}
 use Rattle.ic_name.specs.Events.{Event}
 use Rattle.ic_name.specs.declared.ids.EventId.{EventId}
 use Rattle.ic_path.specs.Orders.{IsIn}
@@ -19,7 +19,8 @@ use Rattle.ic_set.specs.Sets.{IsStandingSet}
 use Rattle.ic_set.specs.Views.{standing}
 use Rattle.ic_journal.specs.Views.{BenchView, set_of}
 use Rattle.ic_undo.specs.Undone.{RestsOn, itself, through}
-use Rattle.ic_undo.proofs.ChosenLists.{Chosen, nothing, chosen_more, chosen_same, chosen_from, chosen_in, chosen_once, chosen_sorted}
+use Rattle.ic_undo.proofs.ChosenLists.{Chosen, nothing, chosen_more, chosen_same, chosen_from, chosen_in}
+use Rattle.ic_undo.proofs.ChosenOrders.{all_chosen}
 use Rattle.ic_undo.proofs.Places.{parts, in_part, sorted_behind}
 use Rattle.ic_undo.proofs.RestingCauses.{same_line, HasCause}
 
@@ -72,7 +73,7 @@ found_more v line {ids = ids} {has = has} new x rests f put = record {
     ]
 
 -- an event that is less in canonical order has no greater rank
-not_above : (rank : Event → ℕ) (x y : Event) → canonical_cmp rank x y ≡ Less → rank x ≤ rank y
+pub not_above : (rank : Event → ℕ) (x y : Event) → canonical_cmp rank x y ≡ Less → rank x ≤ rank y
 not_above rank x y h = go _ (nat_cmp (rank x) (rank y)) refl h
   where
     go : (o r : Ordering) → nat_cmp (rank x) (rank y) ≡ r → ordering_then r o ≡ Less → rank x ≤ rank y
@@ -123,19 +124,4 @@ module _ (v : BenchView) (set : IsStandingSet (set_of v)) (line : ℕ) (all : Li
 
 -- where all events have been looked at, those that rest on the line are in order
 pub found_all : (v : BenchView) (line : ℕ) (all : List EventId) (h : AreInOrder (set_of v) IsAny all) (k : ℕ) → length all ≤ k → (ids : List EventId) (has : ℕ → Bool) → Found v line (take k h.order) ids has → AreInOrder (set_of v) (RestsOn v line) ids
-found_all v line all h k past ids has f = record {
-  order = f.those;
-  each = record {
-    each = λ x i. chosen_in chosen (h.each.each x (i.0, tt)) i.1;
-    only = λ x i. (let c = chosen_from chosen i in ((h.each.only x c.0).0, c.1));
-    once = chosen_once chosen h.each.once;
-  };
-  canonical = λ rank r. chosen_sorted (canonical_cmp rank) (λ (x : Stander). x.event) chosen (h.canonical rank r);
-  named = f.named;
-}
-  where
-    long : length h.order ≤ k
-    long = let a = length-map h.order (λ (x : Stander). x.id) in let b = ap length h.named in omega (arith, a, b, past)
-
-    chosen : Chosen (RestsOn v line) h.order f.those
-    chosen = subst (λ xs. Chosen (RestsOn v line) xs f.those) (take_all k h.order long) f.chosen
+found_all v line all h k past ids has f = all_chosen (set_of v) (RestsOn v line) all h k past ids (record { those = f.those; chosen = f.chosen; named = f.named })

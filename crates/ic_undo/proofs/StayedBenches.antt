@@ -1,11 +1,18 @@
 -- Benches on which nothing has happened.
-use Rattle.std.proofs.Common.{[], refl, sym, arith, ◌∙◌}
+use Rattle.std.proofs.Common.{List, [], refl, sym, subst, arith, ◌∙◌}
 use Rattle.std.proofs.lemmas.List.{append-nil}
-use Rattle.ic_path.proofs.Alikes.{alike_back, alike-in}
+use Rattle.ic_name.specs.Events.{Event}
+use Rattle.ic_path.specs.Orders.{Alike}
+use Rattle.ic_path.proofs.Alikes.{alike_back, alike_then, alike-in, alike-map}
+use Rattle.ic_theory.specs.Causes.{IsCause}
+use Rattle.ic_theory.proofs.Ranks.{same_set as same_events, cause_included}
+use Rattle.ic_roster.specs.Rosters.{Stander}
+use Rattle.ic_set.specs.Views.{standing}
 use Rattle.ic_journal.specs.Views.{BenchView, set_of}
 use Rattle.ic_journal.specs.Calls.{Stays}
 use Rattle.ic_journal.proofs.Answering.{same_set}
 use Rattle.ic_undo.specs.Undone.{AreUndone}
+use Rattle.ic_undo.specs.Backwards.{AreFree}
 
 -- a bench stays as it is
 pub unchanged : (v : BenchView) → Stays v v
@@ -18,4 +25,28 @@ none_undone old new s = record {
   events = s.same.events;
   agents = λ m i. alike-in (alike_back s.same.agents) i;
   lines = s.lines ∙ sym (append-nil old.lines);
+}
+
+-- the same events stand
+pub same_standing : (old new : BenchView) → Stays old new → Alike (standing (set_of old)) (standing (set_of new))
+same_standing old new s = alike-map (λ (x : Stander). x.event) s.same.events
+
+-- events that could be undone from the last one on still can
+pub free_still : (old new : BenchView) (order : List Stander) → Stays old new → AreFree old order → AreFree new order
+free_still old new order s f = record {
+  there = λ x i. alike-in s.same.events (f.there x i);
+  once = f.once;
+  behind = λ front rest x y parts i cause. f.behind front rest x y parts (alike-in (alike_back s.same.events) i) (cause_before y.event x.event cause);
+}
+  where
+    cause_before : (e c : Event) → IsCause new.start (standing (set_of new)) e c → IsCause old.start (standing (set_of old)) e c
+    cause_before e c k = cause_included old.start (same_events (alike_back (same_standing old new s))) (subst (λ z. IsCause z (standing (set_of new)) e c) s.same.start k)
+
+-- what is undone then is undone
+pub undone_still : (old mid new : BenchView) (xs : List Stander) → Stays old mid → AreUndone mid xs new → AreUndone old xs new
+undone_still old mid new xs s u = record {
+  start = u.start ∙ s.same.start;
+  events = alike_then s.same.events u.events;
+  agents = λ m i. alike-in (alike_back s.same.agents) (u.agents m i);
+  lines = rw (← s.lines) u.lines;
 }

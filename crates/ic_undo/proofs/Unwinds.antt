@@ -2,7 +2,7 @@
 use Rattle.std.proofs.Common.{◌≡◌, ℕ, ◌+◌, ◌<◌, List, [], ◌∷◌, map, length, reverse, Option, Some, None, true, false, refl, sym, ap, subst, arith, ◌∙◌}
 use Rattle.std.specs.Option.{is_some}
 use Rattle.std.specs.List.Sorted.{IsStrictlySortedBy}
-use Rattle.std.proofs.lemmas.List.{reverse-reverse}
+use Rattle.std.proofs.lemmas.List.{length-reverse, reverse-reverse}
 use Rattle.ic_name.specs.Events.{Pair}
 use Rattle.ic_name.specs.declared.ids.EventId.{EventId}
 use Rattle.ic_name.specs.declared.limits.TheConstants.{MAX_LINES}
@@ -10,7 +10,6 @@ use Rattle.ic_path.specs.Orders.{IsIn}
 use Rattle.ic_path.specs.Rings.{HasEachOnce}
 use Rattle.ic_path.proofs.Picks.{in_first}
 use Rattle.ic_path.proofs.Alikes.{alike_back, alike_pick, alike-in}
-use Rattle.ic_path.proofs.EachOnce.{each_once_length}
 use Rattle.ic_theory.specs.Causes.{canonical_cmp}
 use Rattle.ic_roster.specs.Rosters.{Stander, HaveOwnLines}
 use Rattle.ic_set.specs.Orders.{AreInOrder, IsAny}
@@ -25,7 +24,7 @@ use Rattle.ic_undo.proofs.PlacedEvents.{order_length}
 use Rattle.ic_undo.proofs.FreeOrders.{AreWithDependents, in_free_order}
 
 -- what a list has each once it has each once read from its end
-each_once_back : {X : Type 0} {P : X → Type 0} (xs : List X) → HasEachOnce P xs → HasEachOnce P (reverse xs)
+pub each_once_back : {X : Type 0} {P : X → Type 0} (xs : List X) → HasEachOnce P xs → HasEachOnce P (reverse xs)
 each_once_back xs h = record {
   each = λ x p. alike-in (alike_reverse xs) (h.each x p);
   only = λ x i. h.only x (alike-in (alike_back (alike_reverse xs)) i);
@@ -37,7 +36,7 @@ twice_back : (order : List Stander) → reverse (map (λ (x : Stander). x.event)
 twice_back order = ap reverse (map-reverse (λ (x : Stander). x.event) order) ∙ reverse-reverse (map (λ (x : Stander). x.event) order)
 
 -- events in canonical order, the last one first
-last_first : (v : BenchView) (P : Stander → Type 0) (ids : List EventId) (a : AreInOrder (set_of v) P ids) → AreLastFirst v P (reverse a.order)
+pub last_first : (v : BenchView) (P : Stander → Type 0) (ids : List EventId) (a : AreInOrder (set_of v) P ids) → AreLastFirst v P (reverse a.order)
 last_first v P ids a = record {
   each = each_once_back a.order a.each;
   backwards = λ rank r. subst (λ es. IsStrictlySortedBy (canonical_cmp rank) es) (sym (twice_back a.order)) (a.canonical rank r);
@@ -45,10 +44,10 @@ last_first v P ids a = record {
 
 -- where a line for each of the ids doesn't fit, none for each of the events does
 pub dont_fit : (v : BenchView) (P : Stander → Type 0) (ids : List EventId) → AreInOrder (set_of v) P ids → MAX_LINES < length v.lines + length ids → DontFit v P
-dont_fit v P ids a l xs h =
-    let same = each_once_length xs a.order h.each a.each in
+dont_fit v P ids a l =
+    let same = length-reverse a.order in
     let count = order_length a.order ids a.named in
-    omega (arith, l, same, count)
+    (reverse a.order, last_first v P ids a, omega (arith, l, same, count))
 
 -- the ids are those of events that can be undone from the last one on
 pub ids_of_free : (v : BenchView) (P : Stander → Type 0) (ids : List EventId) → IsBench v → AreWithDependents v P → AreInOrder (set_of v) P ids → AreIdsOfFree v ids

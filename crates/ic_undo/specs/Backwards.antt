@@ -9,8 +9,8 @@ use Rattle.ic_roster.specs.Rosters.{Stander}
 use Rattle.ic_set.specs.Views.{standing}
 use Rattle.ic_journal.specs.Views.{BenchView, set_of}
 use Rattle.ic_journal.specs.Calls.{Stays}
-use Rattle.ic_undo.specs.declared.backwards.BackFault.{BackFault}
-use Rattle.ic_undo.specs.declared.backwards.BackFault.TheVariants.{HistoryFull, Memory}
+use Rattle.ic_undo.specs.declared.backwards.BackwardsFault.{BackwardsFault}
+use Rattle.ic_undo.specs.declared.backwards.BackwardsFault.TheVariants.{HistoryFull, Memory}
 use Rattle.ic_undo.specs.Undone.{AreUndone}
 
 -- the events stand, each is listed once, and the direct dependents of each come behind it
@@ -28,6 +28,6 @@ abbrev pub AreUndoneBack : BenchView → List EventId → List Pair → BenchVie
 AreUndoneBack old ids names new = (order : List Stander) → AreFree old order → map (λ x. x.id) order ≡ ids → AreUndone old (reverse order) new × (map (λ x. pair x.event) (reverse order) ≡ names)
 
 -- why they aren't
-abbrev pub ArentUndoneBack : BenchView → List EventId → BackFault → BenchView → Type 0
+abbrev pub ArentUndoneBack : BenchView → List EventId → BackwardsFault → BenchView → Type 0
 ArentUndoneBack old ids HistoryFull new = (MAX_LINES < length old.lines + length ids) × Stays old new
 ArentUndoneBack old ids Memory new = Stays old new

@@ -15,7 +15,7 @@ use Rattle.ic_undo.specs.Undone.{RestsOn, AreLastFirst}
 
 -- the history would be too long with a line for each standing event of the property
 abbrev pub DontFit : BenchView → (Stander → Type 0) → Type 0
-DontFit v P = (xs : List Stander) → AreLastFirst v P xs → MAX_LINES < length v.lines + length xs
+DontFit v P = (xs : List Stander) × AreLastFirst v P xs × (MAX_LINES < length v.lines + length xs)
 
 -- why the event whose firing is the line of the id isn't unwound; nothing but the room may then change
 abbrev pub IsntUnwound : BenchView → EventId → UnwindFault → BenchView → Type 0

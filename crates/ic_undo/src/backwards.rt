@@ -1,9 +1,10 @@
-ghost use Rattle.std.specs.Prelude.{◌≡◌, List, Some, map, reverse, IfErr, IfOk};
+ghost use Rattle.std.specs.Prelude.{◌≡◌, ◌≤◌, List, Some, length, map, reverse, IfErr, IfOk};
 ghost use Rattle.ic_name.specs.Events.{pair};
 ghost use Rattle.ic_path.specs.Orders.{IsIn};
 ghost use Rattle.ic_roster.specs.Rosters.{Stander};
 ghost use Rattle.ic_journal.specs.Reads.{StandsIn};
-ghost use Rattle.ic_undo.specs.Backwards.{AreIdsOfFree, AreUndoneBack, ArentUndoneBack};
+ghost use Rattle.ic_undo.specs.Undone.{AreUndone};
+ghost use Rattle.ic_undo.specs.Backwards.{AreFree, AreIdsOfFree, AreUndoneBack, ArentUndoneBack};
 
 use ic_journal::{Bench, LinkStore, ReserveFault};
 use ic_name::{Event, EventId, EventName};
@@ -11,7 +12,7 @@ use std::alloc::{AllocError, Global};
 
 /// Why events aren't undone.
 #[derive(Clone, Copy)]
-pub(crate) enum BackFault {
+pub(crate) enum BackwardsFault {
     HistoryFull,
     Memory,
 }
@@ -22,27 +23,37 @@ pub(crate) fn undo_back<L: LinkStore>(
     alloc: Global,
     bench: &mut Bench<L>,
     ids: &[EventId],
-) -> Result<Vec<EventName>, BackFault>
+) -> Result<Vec<EventName>, BackwardsFault>
     requires { AreIdsOfFree bench.old ids.now }
     ensures undone { IfOk result (λ names. AreUndoneBack bench.old ids.now names.items bench.new) }
     ensures fault { IfErr result (λ fault. ArentUndoneBack bench.old ids.now fault bench.new) }
 {
     bench.lawful();
     let Ok(names) = names_backwards(alloc, bench, ids) else {
-        return Err(BackFault::Memory);
+        return Err(BackwardsFault::Memory);
     };
     match bench.reserve(ids.len()) {
         Ok(()) => {}
-        Err(ReserveFault::HistoryFull) => return Err(BackFault::HistoryFull),
-        Err(ReserveFault::Memory) => return Err(BackFault::Memory),
+        Err(ReserveFault::HistoryFull) => return Err(BackwardsFault::HistoryFull),
+        Err(ReserveFault::Memory) => return Err(BackwardsFault::Memory),
     }
+    undo_each(bench, ids);
+    Ok(names)
+}
+
+/// Undoes these events, the last one first, with the room that is reserved. It takes no memory.
+pub(crate) fn undo_each<L: LinkStore>(bench: &mut Bench<L>, ids: &[EventId])
+    requires free { AreIdsOfFree bench.old ids.now }
+    requires room { length ids.now ≤ bench.old.room }
+    ensures { (order : List Stander) → AreFree bench.old order → map (λ x. x.id) order ≡ ids.now → AreUndone bench.old (reverse order) bench.new }
+{
+    bench.lawful();
     for place in (0..ids.len()).rev() {
         bench.lawful();
         let Ok(()) = bench.undo(ids[place]) else {
-            return Err(BackFault::Memory);
+            return;
         };
     }
-    Ok(names)
 }
 
 /// The names of these events, that of the last one first.
@@ -75,7 +86,7 @@ fn name_under<L: LinkStore>(bench: &Bench<L>, id: EventId) -> Result<Option<Even
 }
 
 /// The name of an event.
-fn name_of(event: &Event) -> Result<Option<EventName>, AllocError>
+pub(crate) fn name_of(event: &Event) -> Result<Option<EventName>, AllocError>
     ensures { IfOk result (λ name. name ≡ Some (pair event.now)) }
 {
     event.lawful();

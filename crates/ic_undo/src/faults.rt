@@ -1,5 +1,5 @@
 ghost use Rattle.std.specs.Prelude.{◌≡◌};
-ghost use Rattle.ic_undo.specs.Faults.{undo_all_number, unwind_number};
+ghost use Rattle.ic_undo.specs.Faults.{back_number, undo_all_number, unwind_number};
 
 use thiserror::Error;
 
@@ -28,6 +28,24 @@ pub enum UndoAllFault {
     Memory,
 }
 
+/// How many events were undone, and how many were fired.
+#[derive(Clone, Copy, Debug, PartialEq, Eq)]
+pub struct Counts {
+    pub undone: u32,
+    pub fired: u32,
+}
+
+/// Why a bench isn't back at a mark.
+#[derive(Clone, Copy, Debug, PartialEq, Eq, Error)]
+pub enum BackFault {
+    /// The history would have more lines than it may have.
+    #[error("the history has no room for so many lines")]
+    HistoryFull,
+    /// Memory ran out, after so many undoings and firings.
+    #[error("memory ran out while going back")]
+    Memory(Counts),
+}
+
 impl UnwindFault {
     /// The number of the refusal: 24, 25 or 31.
     pub fn number(self) -> u8
@@ -49,6 +67,18 @@ impl UndoAllFault {
         match self {
             UndoAllFault::HistoryFull => 24,
             UndoAllFault::Memory => 25,
+        }
+    }
+}
+
+impl BackFault {
+    /// The number of the refusal: 24 or 25.
+    pub fn number(self) -> u8
+        ensures { result ≡ back_number self }
+    {
+        match self {
+            BackFault::HistoryFull => 24,
+            BackFault::Memory(_) => 25,
         }
     }
 }

@@ -1,3 +1,7 @@
+use crate::faults::Counts;
+use crate::going_back::back;
+use crate::marking::mark;
+use crate::marks::Mark;
 use crate::unwinding::{undo_all, unwind};
 use ic_journal::{Bench, Store};
 use ic_name::{AgentId, AgentName, EventId, EventName};
@@ -69,5 +73,40 @@ fn all_events_go(rt: HostRuntime) -> Result<(), Fail> {
     let start = read_net(rt.alloc(), b"G(E,a) = D(b,E);")?;
     let mut bench = Bench::over(rt.alloc(), start)?;
     assert!(rt; all_are_undone(&rt, &mut bench)?);
+    Ok(())
+}
+
+/// Whether the bench goes back to a mark by so many undoings and firings.
+fn goes(rt: &HostRuntime, bench: &mut Bench<Store>, mark: &Mark, undone: u32, fired: u32) -> bool {
+    if !mark.fits(bench) {
+        return false;
+    }
+    match back(rt.alloc(), bench, mark) {
+        Ok(counts) => counts == Counts { undone, fired },
+        Err(_) => false,
+    }
+}
+
+/// Whether a bench goes back to what stood after its first event, and then to where nothing stood.
+fn marks_lead_back(rt: &HostRuntime, bench: &mut Bench<Store>) -> Result<bool, Fail> {
+    let nothing = mark(rt.alloc(), bench)?;
+    let event = fire(rt, bench, b"0", b"1")?;
+    let one = mark(rt.alloc(), bench)?;
+    if bench.undo(event).is_err() {
+        return Ok(false);
+    }
+    Ok(
+        nothing.len() == 0
+            && one.len() == 1
+            && goes(rt, bench, &one, 0, 1)
+            && goes(rt, bench, &nothing, 1, 0),
+    )
+}
+
+#[test]
+fn a_bench_goes_back_to_its_marks(rt: HostRuntime) -> Result<(), Fail> {
+    let start = read_net(rt.alloc(), b"G(x,a) = D(x,b);")?;
+    let mut bench = Bench::over(rt.alloc(), start)?;
+    assert!(rt; marks_lead_back(&rt, &mut bench)?);
     Ok(())
 }

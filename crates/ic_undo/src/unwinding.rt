@@ -3,7 +3,7 @@ ghost use Rattle.ic_set.specs.Orders.{IsAny};
 ghost use Rattle.ic_undo.specs.Undone.{IsUnwound, RestsOn};
 ghost use Rattle.ic_undo.specs.Unwinding.{ArentUndone, IsntUnwound};
 
-use crate::backwards::{BackFault, undo_back};
+use crate::backwards::{BackwardsFault, undo_back};
 use crate::faults::{UndoAllFault, UnwindFault};
 use crate::resting::resting_on;
 use ic_journal::{Bench, LinkStore};
@@ -33,8 +33,8 @@ pub fn unwind<L: LinkStore>(
     };
     match undo_back(alloc, bench, &ids) {
         Ok(names) => Ok(names),
-        Err(BackFault::HistoryFull) => Err(UnwindFault::HistoryFull),
-        Err(BackFault::Memory) => Err(UnwindFault::Memory),
+        Err(BackwardsFault::HistoryFull) => Err(UnwindFault::HistoryFull),
+        Err(BackwardsFault::Memory) => Err(UnwindFault::Memory),
     }
 }
 
@@ -57,7 +57,7 @@ pub fn undo_all<L: LinkStore>(
     };
     match undo_back(alloc, bench, &ids) {
         Ok(names) => Ok(names),
-        Err(BackFault::HistoryFull) => Err(UndoAllFault::HistoryFull),
-        Err(BackFault::Memory) => Err(UndoAllFault::Memory),
+        Err(BackwardsFault::HistoryFull) => Err(UndoAllFault::HistoryFull),
+        Err(BackwardsFault::Memory) => Err(UndoAllFault::Memory),
     }
 }

@@ -10,16 +10,16 @@ pub returns-in-Malformed : goal.returns-in-Malformed
 returns-in-Malformed c = malformed_told c.args.bench.now c.args.command c.in-Malformed.is
 
 pub returns-in-Net : goal.returns-in-Net
-returns-in-Net c = text_told c.args.bench.now c.args.command Net (answer_text c.text_or_memory.result) c.net.result c.in-Net.is (λ e. cc) (λ e. cc) c.net.ensures c.text_or_memory.ensures.text c.text_or_memory.ensures.memory
+returns-in-Net c = text_told c.args.bench.now c.args.command Net (answer_text c.text_or_memory.result) c.net.result c.in-Net.is tt c.net.ensures c.text_or_memory.ensures.text c.text_or_memory.ensures.memory
 
 pub returns-in-Active : goal.returns-in-Active
 returns-in-Active c =
-    text_told c.args.bench.now c.args.command Active (answer_text c.text_or_memory-in-Active.result) c.active.result c.in-Active.is (λ e. cc) (λ e. cc) c.active.ensures c.text_or_memory-in-Active.ensures.text c.text_or_memory-in-Active.ensures.memory
+    text_told c.args.bench.now c.args.command Active (answer_text c.text_or_memory-in-Active.result) c.active.result c.in-Active.is tt c.active.ensures c.text_or_memory-in-Active.ensures.text c.text_or_memory-in-Active.ensures.memory
 
 pub returns-in-Journal : goal.returns-in-Journal
 returns-in-Journal c =
-    text_told c.args.bench.now c.args.command Journal (answer_text c.text_or_memory-in-Journal.result) c.journal.result c.in-Journal.is (λ e. cc) (λ e. cc) c.journal.ensures c.text_or_memory-in-Journal.ensures.text c.text_or_memory-in-Journal.ensures.memory
+    text_told c.args.bench.now c.args.command Journal (answer_text c.text_or_memory-in-Journal.result) c.journal.result c.in-Journal.is tt c.journal.ensures c.text_or_memory-in-Journal.ensures.text c.text_or_memory-in-Journal.ensures.memory
 
 pub returns-in-Why : goal.returns-in-Why
 returns-in-Why c =
-    answer_told c.args.bench.now c.args.command (Why c.in-Why.event) (answer_text c.answer_or_memory.result) c.why.result c.in-Why.is (λ e. cc) (λ e. cc) c.why.ensures c.answer_or_memory.ensures.answer c.answer_or_memory.ensures.memory
+    answer_told c.args.bench.now c.args.command (Why c.in-Why.event) (answer_text c.answer_or_memory.result) c.why.result c.in-Why.is tt c.why.ensures c.answer_or_memory.ensures.answer c.answer_or_memory.ensures.memory

@@ -19,10 +19,10 @@ returns-in_default-agent c =
     told c.args.bench.now (Fire c.args.event.now) (refusal_text refused.NotActive) (other_unknown c.args.bench.now c.args.event.now c.lawful.ensures (subst (λ (n : Name). IsNewName c.args.bench.now.agents n) c.other.ensures c.in_default-agent.ensures.absent))
 
 pub returns-in_default-propose : goal.returns-in_default-propose
-returns-in_default-propose c = told c.args.bench.now (Fire c.args.event.now) (refusal_text refused.Memory) (tells_memory c.args.bench.now (Fire c.args.event.now) (λ e. cc) (λ e. cc))
+returns-in_default-propose c = told c.args.bench.now (Fire c.args.event.now) (refusal_text refused.Memory) (tells_memory c.args.bench.now (Fire c.args.event.now) tt)
 
 pub returns-in_default-name_line : goal.returns-in_default-name_line
-returns-in_default-name_line c = told c.args.bench.now (Fire c.args.event.now) (refusal_text refused.Memory) (tells_memory c.args.bench.now (Fire c.args.event.now) (λ e. cc) (λ e. cc))
+returns-in_default-name_line c = told c.args.bench.now (Fire c.args.event.now) (refusal_text refused.Memory) (tells_memory c.args.bench.now (Fire c.args.event.now) tt)
 
 pub returns-in-Ok-fired : goal.returns-in-Ok-fired
 returns-in-Ok-fired c =
@@ -56,4 +56,4 @@ returns-in-Err-HistoryFull c =
 pub returns : goal.returns
 returns c =
     let refuses = fault_known c.args.bench.now c.fire-fired.new.self c.in-Ok.proposal c.fire-fired.result c.in-Err-Memory.field-0 (fault.Memory c.in-Err-Memory.field-0-0) c.in-Err-Memory.is (rw c.in-Err-Memory.is at c.in-Err-Memory.field-0-is) c.fire-fired.ensures in
-    stays_for_memory c.args.bench.now c.fire-fired.new.self (Fire c.args.event.now) (λ e. cc) (λ e. cc) refuses.2
+    stays_for_memory c.args.bench.now c.fire-fired.new.self (Fire c.args.event.now) tt refuses.2

@@ -12,7 +12,7 @@ pub returns-in_default : goal.returns-in_default
 returns-in_default c = told c.args.bench.now (Undo c.args.event.now) (refusal_text refused.NotStanding) (tells_not_standing c.args.bench.now c.args.event.now c.in_default.ensures.absent)
 
 pub returns-in_default-name_line : goal.returns-in_default-name_line
-returns-in_default-name_line c = told c.args.bench.now (Undo c.args.event.now) (refusal_text refused.Memory) (tells_memory c.args.bench.now (Undo c.args.event.now) (λ e. cc) (λ e. cc))
+returns-in_default-name_line c = told c.args.bench.now (Undo c.args.event.now) (refusal_text refused.Memory) (tells_memory c.args.bench.now (Undo c.args.event.now) tt)
 
 pub returns-in-Ok-undone : goal.returns-in-Ok-undone
 returns-in-Ok-undone c =
@@ -46,4 +46,4 @@ returns-in-Err-HistoryFull c =
 pub returns : goal.returns
 returns c =
     let refuses = fault_known c.args.bench.now c.undo-undone.new.self c.in-Some.id c.undo-undone.result c.in-Err-Memory.field-0 fault.Memory c.in-Err-Memory.is (rw c.in-Err-Memory.is at c.in-Err-Memory.field-0-is) c.undo-undone.ensures in
-    told_same c.args.bench.now c.undo-undone.new.self (Undo c.args.event.now) (refusal_text refused.Memory) refuses.2 (tells_memory c.args.bench.now (Undo c.args.event.now) (λ e. cc) (λ e. cc))
+    told_same c.args.bench.now c.undo-undone.new.self (Undo c.args.event.now) (refusal_text refused.Memory) refuses.2 (tells_memory c.args.bench.now (Undo c.args.event.now) tt)

@@ -9,7 +9,7 @@ abbrev pub invariant-loop-line : goal.invariant-loop-line
 invariant-loop-line g l = record {
   start : l.bench.start ≡ l.fn.bench.start;
   answered : (st : State) → IsAt l.fn.bench st
-      → HasAnswered l.fn.bench.start st l.bench (left l.fn.input (g.R.Read.remaining l.fn.reader)) (left l.input (g.R.Read.remaining l.reader)) (g.W.Write.contents l.fn.writer) (g.W.Write.contents l.writer);
+      → HasAnswered l.fn.bench.start l.fn.budget st l.bench (left l.fn.input (g.R.Read.remaining l.fn.reader)) (left l.input (g.R.Read.remaining l.reader)) (g.W.Write.contents l.fn.writer) (g.W.Write.contents l.writer);
   fewer : l.input.reads ≤ l.fn.input.reads;
 }
 

@@ -1,19 +1,16 @@
-use Rattle.std.proofs.Common.{◌≡◌, Option, Some, None, sym, ap, ◌∙◌}
+use Rattle.std.proofs.Common.{◌≡◌, Option, Some, None, ap, ◌∙◌}
 use Rattle.std.proofs.lemmas.Result.{IfOk-weaker}
 use Rattle.ic_name.specs.Events.{Event, Pair, pair}
 use Rattle.ic_name.specs.declared.ids.EventId.{EventId}
 use Rattle.ic_roster.specs.Rosters.{Stander, HaveOwnLines}
 use Rattle.ic_journal.specs.Views.{BenchView}
 use Rattle.ic_journal.specs.Reads.{StandsIn, IsEventUnder}
-use Rattle.ic_undo.proofs.Backs.{one_in_line}
+use Rattle.ic_undo.proofs.Backs.{one_under}
 use Rattle.ic_undo.proofs.backwards.name_under.Goals as goal
 
 -- the name of the event under an id is that of each event that stands in its line
 one_name : (v : BenchView) (d : EventId) (e : Event) (name : Option Pair) → HaveOwnLines v.events → IsEventUnder v d (Some e) → name ≡ Some (pair e) → (x : Stander) → StandsIn v d x → name ≡ Some (pair x.event)
-one_name v d e name own under h x s =
-    let same : under.0 ≡ x = one_in_line v own under.0 x under.1.0 s.0 (under.1.1 ∙ sym s.1) in
-    let event : e ≡ x.event = sym under.2 ∙ ap (λ (y : Stander). y.event) same in
-    h ∙ ap (λ (f : Event). Some (pair f)) event
+one_name v d e name own under h x s = h ∙ ap (λ (f : Event). Some (pair f)) (one_under v d e own under x s)
 
 pub returns-in-Some : goal.returns-in-Some
 returns-in-Some g c =

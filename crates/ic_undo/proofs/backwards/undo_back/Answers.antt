@@ -1,9 +1,5 @@
-use Rattle.std.proofs.Common.{◌≡◌, ◌+◌, ◌-◌, drop, length, reverse, arith, subst}
-use Rattle.std.proofs.lemmas.List.{drop_all}
-use Rattle.ic_undo.specs.Undone.{AreUndone}
-use Rattle.ic_undo.proofs.PlacedEvents.{order_length, at_place}
-use Rattle.ic_undo.proofs.NextUndone.{undone_next, none_refused}
-use Rattle.ic_undo.proofs.StayedBenches.{unchanged, none_undone}
+use Rattle.std.proofs.Common.{reverse}
+use Rattle.ic_undo.proofs.StayedBenches.{unchanged, free_still, undone_still}
 use Rattle.ic_undo.proofs.backwards.undo_back.Goals as goal
 
 pub returns-in_default-clause-fault : goal.returns-in_default-clause-fault
@@ -15,37 +11,15 @@ returns-in-Err-HistoryFull-clause-fault g c = let e = rw c.in-Err-HistoryFull.fi
 pub returns-in-Err-Memory-clause-fault : goal.returns-in-Err-Memory-clause-fault
 returns-in-Err-Memory-clause-fault g c = let e = rw c.in-Err-Memory.field-0-is at c.in-Err-Memory.ensures in rw e.1 (unchanged c.args.bench.now)
 
-pub loop-place-init : goal.loop-place-init
-loop-place-init g c = record {
-  did = λ order free named. (
-      let long = order_length order c.args.ids.now named in
-      rw (drop_all (length c.args.ids.now) order (omega (arith, long))) (none_undone c.args.bench.now c.reserve.new.self c.in-Ok-reserve.ensures.0));
-  enough = c.in-Ok-reserve.ensures.1;
+pub undo_each-requires : goal.undo_each-requires
+undo_each-requires g c = record {
+  free = (c.requires.0, free_still c.args.bench.now c.reserve.new.self c.requires.0 c.in-Ok-reserve.ensures.0 c.requires.1, c.requires.2);
+  room = c.in-Ok-reserve.ensures.1;
 }
 
-pub loop-place-preserved : goal.loop-place-preserved
-loop-place-preserved g c =
-    let end = c.loop-place.auto.place in
-    let more = c.loop-place-test.true in
-    let enough = c.loop-place.invariant.enough in
-    let room = c.in-Ok-undo.ensures.0.room in
-    let next : c.loop-place.place ≡ c.loop-place.place - 1 + 1 = omega (arith, more) in record {
-      did = λ order free named. (
-          let long = order_length order c.args.ids.now named in
-          let at = at_place order c.args.ids.now (c.loop-place.place - 1) (record { slot = 0; line = 0 }) named (omega (arith, end, more, long)) in
-          let did : AreUndone c.args.bench.now (reverse (drop (c.loop-place.place - 1 + 1) order)) c.loop-place.bench = subst (λ k. AreUndone c.args.bench.now (reverse (drop k order)) c.loop-place.bench) next (c.loop-place.invariant.did order free named) in
-          undone_next c.args.bench.now c.loop-place.bench order (c.loop-place.place - 1) _ at free c.lawful.ensures.set.own_lines c.lawful-in-loop-place.ensures did c.undo.new.self c.in-Ok-undo.ensures);
-      enough = omega (arith, room, more, enough);
-    }
-
-pub returns-in_default-undo-clause-fault : goal.returns-in_default-undo-clause-fault
-returns-in_default-undo-clause-fault g c =
-    let end = c.loop-place.auto.place in
-    let more = c.loop-place-test.true in
-    let enough = c.loop-place.invariant.enough in
-    let next : c.loop-place.place ≡ c.loop-place.place - 1 + 1 = omega (arith, more) in
-    let order = c.requires.0 in
-    let long = order_length order c.args.ids.now c.requires.2 in
-    let at = at_place order c.args.ids.now (c.loop-place.place - 1) (record { slot = 0; line = 0 }) c.requires.2 (omega (arith, end, more, long)) in
-    let did : AreUndone c.args.bench.now (reverse (drop (c.loop-place.place - 1 + 1) order)) c.loop-place.bench = subst (λ k. AreUndone c.args.bench.now (reverse (drop k order)) c.loop-place.bench) next (c.loop-place.invariant.did order c.requires.1 c.requires.2) in
-    absurd (none_refused c.args.bench.now c.loop-place.bench order (c.loop-place.place - 1) _ at c.requires.1 c.lawful.ensures.set.own_lines c.lawful-in-loop-place.ensures did c.undo.new.self c.in_default-undo.field-0 (omega (arith, enough, more)) c.in_default-undo.ensures)
+pub returns-clause-undone : goal.returns-clause-undone
+returns-clause-undone g c = λ order free named. (
+  undone_still c.args.bench.now c.reserve.new.self c.undo_each.new.bench (reverse order) c.in-Ok-reserve.ensures.0
+      (c.undo_each.ensures order (free_still c.args.bench.now c.reserve.new.self order c.in-Ok-reserve.ensures.0 free) named),
+  c.in-Ok.ensures order free.there named,
+)

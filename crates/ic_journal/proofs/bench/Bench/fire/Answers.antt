@@ -6,7 +6,7 @@ use Rattle.ic_journal.specs.Views.{view_of}
 use Rattle.ic_journal.specs.Verdicts.{Judges, reply_of}
 use Rattle.ic_journal.specs.Calls.{Fires}
 use Rattle.ic_journal.proofs.MachineSteps.{refusal_answer, fired_step}
-use Rattle.ic_journal.proofs.Answering.{running, more_serials, same_running, same_set, refused, refused_running, fires_refused, lines_below}
+use Rattle.ic_journal.proofs.Answering.{running, more_serials, same_running, same_set, refused, refused_running, fires_refused, next_line_new, few_events}
 use Rattle.ic_journal.proofs.bench.Bench.fire.Goals as goal
 
 pub returns-in_default : goal.returns-in_default
@@ -30,8 +30,16 @@ returns-in-Err g c =
     let refuses = refused (view_of c.self.inside.set c.self.inside.history) (view_of c.self.inside.set c.note.new.self) (Fire c.args.proposal) (reply_of c.in-Err.refusal) refl lines (omega (arith, more, room)) (refusal_answer (view_of c.self.inside.set c.self.inside.history) c.args.proposal c.in-Err.refusal (subst (λ e. Judges c.self.inside.set e (Err c.in-Err.refusal)) c.event.ensures c.in-Err.ensures)) in
     subst (λ v. Fires v c.args.proposal (Err c.fault.result) (view_of c.self.inside.set c.note.new.self)) c.self.view_is (subst (λ f. Fires (view_of c.self.inside.set c.self.inside.history) c.args.proposal (Err f) (view_of c.self.inside.set c.note.new.self)) (sym c.fault.ensures) (fires_refused (view_of c.self.inside.set c.self.inside.history) (view_of c.self.inside.set c.note.new.self) c.args.proposal c.in-Err.refusal refuses))
 
-pub admit-requires-clause-later : goal.admit-requires-clause-later
-admit-requires-clause-later g c = rw c.len-line.ensures.count (lines_below _ c.lawful.ensures.proper c.self.invariant)
+pub admit-requires-clause-new_line : goal.admit-requires-clause-new_line
+admit-requires-clause-new_line g c = rw c.len-line.ensures.count (next_line_new _ c.lawful.ensures.proper c.self.invariant)
+
+pub admit-requires-clause-few_events : goal.admit-requires-clause-few_events
+admit-requires-clause-few_events g c =
+    let events = few_events _ c.self.invariant in
+    let few = c.len-line.ensures.few in
+    let count = c.len-line.ensures.count in
+    let not_full = c.if-line-eq-MAX_LINES.false in
+    omega (arith, few, count, not_full, events)
 
 pub invariant_of-self-in_default-admit : goal.invariant_of-self-in_default-admit
 invariant_of-self-in_default-admit g c = same_running _ _ c.self.invariant c.in_default-admit.ensures.unchanged c.reserve.ensures.lines c.reserve.ensures.few

@@ -9,4 +9,4 @@ returns c =
     let all : c.loop-id.ids.items ≡ values_of c.self.inside.ids.entries =
     sym (append-nil c.loop-id.ids.items) ∙ ap (λ es. c.loop-id.ids.items ++ values_of es) (sym left) ∙ c.loop-id.invariant ∙ ap values_of (c.into_iter-id-iterator.ensures.into_iter_gives ∙ c.iter-id-items.ensures.rest)
     in
-    rw (← c.self.view_is, all) (by_name _ _ c.self.invariant c.iter-id-items.ensures.ordered c.iter-id-items.ensures.found)
+    rw (← c.self.view_is, all) (by_name _ _ c.self.invariant c.iter-id-items.ensures.ordered)

@@ -1,9 +1,10 @@
-use Rattle.std.proofs.Common.{refl, sym, ◌∙◌}
+use Rattle.std.proofs.Common.{refl, sym, ◌∙◌, subst}
 use Rattle.ic_path.proofs.Alikes.{alike_self, alike_back}
 use Rattle.ic_link.specs.Links.{IsLawful}
 use Rattle.ic_cause.specs.Dependents.{causes_in}
 use Rattle.ic_cause.proofs.KeptViews.{at_error}
 use Rattle.ic_set.specs.Views.{SetView}
+use Rattle.ic_set.specs.Sets.{IsStandingSet}
 use Rattle.ic_set.proofs.KeptOrders.{kept_alike}
 use Rattle.ic_set.proofs.Admissions.{same_again, same_self, ends_same, ranks_fit, can_enter, can_put_in, put_keeps, put_admits}
 use Rattle.ic_set.proofs.set.StandingSet.admit.Goals as goal
@@ -13,11 +14,7 @@ returns-in_err-causes-clause-unchanged g c = at_error _ (same_self _)
 
 pub rank_over-requires : goal.rank_over-requires
 rank_over-requires g c =
-    let view = c.self.inside in
-    let v : SetView = record { start = view.start; agents = view.agents; events = view.events } in
-    let ls = g.L.LinkStore.links view.store in
-    let kept = causes_in view.dependents in
-    ranks_fit v c.args.self.now c.self.view_is ls kept c.self.invariant c.args.event.now c.args.pair c.requires.active c.args.line c.requires.later c.requires.few_lines
+    ranks_fit c.args.self.now (subst IsStandingSet c.self.view_is c.self.invariant.set) c.requires.few_events
 
 pub returns-in_err-rank-clause-unchanged : goal.returns-in_err-rank-clause-unchanged
 returns-in_err-rank-clause-unchanged g c = at_error _ (same_self _)
@@ -34,7 +31,7 @@ enter_all-requires g c =
     let v : SetView = record { start = view.start; agents = view.agents; events = view.events } in
     let ls = g.L.LinkStore.links view.store in
     let kept = causes_in view.dependents in
-    can_enter v c.args.self.now c.self.view_is ls kept c.self.invariant c.args.event.now c.args.pair c.requires.active c.args.line c.requires.later _ c.in_ok-children.ensures
+    can_enter v c.args.self.now c.self.view_is ls kept c.self.invariant c.args.event.now c.args.pair c.requires.active c.args.line c.requires.new_line _ c.in_ok-children.ensures
 
 pub invariant_of-self : goal.invariant_of-self
 invariant_of-self g c =
@@ -56,7 +53,7 @@ put_event-requires g c =
     let ends = ends_same c.outcome-rules.ensures.links c.profile.ensures c.lead_kind.ensures c.other_kind.ensures in
     let lawful : IsLawful ls = record { slim = c.lawful.ensures.slim; own_ids = c.lawful.ensures.own_ids } in
     rw (c.in_ok-copy.ensures, c.deref-2.ensures.value, ends, c.deref-3.ensures.value)
-    (can_put_in v c.args.self.now c.self.view_is ls kept c.self.invariant c.args.event.now c.args.pair c.requires.active c.args.line c.requires.later
+    (can_put_in v c.args.self.now c.self.view_is ls kept c.self.invariant c.args.event.now c.args.pair c.requires.active c.args.line c.requires.new_line
     _ c.in_ok-children.ensures c.in_ok-born.born.items _ c.in_ok-born.ensures.entered c.lawful-2.ensures
     c.in_ok-rank.rank c.in_ok-causes.causes.items c.in_ok-causes.ensures lawful)
 
@@ -69,7 +66,7 @@ invariant_of-self-in-Ok g c =
     let ends = ends_same c.outcome-rules.ensures.links c.profile.ensures c.lead_kind.ensures c.other_kind.ensures in
     let over = rw c.deref.ensures.value at c.in_ok-rank.ensures in
     let puts = rw (c.in_ok-copy.ensures, c.deref-2.ensures.value, ends, c.deref-3.ensures.value) at c.in-Ok.ensures.put.1 in
-    put_keeps v c.args.self.now c.self.view_is ls kept c.self.invariant c.args.event.now c.args.pair c.requires.active c.args.line c.requires.later
+    put_keeps v c.args.self.now c.self.view_is ls kept c.self.invariant c.args.event.now c.args.pair c.requires.active c.args.line c.requires.new_line
     _ c.in_ok-children.ensures c.in_ok-born.born.items _ c.in_ok-born.ensures.entered c.lawful-2.ensures
     c.in_ok-rank.rank c.in_ok-causes.causes.items c.in_ok-causes.ensures over
     c.in-Ok.id c.in-Ok.ensures.put.0 _ _ _ c.lawful-in-Ok.ensures puts
@@ -83,7 +80,7 @@ returns-in-Ok-clause-admitted g c =
     let ends = ends_same c.outcome-rules.ensures.links c.profile.ensures c.lead_kind.ensures c.other_kind.ensures in
     let over = rw c.deref.ensures.value at c.in_ok-rank.ensures in
     let puts = rw (c.in_ok-copy.ensures, c.deref-2.ensures.value, ends, c.deref-3.ensures.value) at c.in-Ok.ensures.put.1 in
-    put_admits v c.args.self.now c.self.view_is ls kept c.self.invariant c.args.event.now c.args.pair c.requires.active c.args.line c.requires.later
+    put_admits v c.args.self.now c.self.view_is ls kept c.self.invariant c.args.event.now c.args.pair c.requires.active c.args.line c.requires.new_line
     _ c.in_ok-children.ensures c.in_ok-born.born.items _ c.in_ok-born.ensures.entered c.lawful-2.ensures
     c.in_ok-rank.rank c.in_ok-causes.causes.items c.in_ok-causes.ensures over
     c.in-Ok.id c.in-Ok.ensures.put.0 _ _ _ c.lawful-in-Ok.ensures puts

@@ -1,0 +1,9 @@
+pub mod DeepLinks
+pub mod WithoutDeep
+pub mod EmptyPasts
+pub mod SeenSoFar
+pub mod DeepKinds
+pub mod FiredPasts
+pub mod UndonePasts
+pub mod NamedCauses
+pub mod ListedFirings

@@ -1,0 +1,23 @@
+ghost use Rattle.std.specs.Prelude.{◌≤◌, ◌↔◌, IfOk, IsTrue, length};
+ghost use Rattle.ic_name.specs.declared.limits.TheConstants.{MAX_LINES};
+ghost use Rattle.ic_past.specs.Pasts.{IsCausalOrder};
+
+use crate::past::Past;
+use ic_name::Event;
+use ic_start::Start;
+use std::alloc::{AllocError, Global};
+
+/// Whether the events are a sound set over the start, each listed once and after its direct causes.
+pub fn is_causal_order(alloc: Global, start: &Start, events: &[Event]) -> Result<bool, AllocError>
+    requires { length events.now ≤ MAX_LINES }
+    ensures { IfOk result (λ yes. IsTrue yes ↔ IsCausalOrder start.now events.now) }
+{
+    start.lawful();
+    let mut past = Past::over(alloc, start)?;
+    for event in events {
+        if !past.fire(event)? {
+            return Ok(false);
+        }
+    }
+    Ok(true)
+}

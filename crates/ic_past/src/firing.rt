@@ -1,0 +1,69 @@
+ghost use Rattle.std.specs.Prelude.{◌≡◌, ◌≢◌, ◌<◌, ℕ, ◌++◌, ◌∷◌, [], length, OnOk, OnErr};
+ghost use Rattle.ic_name.specs.declared.ids.EventId.{EventId as AnEventId};
+ghost use Rattle.ic_name.specs.declared.limits.TheConstants.{MAX_LINES};
+ghost use Rattle.ic_path.specs.Orders.{IsIn};
+ghost use Rattle.ic_theory.specs.Machine.{IsDeep};
+ghost use Rattle.ic_roster.specs.Rosters.{Stander};
+ghost use Rattle.ic_set.specs.Admission.{AreCausesOf};
+ghost use Rattle.ic_set.specs.Changes.{Admits, IsSame};
+ghost use Rattle.ic_set.specs.Pairs.{IsPairOf};
+ghost use Rattle.ic_past.specs.declared.deep.DeepEvent.{DeepEvent as ADeepEvent};
+
+use crate::deep::DeepEvent;
+use ic_link::LinkRows;
+use ic_name::Event;
+use ic_roster::Standing;
+use ic_set::{ActivePair, StandingSet};
+use std::alloc::AllocError;
+
+/// An active event comes to the set, under any line. At an error nothing changes.
+pub(crate) fn fire_in_set(
+    set: &mut StandingSet<LinkRows>,
+    event: &Event,
+    pair: ActivePair,
+) -> Result<(), AllocError>
+    requires active { IsPairOf set.old event.now pair }
+    requires shallow { ¬ (IsDeep event.now) }
+    requires few { length set.old.events < MAX_LINES }
+    ensures admitted { OnOk result ((line : ℕ) × (id : AnEventId) × Admits set.old event.now line id set.new) }
+    ensures unchanged { OnErr result (IsSame set.old set.new) }
+{
+    let line = free_line(set.events());
+    let _ = set.admit(event, pair, line)?;
+    Ok(())
+}
+
+/// An active event comes beside the set, with its direct causes. At an error nothing changes.
+pub(crate) fn fire_beside(
+    set: &StandingSet<LinkRows>,
+    deep: &mut Vec<DeepEvent>,
+    event: &Event,
+    pair: ActivePair,
+) -> Result<(), AllocError>
+    requires { IsPairOf set.now event.now pair }
+    ensures kept { OnOk result ((d : ADeepEvent) × (d.event ≡ event.now) × AreCausesOf set.now event.now d.causes.items × (deep.new.items ≡ deep.old.items ++ d ∷ [])) }
+    ensures unchanged { OnErr result (deep.new.items ≡ deep.old.items) }
+{
+    let causes = set.causes_of_pair(event, pair)?;
+    let event = event.copy()?;
+    let Ok(()) = deep.push(DeepEvent { event, causes }) else {
+        return Err(AllocError);
+    };
+    Ok(())
+}
+
+/// A line that no standing event has.
+fn free_line(events: &Standing) -> u32
+    requires { length events.now < MAX_LINES }
+    ensures unused { (x : Stander) → IsIn x events.now → x.id.line ≢ result }
+    ensures few { result < MAX_LINES }
+{
+    let count = events.len();
+    for taken in 0..count {
+        let line = (count - taken) as u32;
+        if events.at_line(line).is_none() {
+            return line;
+        }
+    }
+    0
+}

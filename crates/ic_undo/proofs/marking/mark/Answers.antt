@@ -1,0 +1,12 @@
+use Rattle.std.proofs.Common.{◌≡◌, sym, subst, ◌∙◌}
+use Rattle.ic_set.specs.Orders.{AreCanonical}
+use Rattle.ic_journal.specs.Views.{set_of}
+use Rattle.ic_undo.proofs.MarkedBenches.{bench_mark}
+use Rattle.ic_undo.proofs.marking.mark.Goals as goal
+
+pub invariant_of-result : goal.invariant_of-result
+invariant_of-result g c =
+    let same : c.in_ok-start.start ≡ c.args.bench.now.start = c.in_ok-start.ensures ∙ c.start.ensures in
+    let few = rw same at c.lawful-2.ensures.few_agents in
+    let canonical = subst (λ es. AreCanonical (set_of c.args.bench.now) es) (sym c.in_ok-events.ensures) c.in_ok-ranked.ensures.in_order in
+    rw same (bench_mark c.args.bench.now c.lawful.ensures few c.in_ok-events.events.items canonical)

@@ -1,0 +1,78 @@
+ghost use Rattle.std.specs.Prelude.{◌≡◌, ◌+◌, ◌≤◌, IfErr, IfOk, OnOk, length};
+ghost use Rattle.ic_name.specs.declared.limits.TheConstants.{MAX_LINES};
+ghost use Rattle.ic_path.specs.Orders.{Alike};
+ghost use Rattle.ic_set.specs.Views.{standing};
+ghost use Rattle.ic_journal.specs.Views.{set_of};
+ghost use Rattle.ic_undo.specs.GoingBack.{AreFirable, AreFired, AreSomeFired, IsBack, IsntBack};
+
+use crate::backwards::undo_each;
+use crate::faults::{BackFault, Counts};
+use crate::marks::Mark;
+use crate::missing::missing_events;
+use crate::outside::outside_events;
+use ic_journal::{Bench, LinkStore, Proposal, ReserveFault};
+use std::alloc::Global;
+
+/// Nothing was undone, and nothing fired.
+const NOTHING: Counts = Counts {
+    undone: 0,
+    fired: 0,
+};
+
+/// Goes back to a mark over the bench's start: undoes what stands and isn't in the mark, the last in canonical order
+/// first, then fires what is in the mark and doesn't stand, in canonical order. Then just the mark's events stand, and
+/// those that stood before have the ids that they had. Each undoing and each firing adds a line.
+///
+/// `HistoryFull` exactly where a line for each of them doesn't fit into the history; nothing but the room has changed
+/// then. `Memory` may stand in place of each answer, with the numbers of the events that were undone and fired before
+/// memory ran out; these are done. The undoings take no memory, so it comes before all of them or after.
+pub fn back<L: LinkStore>(
+    alloc: Global,
+    bench: &mut Bench<L>,
+    mark: &Mark,
+) -> Result<Counts, BackFault>
+    requires { mark.now.start ≡ bench.old.start }
+    ensures back { IfOk result (λ counts. IsBack bench.old mark.now counts bench.new) }
+    ensures stands { OnOk result (Alike mark.now.events (standing (set_of bench.new))) }
+    ensures fault { IfErr result (λ fault. IsntBack bench.old mark.now fault bench.new) }
+{
+    bench.lawful();
+    mark.lawful();
+    let Ok(gone) = outside_events(alloc, bench, mark) else {
+        return Err(BackFault::Memory(NOTHING));
+    };
+    let Ok(missing) = missing_events(alloc, bench, mark) else {
+        return Err(BackFault::Memory(NOTHING));
+    };
+    match bench.reserve(gone.len() + missing.len()) {
+        Ok(()) => {}
+        Err(ReserveFault::HistoryFull) => return Err(BackFault::HistoryFull),
+        Err(ReserveFault::Memory) => return Err(BackFault::Memory(NOTHING)),
+    }
+    bench.lawful();
+    undo_each(bench, &gone);
+    bench.lawful();
+    let undone = gone.len() as u32;
+    match fire_each(bench, missing) {
+        Ok(fired) => Ok(Counts { undone, fired }),
+        Err(fired) => Err(BackFault::Memory(Counts { undone, fired })),
+    }
+}
+
+/// Fires these events, the first one first, and answers how many they are; where memory runs out, how many were fired.
+fn fire_each<L: LinkStore>(bench: &mut Bench<L>, events: Vec<Proposal>) -> Result<u32, u32>
+    requires firable { AreFirable bench.old.start (standing (set_of bench.old)) events.items }
+    requires fit { length bench.old.lines + length events.items ≤ MAX_LINES }
+    ensures all { IfOk result (λ count. AreFired bench.old events.items bench.new × (count ≡ length events.items)) }
+    ensures some { IfErr result (λ count. AreSomeFired bench.old events.items count bench.new) }
+{
+    let mut fired = 0;
+    for event in events {
+        bench.lawful();
+        let Ok(_) = bench.fire(event) else {
+            return Err(fired);
+        };
+        fired += 1;
+    }
+    Ok(fired)
+}

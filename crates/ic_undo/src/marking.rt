@@ -1,0 +1,18 @@
+ghost use Rattle.std.specs.Prelude.{IfOk};
+ghost use Rattle.ic_undo.specs.Marks.{Marks};
+
+use crate::marks::Mark;
+use ic_journal::{Bench, LinkStore};
+use ic_set::without_ranks;
+use std::alloc::{AllocError, Global};
+
+/// A mark of what stands on the bench.
+pub fn mark<L: LinkStore>(alloc: Global, bench: &Bench<L>) -> Result<Mark, AllocError>
+    ensures { IfOk result (λ mark. Marks bench.now mark) }
+{
+    bench.lawful();
+    let start = bench.start().copy(alloc)?;
+    start.lawful();
+    let events = without_ranks(alloc, bench.ranked()?)?;
+    Ok(Mark { start, events })
+}
