@@ -15,3 +15,6 @@ pub use faults::{FireFault, ProposeFault, ReserveFault, UndoFault};
 pub use ic_link::{LinkRows as Store, LinkStore};
 pub use ic_set::ActivePair;
 pub use proposal::Proposal;
+
+#[cfg(test)]
+mod tests;

@@ -11,12 +11,12 @@ use Rattle.ic_path.specs.Orders as Orders
 use Rattle.ic_theory.specs.Machine.{State, initial, IsHistory, begins}
 use Rattle.ic_journal.specs.Views.{BenchView}
 use Rattle.ic_journal.specs.Benches.{IsAt, Opens, fired_in}
-use Rattle.ic_session.specs.declared.command.Command.{Command}
+use Rattle.ic_command.specs.declared.command.Command.{Command}
 use Rattle.ic_session.specs.InputLines.{lines}
-use Rattle.ic_session.specs.Commands.{within}
+use Rattle.ic_command.specs.Commands.{within}
 use Rattle.ic_session.specs.NextCommand.{TakesCommand}
-use Rattle.ic_session.specs.Replies.{Replies}
-use Rattle.ic_session.specs.Turns.{Turns}
+use Rattle.ic_answer.specs.Replies.{Replies}
+use Rattle.ic_answer.specs.Turns.{Turns}
 use Rattle.ic_session.specs.Sessions.{AreAnswers, AreBegun}
 use Rattle.ic_session.proofs.AnswerSteps.{Leads, leads_none, leads_more, leads_all, leads_begun, leads_first}
 

@@ -3,11 +3,11 @@ use Rattle.std.proofs.Common.{◌≡◌, ℕ, Bool, true, false, List, [], ◌�
 use Rattle.ic_lines.specs.Lines.{first_line, has_feed, behind_line}
 use Rattle.ic_theory.specs.Starts.{Start}
 use Rattle.ic_theory.specs.Machine.{State}
-use Rattle.ic_session.specs.declared.command.Command.{Command}
-use Rattle.ic_session.specs.declared.command.Command.TheVariants.{Nothing}
-use Rattle.ic_session.specs.Commands.{is_well_formed, IsCommand, within, said, unsaid, AreWordsOf, asked, malformed, no_words}
+use Rattle.ic_command.specs.declared.command.Command.{Command}
+use Rattle.ic_command.specs.declared.command.Command.TheVariants.{Nothing}
+use Rattle.ic_command.specs.Commands.{is_well_formed, IsCommand, within, said, unsaid, AreWordsOf, asked, malformed, no_words}
 use Rattle.ic_session.specs.InputLines.{lines, TextLine}
-use Rattle.ic_session.specs.Replies.{Replies, nothing, memory}
+use Rattle.ic_answer.specs.Replies.{Replies, nothing, memory}
 use Rattle.ic_session.specs.Sessions.{AreAnswers, none, more, AreBegun}
 use Rattle.ic_session.proofs.InputFacts.{line_with_feed, line_without_feed}
 

@@ -8,10 +8,10 @@ use Rattle.ic_lines.specs.Lines.{Takes, first_line, behind_line}
 use Rattle.ic_lines.specs.Faults.{AppendsFront}
 use Rattle.ic_lines.specs.declared.piece.Piece.{Piece}
 use Rattle.ic_lines.specs.declared.piece.Piece.TheVariants as pieces
-use Rattle.ic_session.specs.Commands.{is_well_formed, unsaid}
+use Rattle.ic_command.specs.Commands.{is_well_formed, unsaid}
 use Rattle.ic_session.specs.NextCommand.{TakesCommand}
-use Rattle.ic_session.specs.declared.command.TheConstants.{MAX_COMMAND}
-use Rattle.ic_session.specs.declared.command.Command.TheVariants.{Malformed}
+use Rattle.ic_command.specs.declared.command.TheConstants.{MAX_COMMAND}
+use Rattle.ic_command.specs.declared.command.Command.TheVariants.{Malformed}
 use Rattle.std.specs.Io.KnownBytes.{Appends, prepend_known}
 use Rattle.ic_theory.specs.Starts.{Start}
 use Rattle.ic_theory.specs.Machine.{initial}
@@ -26,7 +26,7 @@ use Rattle.ic_session.specs.declared.session.Status.{Status}
 use Rattle.ic_session.specs.declared.session.Status.TheVariants.{Ended, NetRefused}
 use Rattle.ic_session.specs.InputLines.{lines, net_part}
 use Rattle.ic_session.specs.NetInput.{ReadsNet}
-use Rattle.ic_session.specs.Texts.{refusal_line}
+use Rattle.ic_session.specs.Refusals.{refusal_line}
 use Rattle.ic_session.specs.Sessions.{AreAnswers, Writes, AreBegun, IsBegun, nothing, naming, answering}
 
 -- where nothing had been read in front of it, the net text begins the input

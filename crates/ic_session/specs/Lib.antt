@@ -1,13 +1,5 @@
 pub mod InputLines
-pub mod Words
-pub mod Commands
 pub mod NetInput
 pub mod NextCommand
-pub mod Texts
-pub mod Standing
-pub mod Unwinding
-pub mod Reducing
-pub mod Replies
-pub mod Reduced
-pub mod Turns
+pub mod Refusals
 pub mod Sessions

@@ -6,11 +6,11 @@ use Rattle.ic_theory.specs.Machine.{State, initial}
 use Rattle.ic_grammar.specs.Grammar.{Denotes}
 use Rattle.ic_grammar.specs.Faults.{Stands, IsFirstFault}
 use Rattle.ic_grammar.specs.declared.refusal.Refusal.{Refusal}
-use Rattle.ic_session.specs.declared.command.Command.{Command}
-use Rattle.ic_session.specs.Commands.{IsCommand, within}
+use Rattle.ic_command.specs.declared.command.Command.{Command}
+use Rattle.ic_command.specs.Commands.{IsCommand, within}
 use Rattle.ic_session.specs.InputLines.{TextLine, lines, net_part, command_lines}
-use Rattle.ic_session.specs.Replies.{Replies}
-use Rattle.ic_session.specs.Texts.{refusal_line}
+use Rattle.ic_answer.specs.Replies.{Replies}
+use Rattle.ic_session.specs.Refusals.{refusal_line}
 use Rattle.ic_session.specs.declared.session.Status.{Status}
 use Rattle.ic_session.specs.declared.session.Status.TheVariants.{Ended, NetRefused}
 

@@ -1,15 +1,9 @@
-use crate::answer::carry_out;
-use crate::command::{Command, command_of};
 use crate::laws;
-use crate::named::refusal_line;
 use crate::net_input::{NetInput, read_net_text};
-use crate::refused::Refused;
+use crate::refusal::refusal_line;
 use crate::session::{Status, run_session};
-use crate::words::next_word;
 use ic_grammar::Refusal;
-use ic_journal::Bench;
 use ic_lines::{Input, IoFault};
-use ic_text::read_net;
 use std::io;
 use std::io::{ErrorKind, Read, Write};
 use std::test::Fail;
@@ -65,21 +59,6 @@ fn an_active_gamma_and_delta(rt: HostRuntime) -> Result<(), Fail> {
             output
         )?
     );
-    Ok(())
-}
-
-#[test]
-fn lines_and_words_are_cut_where_they_end(rt: HostRuntime) -> Result<(), Fail> {
-    laws::lines_end_at_feeds();
-    laws::words_end_at_blanks();
-    match next_word(b" \tnet  #") {
-        Some((word, behind)) => {
-            assert_eq!(rt; word, b"net".as_slice());
-            assert_eq!(rt; behind, b"  #".as_slice());
-        }
-        None => return Err("a word".into()),
-    }
-    assert!(rt; next_word(b" \t ").is_none());
     Ok(())
 }
 
@@ -158,22 +137,21 @@ fn faults_of_reading_and_writing(rt: HostRuntime) -> Result<(), Fail> {
 }
 
 #[test]
-fn the_parts_alone(rt: HostRuntime) -> Result<(), Fail> {
+fn the_net_text_is_read_alone(rt: HostRuntime) -> Result<(), Fail> {
+    laws::lines_end_at_feeds();
     let alloc = rt.alloc();
-    assert!(rt; matches!(command_of(alloc, b" net\t")?, Command::Net));
     let mut input = Input::new(alloc, 10)?;
     let mut reader = b"x = x;\n---\nnet\n".as_slice();
-    let read = read_net_text(alloc, &mut input, &mut reader);
-    let Ok(NetInput::Whole(text)) = read else {
-        return Err("a short net text")?;
+    let Ok(NetInput::Whole(text)) = read_net_text(alloc, &mut input, &mut reader) else {
+        return Err("a short net text".into());
     };
     assert_eq!(rt; text.as_slice(), b"x = x;\n".as_slice());
-    let start = read_net(alloc, &text)?;
-    let mut bench = Bench::over(alloc, start)?;
-    let active = carry_out(alloc, &mut bench, Command::Active)?;
-    assert_eq!(rt; active.bytes(), b"active 0\n".as_slice());
-    assert_eq!(rt; Refused::Deep.line(), b"refused 22 deep\n".as_slice());
-    let line = refusal_line(alloc, Refusal::Thrice(4))?;
+    Ok(())
+}
+
+#[test]
+fn a_fault_is_named_with_its_place(rt: HostRuntime) -> Result<(), Fail> {
+    let line = refusal_line(rt.alloc(), Refusal::Thrice(4))?;
     assert_eq!(rt; line.as_slice(), b"refused 5 at 4\n".as_slice());
     Ok(())
 }

@@ -3,9 +3,9 @@ use Rattle.std.specs.Io.KnownBytes.{Appends}
 use Rattle.ic_lines.specs.Left.{left}
 use Rattle.ic_lines.specs.Faults.{AppendsFront}
 use Rattle.ic_cause.proofs.KeptViews.{at_error}
-use Rattle.ic_session.specs.declared.command.Command.{Command}
-use Rattle.ic_session.specs.Texts.{answer_text}
-use Rattle.ic_session.specs.Turns.{Turns}
+use Rattle.ic_command.specs.declared.command.Command.{Command}
+use Rattle.ic_answer.specs.Texts.{answer_text}
+use Rattle.ic_answer.specs.Turns.{Turns}
 use Rattle.ic_session.proofs.AnswerFacts.{answered_more, answered_all, all_answered, answered_begun, answered_front, all_begun}
 use Rattle.ic_session.proofs.session.answer_all.Goals as goal
 

@@ -1,0 +1,15 @@
+pub mod Images
+pub mod ListedLines
+pub mod StandingNet
+pub mod StandingPairs
+pub mod StandingCauses
+pub mod FoundCauses
+pub mod TurnSteps
+pub mod FiringReplies
+pub mod UndoingReplies
+pub mod ToldReplies
+pub mod UndoneInTurn
+pub mod UnwoundEvents
+pub mod UnwindingReplies
+pub mod FiredInTurn
+pub mod LeastFired

@@ -1,0 +1,82 @@
+ghost use Rattle.std.specs.Prelude.{◌≡◌, IfOk, OnErr};
+ghost use Rattle.ic_answer.specs.declared.refused.Refused.TheVariants.{Memory};
+ghost use Rattle.ic_answer.specs.Texts.{answer_text, refusal_text};
+ghost use Rattle.ic_answer.specs.Turns.{Turns};
+
+use crate::changing::{fire, undo};
+use crate::reading;
+use crate::reducing::reduce;
+use crate::refused::Refused;
+use crate::unwinding::{undo_everything, undo_with_dependents};
+use crate::why::why;
+use ic_command::command::Command;
+use ic_journal::{Bench, Store};
+use std::alloc::{AllocError, Global};
+
+/// What is written in answer to a command.
+#[derive(Drop)]
+pub enum Answer {
+    /// Its text; it may be empty.
+    Text(Vec<u8>),
+    /// A refusal whose line is always the same.
+    Refused(Refused),
+}
+
+impl Answer {
+    /// What is written.
+    pub fn bytes(&self) -> &[u8]
+        ensures { result.now ≡ answer_text self.now }
+    {
+        match self {
+            Answer::Text(text) => text,
+            Answer::Refused(refused) => refused.line(),
+        }
+    }
+}
+
+/// Carries out a command over a bench. Where there is no memory for it, the answer is a refusal, and then neither net nor
+/// standing set have changed, but for what a `reduce` says that it has fired. An error where there is no memory for the
+/// answer to a command that has changed them.
+pub fn carry_out(
+    alloc: Global,
+    bench: &mut Bench<Store>,
+    command: Command,
+) -> Result<Answer, AllocError>
+    ensures { IfOk result (λ answer. Turns bench.old command (answer_text answer) bench.new) }
+{
+    match command {
+        Command::Nothing => Ok(Answer::Text(Vec::new(alloc))),
+        Command::Malformed => Ok(Answer::Refused(Refused::Command)),
+        Command::Net => Ok(text_or_memory(reading::net(alloc, bench))),
+        Command::Active => Ok(text_or_memory(reading::active(alloc, bench))),
+        Command::Journal => Ok(text_or_memory(reading::journal(alloc, bench))),
+        Command::Why(event) => Ok(answer_or_memory(why(alloc, bench, &event))),
+        Command::Fire(event) => Ok(fire(alloc, bench, &event)),
+        Command::Undo(event) => Ok(undo(alloc, bench, &event)),
+        Command::Unwind(event) => undo_with_dependents(alloc, bench, &event),
+        Command::UndoAll => undo_everything(alloc, bench),
+        Command::Reduce(most) => reduce(alloc, bench, most),
+    }
+}
+
+/// A text, or that memory is wanting.
+fn text_or_memory(text: Result<Vec<u8>, AllocError>) -> Answer
+    ensures text { IfOk text (λ t. answer_text result ≡ t.items) }
+    ensures memory { OnErr text (answer_text result ≡ refusal_text Memory) }
+{
+    match text {
+        Ok(text) => Answer::Text(text),
+        Err(_) => Answer::Refused(Refused::Memory),
+    }
+}
+
+/// An answer, or that memory is wanting.
+fn answer_or_memory(answer: Result<Answer, AllocError>) -> Answer
+    ensures answer { IfOk answer (λ a. answer_text result ≡ answer_text a) }
+    ensures memory { OnErr answer (answer_text result ≡ refusal_text Memory) }
+{
+    match answer {
+        Ok(answer) => answer,
+        Err(_) => Answer::Refused(Refused::Memory),
+    }
+}

@@ -1,0 +1,17 @@
+// What a bench answers to each command.
+#![tactic(auto)]
+
+pub mod answer;
+mod changing;
+mod named;
+mod reading;
+mod reducing;
+pub mod refused;
+mod unwinding;
+mod why;
+
+pub use answer::{Answer, carry_out};
+pub use refused::Refused;
+
+#[cfg(test)]
+mod tests;

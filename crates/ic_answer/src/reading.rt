@@ -1,0 +1,64 @@
+ghost use Rattle.std.specs.Prelude.{◌≡◌, ◌++◌, IfOk, OnOk};
+ghost use Rattle.ic_name.specs.Events.{Event};
+ghost use Rattle.ic_set.specs.Pairs.{IsPairOf};
+ghost use Rattle.ic_journal.specs.Views.{set_of};
+ghost use Rattle.ic_command.specs.declared.command.Command.TheVariants.{Active, Journal, Net};
+ghost use Rattle.ic_answer.specs.Texts.{event_line};
+ghost use Rattle.ic_answer.specs.Turns.{Tells};
+
+use crate::named::push_pair;
+use ic_cause::journal_text;
+use ic_journal::{ActivePair, Bench, Store};
+use ic_print::print_net;
+use std::alloc::{AllocError, Global};
+
+/// The printed net.
+pub(crate) fn net(alloc: Global, bench: &Bench<Store>) -> Result<Vec<u8>, AllocError>
+    ensures { IfOk result (λ text. Tells bench.now Net text.items) }
+{
+    bench.lawful();
+    let net = bench.net()?;
+    net.lawful();
+    print_net(alloc, &net, bench.start().names())
+}
+
+/// How many active pairs there are, and their names, in order of leads.
+pub(crate) fn active(alloc: Global, bench: &Bench<Store>) -> Result<Vec<u8>, AllocError>
+    ensures { IfOk result (λ text. Tells bench.now Active text.items) }
+{
+    bench.lawful();
+    let pairs = bench.active()?;
+    let mut text = format!(in alloc; "active {}\n", pairs.len())?.into_bytes();
+    for pair in &pairs {
+        push_active(bench, &mut text, pair)?;
+    }
+    Ok(text)
+}
+
+/// Puts a line with the names of an active pair at the end.
+fn push_active(
+    bench: &Bench<Store>,
+    text: &mut Vec<u8>,
+    pair: &ActivePair,
+) -> Result<(), AllocError>
+    ensures { OnOk result ((e : Event) → IsPairOf (set_of bench.now) e pair.now → text.new.items ≡ text.old.items ++ event_line e) }
+{
+    bench.lawful();
+    let Some(lead) = bench.name_of(pair.lead)? else {
+        return Ok(());
+    };
+    let Some(other) = bench.name_of(pair.other)? else {
+        return Ok(());
+    };
+    push_pair(text, &lead, &other)?;
+    text.push(b'\n')?;
+    Ok(())
+}
+
+/// The standing events with their ranks, in canonical order.
+pub(crate) fn journal(alloc: Global, bench: &Bench<Store>) -> Result<Vec<u8>, AllocError>
+    ensures { IfOk result (λ text. Tells bench.now Journal text.items) }
+{
+    let events = bench.ranked()?;
+    journal_text(alloc, &events)
+}

@@ -1,0 +1,38 @@
+ghost use Rattle.std.specs.Prelude.{◌≡◌};
+ghost use Rattle.ic_answer.specs.Texts.{refusal_text};
+
+/// A refusal of a command whose line is always the same.
+#[derive(Clone, Copy, Debug, PartialEq, Eq)]
+pub enum Refused {
+    /// An event that isn't active.
+    NotActive,
+    /// Children whose names would have too many digits.
+    Deep,
+    /// More agents than there may be.
+    Full,
+    /// A history with as many lines as it may have.
+    HistoryFull,
+    /// Want of memory.
+    Memory,
+    /// An event that doesn't stand.
+    NotStanding,
+    /// A line that is no command.
+    Command,
+}
+
+impl Refused {
+    /// The line that names it.
+    pub fn line(self) -> &'static [u8]
+        ensures { result.now ≡ refusal_text self }
+    {
+        match self {
+            Refused::NotActive => b"refused 21 not active\n",
+            Refused::Deep => b"refused 22 deep\n",
+            Refused::Full => b"refused 23 full\n",
+            Refused::HistoryFull => b"refused 24 history full\n",
+            Refused::Memory => b"refused 25 memory\n",
+            Refused::NotStanding => b"refused 31 not standing\n",
+            Refused::Command => b"refused 40 command\n",
+        }
+    }
+}

@@ -1,0 +1,77 @@
+ghost use Rattle.std.specs.Prelude.{◌≡◌, ◌++◌, [], codes, length, IfOk, OnOk};
+ghost use Rattle.std.specs.Fmt.{decimal};
+ghost use Rattle.std.specs.List.{flat_map};
+ghost use Rattle.ic_command.specs.declared.command.Command.TheVariants.{UndoAll, Unwind};
+ghost use Rattle.ic_answer.specs.Texts.{answer_text, pair_line, undone_all_text};
+ghost use Rattle.ic_answer.specs.Turns.{Turns};
+
+use crate::answer::Answer;
+use crate::named::push_name;
+use crate::refused::Refused;
+use ic_journal::{Bench, Store};
+use ic_name::EventName;
+use ic_undo::{UndoAllFault, UnwindFault, undo_all, unwind};
+use std::alloc::{AllocError, Global};
+
+/// Undoes an event with all that rests on it. An error where there is no memory to tell what was undone.
+pub(crate) fn undo_with_dependents(
+    alloc: Global,
+    bench: &mut Bench<Store>,
+    event: &EventName,
+) -> Result<Answer, AllocError>
+    ensures { IfOk result (λ answer. Turns bench.old (Unwind event.now) (answer_text answer) bench.new) }
+{
+    bench.lawful();
+    let Some(id) = bench.event(event) else {
+        return Ok(Answer::Refused(Refused::NotStanding));
+    };
+    let unwound = unwind(alloc, bench, id);
+    bench.lawful();
+    match unwound {
+        Ok(names) => Ok(Answer::Text(unwound_text(alloc, &names)?)),
+        Err(UnwindFault::NotStanding) => Ok(Answer::Refused(Refused::NotStanding)),
+        Err(UnwindFault::HistoryFull) => Ok(Answer::Refused(Refused::HistoryFull)),
+        Err(UnwindFault::Memory) => Ok(Answer::Refused(Refused::Memory)),
+    }
+}
+
+/// Undoes all events. An error where there is no memory to tell how many.
+pub(crate) fn undo_everything(alloc: Global, bench: &mut Bench<Store>) -> Result<Answer, AllocError>
+    ensures { IfOk result (λ answer. Turns bench.old UndoAll (answer_text answer) bench.new) }
+{
+    bench.lawful();
+    let undone = undo_all(alloc, bench);
+    bench.lawful();
+    match undone {
+        Ok(names) => Ok(Answer::Text(undone_all_text(alloc, names.len())?)),
+        Err(UndoAllFault::HistoryFull) => Ok(Answer::Refused(Refused::HistoryFull)),
+        Err(UndoAllFault::Memory) => Ok(Answer::Refused(Refused::Memory)),
+    }
+}
+
+/// How many events were undone.
+fn undone_all_text(alloc: Global, count: usize) -> Result<Vec<u8>, AllocError>
+    ensures { IfOk result (λ text. text.items ≡ undone_all_text count) }
+{
+    Ok(format!(in alloc; "undone-all {}\n", count)?.into_bytes())
+}
+
+/// How many events were undone, and which.
+fn unwound_text(alloc: Global, names: &[EventName]) -> Result<Vec<u8>, AllocError>
+    ensures { IfOk result (λ text. text.items ≡ codes "unwound " ++ decimal (length names.now) ++ codes "\n" ++ flat_map (pair_line []) names.now) }
+{
+    let mut text = format!(in alloc; "unwound {}\n", names.len())?.into_bytes();
+    for name in names {
+        push_line(&mut text, name)?;
+    }
+    Ok(text)
+}
+
+/// Puts a line with the names of an event at the end.
+fn push_line(text: &mut Vec<u8>, name: &EventName) -> Result<(), AllocError>
+    ensures { OnOk result (text.new.items ≡ text.old.items ++ pair_line [] name.now) }
+{
+    push_name(text, name)?;
+    text.push(b'\n')?;
+    Ok(())
+}

@@ -1,0 +1,4 @@
+pub mod WordFacts
+pub mod WordCuts
+pub mod WordsAsked
+pub mod AgentsNamed

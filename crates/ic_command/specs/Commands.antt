@@ -1,0 +1,98 @@
+-- What a command line says.
+use Rattle.std.specs.Prelude.{◌≡◌, ◌≢◌, ◌≤◌, ℕ, ◌==◌, ◌||◌, ◌&&◌, nat_le, min, Bool, true, false, List, [], ◌∷◌, length, codes, Option, None, Some}
+use Rattle.std.specs.Fmt.{decimal}
+use Rattle.std.specs.List.{list_all}
+use Rattle.std.specs.Io.BufRead.{strip_last}
+use Rattle.ic_name.specs.Names.{Name, IsName}
+use Rattle.ic_name.specs.Events.{Pair, pair_of}
+use Rattle.ic_name.specs.NameTexts.{name_text, IsShallowText}
+use Rattle.ic_name.specs.declared.limits.TheConstants.{MAX_LINES}
+use Rattle.ic_command.specs.declared.command.TheConstants.{MAX_COMMAND}
+use Rattle.ic_command.specs.declared.command.Command.{Command}
+use Rattle.ic_command.specs.declared.command.Command.TheVariants.{Nothing, Net, Active, Journal, Fire, Undo, Why, Unwind, UndoAll, Reduce, Malformed}
+use Rattle.ic_command.specs.Words.{words}
+
+-- a byte that a command line may have
+abbrev pub is_plain : ℕ → Bool
+is_plain b = (nat_le 32 b && nat_le b 126) || (b == 9)
+
+-- the line isn't too long, and has no other bytes
+abbrev pub is_well_formed : List ℕ → Bool
+is_well_formed line = nat_le (length line) MAX_COMMAND && list_all is_plain line
+
+abbrev pub is_comment : List ℕ → Bool
+is_comment [] = false
+is_comment (b ∷ bs) = b == 35
+
+-- the words are the names of two agents, and this is the name of their event
+pub record AreAgents (ws : List (List ℕ)) (event : Pair) : Type 0 where
+  pub first : Name
+  pub second : Name
+  pub first_is : IsName first
+  pub second_is : IsName second
+  pub apart : first ≢ second
+  pub written : ws ≡ name_text first ∷ name_text second ∷ []
+  pub named : event ≡ pair_of first second
+
+-- the word is a decimal number without leading zeros, at most as great as a history may be long
+pub record IsNumber (w : List ℕ) (n : ℕ) : Type 0 where
+  pub written : w ≡ decimal n
+  pub small : n ≤ MAX_LINES
+
+-- what the words of a line ask for
+pub data Asks : List (List ℕ) → Command → Type 0 where
+  no_words : Asks [] Nothing
+  comment : {w : List ℕ} {ws : List (List ℕ)} → is_comment w ≡ true → Asks (w ∷ ws) Nothing
+  net : Asks (codes "net" ∷ []) Net
+  active : Asks (codes "active" ∷ []) Active
+  journal : Asks (codes "journal" ∷ []) Journal
+  undo_all : Asks (codes "undo-all" ∷ []) UndoAll
+  fire : {ws : List (List ℕ)} {e : Pair} → AreAgents ws e → Asks (codes "fire" ∷ ws) (Fire e)
+  undo : {ws : List (List ℕ)} {e : Pair} → AreAgents ws e → Asks (codes "undo" ∷ ws) (Undo e)
+  why : {ws : List (List ℕ)} {e : Pair} → AreAgents ws e → Asks (codes "why" ∷ ws) (Why e)
+  unwind : {ws : List (List ℕ)} {e : Pair} → AreAgents ws e → Asks (codes "unwind" ∷ ws) (Unwind e)
+  reduce : {w : List ℕ} {n : ℕ} → IsNumber w n → Asks (codes "reduce" ∷ w ∷ []) (Reduce n)
+
+-- what words ask for, if they ask for anything
+pub data AreWordsOf : List (List ℕ) → Command → Type 0 where
+  asked : {ws : List (List ℕ)} {c : Command} → Asks ws c → AreWordsOf ws c
+  malformed : {ws : List (List ℕ)} → ((c : Command) → Asks ws c → ⊥) → AreWordsOf ws Malformed
+
+-- the command of a line; a carriage return at its end goes first
+pub data IsCommand (line : List ℕ) : Command → Type 0 where
+  said : {c : Command} → is_well_formed (strip_last 13 line) ≡ true → AreWordsOf (words (strip_last 13 line)) c → IsCommand line c
+  unsaid : is_well_formed (strip_last 13 line) ≡ false → IsCommand line Malformed
+
+-- the name that a word writes, if it writes one
+abbrev pub IsNameIn : List ℕ → Option Name → Type 0
+IsNameIn w (Some n) = IsName n × (w ≡ name_text n)
+IsNameIn w None = ¬ (IsShallowText w)
+
+-- the event that words name, if they name one
+abbrev pub IsEventIn : List (List ℕ) → Option Pair → Type 0
+IsEventIn ws (Some e) = AreAgents ws e
+IsEventIn ws None = (e : Pair) → AreAgents ws e → ⊥
+
+-- the number that a word writes, if it writes one
+abbrev pub IsNumberIn : List ℕ → Option ℕ → Type 0
+IsNumberIn w (Some n) = IsNumber w n
+IsNumberIn w None = (n : ℕ) → ¬ (IsNumber w n)
+
+-- the number that words write, if they are one word that writes one
+abbrev pub AreNumber : List (List ℕ) → Option ℕ → Type 0
+AreNumber ws (Some n) = (w : List ℕ) × (ws ≡ w ∷ []) × IsNumber w n
+AreNumber ws None = (w : List ℕ) (n : ℕ) → ws ≡ w ∷ [] → ¬ (IsNumber w n)
+
+-- the command in a session that fires at most so many events at once
+abbrev pub within : ℕ → Command → Command
+within budget (Reduce n) = Reduce (min budget n)
+within budget Nothing = Nothing
+within budget Net = Net
+within budget Active = Active
+within budget Journal = Journal
+within budget (Fire e) = Fire e
+within budget (Undo e) = Undo e
+within budget (Why e) = Why e
+within budget (Unwind e) = Unwind e
+within budget UndoAll = UndoAll
+within budget Malformed = Malformed

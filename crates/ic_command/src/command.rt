@@ -1,0 +1,223 @@
+ghost use Rattle.std.specs.Prelude.{◌≡◌, ◌≢◌, [], IfOk};
+ghost use Rattle.std.specs.List.{list_all};
+ghost use Rattle.std.specs.Io.BufRead.{strip_last};
+ghost use Rattle.ic_command.specs.Commands.{AreNumber, AreWordsOf, IsCommand, IsEventIn, IsNameIn, IsNumberIn, is_comment, is_plain, is_well_formed, within};
+ghost use Rattle.ic_command.specs.Words.{words};
+ghost use Rattle.ic_command.specs.declared.command.Command.TheVariants.{Malformed};
+
+use crate::words::next_word;
+use ic_name::limits::MAX_LINES;
+use ic_name::{AgentName, EventName, NameFault};
+use std::alloc::{AllocError, Global};
+
+/// The bytes of a command line without its end, at most.
+pub const MAX_COMMAND: usize = 131_072;
+
+/// What a line of a session asks for.
+#[derive(Drop)]
+pub enum Command {
+    /// No words, or a comment.
+    Nothing,
+    /// The printed net.
+    Net,
+    /// The active pairs.
+    Active,
+    /// The standing events with their ranks.
+    Journal,
+    /// To fire an event.
+    Fire(EventName),
+    /// To undo the firing of an event.
+    Undo(EventName),
+    /// The rank and the direct causes of an event.
+    Why(EventName),
+    /// To undo an event with all that rests on it.
+    Unwind(EventName),
+    /// To undo all events.
+    UndoAll,
+    /// To fire active pairs, at most so many.
+    Reduce(u32),
+    /// No command.
+    Malformed,
+}
+
+impl Command {
+    /// The command in a session that fires at most so many events at once.
+    pub fn within(self, budget: u32) -> Command
+        ensures { result ≡ within budget self }
+    {
+        match self {
+            Command::Reduce(most) => Command::Reduce(most.min(budget)),
+            other => other,
+        }
+    }
+}
+
+/// The command of a line without its line feed. An error where there is no memory for the names in it.
+pub fn command_of(alloc: Global, line: &[u8]) -> Result<Command, AllocError>
+    ensures { IfOk result (λ command. IsCommand line.now command) }
+{
+    let body = without_return(line);
+    if is_well_formed(body) {
+        command_of_words(alloc, body)
+    } else {
+        Ok(Command::Malformed)
+    }
+}
+
+/// The line without a carriage return at its end.
+fn without_return(line: &[u8]) -> &[u8]
+    ensures { result.now ≡ strip_last 13 line.now }
+{
+    match line.last() {
+        Some(b'\r') => &line[..line.len() - 1],
+        _ => line,
+    }
+}
+
+fn is_plain(byte: u8) -> bool
+    ensures { result ≡ is_plain byte }
+{
+    matches!(byte, b' '..=b'~' | b'\t')
+}
+
+fn is_well_formed(body: &[u8]) -> bool
+    ensures { result ≡ is_well_formed body.now }
+{
+    body.len() <= MAX_COMMAND && are_plain(body)
+}
+
+fn are_plain(body: &[u8]) -> bool
+    ensures { result ≡ list_all is_plain body.now }
+{
+    body.iter().all(|byte| is_plain(*byte))
+}
+
+fn is_comment(word: &[u8]) -> bool
+    ensures { result ≡ is_comment word.now }
+{
+    match word {
+        [] => false,
+        [byte, ..] => *byte == b'#',
+    }
+}
+
+/// The command that the words of a line ask for.
+fn command_of_words(alloc: Global, body: &[u8]) -> Result<Command, AllocError>
+    ensures { IfOk result (λ command. AreWordsOf (words body.now) command) }
+{
+    let Some((word, behind)) = next_word(body) else {
+        return Ok(Command::Nothing);
+    };
+    if is_comment(word) {
+        return Ok(Command::Nothing);
+    }
+    if word == b"net".as_slice() {
+        Ok(alone(behind, Command::Net))
+    } else if word == b"active".as_slice() {
+        Ok(alone(behind, Command::Active))
+    } else if word == b"journal".as_slice() {
+        Ok(alone(behind, Command::Journal))
+    } else if word == b"undo-all".as_slice() {
+        Ok(alone(behind, Command::UndoAll))
+    } else if word == b"reduce".as_slice() {
+        Ok(match number_in(alloc, behind)? {
+            Some(most) => Command::Reduce(most),
+            None => Command::Malformed,
+        })
+    } else if word == b"fire".as_slice() {
+        Ok(match event_in(alloc, behind)? {
+            Some(event) => Command::Fire(event),
+            None => Command::Malformed,
+        })
+    } else if word == b"undo".as_slice() {
+        Ok(match event_in(alloc, behind)? {
+            Some(event) => Command::Undo(event),
+            None => Command::Malformed,
+        })
+    } else if word == b"why".as_slice() {
+        Ok(match event_in(alloc, behind)? {
+            Some(event) => Command::Why(event),
+            None => Command::Malformed,
+        })
+    } else if word == b"unwind".as_slice() {
+        Ok(match event_in(alloc, behind)? {
+            Some(event) => Command::Unwind(event),
+            None => Command::Malformed,
+        })
+    } else {
+        Ok(Command::Malformed)
+    }
+}
+
+/// A command that takes no words.
+fn alone(behind: &[u8], command: Command) -> Command
+    ensures alone { words behind.now ≡ [] → result ≡ command }
+    ensures more { words behind.now ≢ [] → result ≡ Malformed }
+{
+    match next_word(behind) {
+        Some(_) => Command::Malformed,
+        None => command,
+    }
+}
+
+/// The event that the words of a line name; `None` where they aren't the names of two agents.
+fn event_in(alloc: Global, line: &[u8]) -> Result<Option<EventName>, AllocError>
+    ensures { IfOk result (λ event. IsEventIn (words line.now) event) }
+{
+    let Some((first, rest)) = next_word(line) else {
+        return Ok(None);
+    };
+    let Some((second, behind)) = next_word(rest) else {
+        return Ok(None);
+    };
+    if next_word(behind).is_some() {
+        return Ok(None);
+    }
+    let Some(left) = name_in(alloc, first)? else {
+        return Ok(None);
+    };
+    let Some(right) = name_in(alloc, second)? else {
+        return Ok(None);
+    };
+    Ok(EventName::of(left, right))
+}
+
+/// The name that a word writes; `None` where it writes none that an agent may have.
+fn name_in(alloc: Global, word: &[u8]) -> Result<Option<AgentName>, AllocError>
+    ensures { IfOk result (λ name. IsNameIn word.now name) }
+{
+    match AgentName::read(alloc, word) {
+        Ok(name) => Ok(Some(name)),
+        Err(NameFault::Memory) => Err(AllocError),
+        Err(_) => Ok(None),
+    }
+}
+
+/// The number that the words of a line write; `None` where they aren't one number that a history may be long.
+fn number_in(alloc: Global, line: &[u8]) -> Result<Option<u32>, AllocError>
+    ensures { IfOk result (λ number. AreNumber (words line.now) number) }
+{
+    let Some((word, rest)) = next_word(line) else {
+        return Ok(None);
+    };
+    if next_word(rest).is_some() {
+        return Ok(None);
+    }
+    number_of(alloc, word)
+}
+
+/// The number that a word writes, without leading zeros; `None` where it writes none that a history may be long.
+fn number_of(alloc: Global, word: &[u8]) -> Result<Option<u32>, AllocError>
+    ensures { IfOk result (λ number. IsNumberIn word.now number) }
+{
+    let Ok(text) = str::from_utf8(word) else {
+        return Ok(None);
+    };
+    let Ok(number) = text.parse::<u32>() else {
+        return Ok(None);
+    };
+    if number as usize > MAX_LINES || format!(in alloc; "{}", number)?.as_bytes() != word {
+        return Ok(None);
+    }
+    Ok(Some(number))
+}
