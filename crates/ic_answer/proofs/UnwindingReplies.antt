@@ -41,7 +41,7 @@ use Rattle.ic_answer.proofs.UndoingReplies.{Stands}
 use Rattle.ic_answer.proofs.UnwoundEvents.{SaysSame, last_first_at, dont_fit_at, any_same, resting_same}
 
 -- the events of a list, the last one in canonical order first, are in a free order from its end
-free_back : (v : BenchView) (P : Stander → Type 0) (xs : List Stander) → IsBench v → AreWithDependents v P
+pub free_back : (v : BenchView) (P : Stander → Type 0) (xs : List Stander) → IsBench v → AreWithDependents v P
     → bench.AreLastFirst v P xs → AreFree v (reverse xs)
 free_back v P xs ok closed h = in_free_order v P (map (λ x. x.id) (reverse xs)) ok closed (record {
   order = reverse xs;

@@ -7,7 +7,7 @@ use Rattle.ic_name.specs.Events.{Pair, Event, pair}
 use Rattle.ic_answer.specs.declared.answer.Answer.{Answer}
 use Rattle.ic_answer.specs.declared.answer.Answer.TheVariants as answers
 use Rattle.ic_answer.specs.declared.refused.Refused.{Refused}
-use Rattle.ic_answer.specs.declared.refused.Refused.TheVariants.{NotActive, Deep, Full, HistoryFull, Memory, NotStanding, Command}
+use Rattle.ic_answer.specs.declared.refused.Refused.TheVariants.{NotActive, Deep, Full, HistoryFull, Memory, NotStanding, Command, NoMark, TooManyMarks}
 
 -- the names of an event's two agents, the lead first
 abbrev pub pair_text : Pair → List ℕ
@@ -54,6 +54,8 @@ refusal_text HistoryFull = codes "refused 24 history full\n"
 refusal_text Memory = codes "refused 25 memory\n"
 refusal_text NotStanding = codes "refused 31 not standing\n"
 refusal_text Command = codes "refused 40 command\n"
+refusal_text NoMark = codes "refused 41 no mark\n"
+refusal_text TooManyMarks = codes "refused 42 too many marks\n"
 
 -- what is written in answer
 abbrev pub answer_text : Answer → List ℕ

@@ -1,4 +1,4 @@
-ghost use Rattle.std.specs.Prelude.{◌≡◌, IfOk, OnErr};
+ghost use Rattle.std.specs.Prelude.{◌≡◌, IfOk, MatchResult, OnErr};
 ghost use Rattle.ic_answer.specs.declared.refused.Refused.TheVariants.{Memory};
 ghost use Rattle.ic_answer.specs.Texts.{answer_text, refusal_text};
 ghost use Rattle.ic_answer.specs.Turns.{Turns};
@@ -36,13 +36,13 @@ impl Answer {
 
 /// Carries out a command over a bench. Where there is no memory for it, the answer is a refusal, and then neither net nor
 /// standing set have changed, but for what a `reduce` says that it has fired. An error where there is no memory for the
-/// answer to a command that has changed them.
+/// answer to a command that has changed them; the start stays the same then, too.
 pub fn carry_out(
     alloc: Global,
     bench: &mut Bench<Store>,
     command: Command,
 ) -> Result<Answer, AllocError>
-    ensures { IfOk result (λ answer. Turns bench.old command (answer_text answer) bench.new) }
+    ensures { MatchResult result (λ answer. Turns bench.old command (answer_text answer) bench.new) (λ _. bench.new.start ≡ bench.old.start) }
 {
     match command {
         Command::Nothing => Ok(Answer::Text(Vec::new(alloc))),

@@ -1,4 +1,4 @@
-ghost use Rattle.std.specs.Prelude.{◌≡◌, IfOk};
+ghost use Rattle.std.specs.Prelude.{◌≡◌, IfOk, MatchResult};
 ghost use Rattle.ic_command.specs.declared.command.Command.TheVariants.{Reduce};
 ghost use Rattle.ic_answer.specs.Texts.{answer_text};
 ghost use Rattle.ic_answer.specs.Turns.{Turns};
@@ -28,7 +28,7 @@ pub(crate) fn reduce(
     bench: &mut Bench<Store>,
     most: u32,
 ) -> Result<Answer, AllocError>
-    ensures { IfOk result (λ answer. Turns bench.old (Reduce most) (answer_text answer) bench.new) }
+    ensures { MatchResult result (λ answer. Turns bench.old (Reduce most) (answer_text answer) bench.new) (λ _. bench.new.start ≡ bench.old.start) }
 {
     let (fired, end) = fire_least(bench, most);
     Ok(Answer::Text(end_text(alloc, fired, end)?))

@@ -1,7 +1,7 @@
 ghost use Rattle.std.specs.Prelude.{◌≡◌};
 ghost use Rattle.ic_answer.specs.Texts.{refusal_text};
 
-/// A refusal of a command whose line is always the same.
+/// A refusal whose line is always the same.
 #[derive(Clone, Copy, Debug, PartialEq, Eq)]
 pub enum Refused {
     /// An event that isn't active.
@@ -18,6 +18,10 @@ pub enum Refused {
     NotStanding,
     /// A line that is no command.
     Command,
+    /// A name that no mark has.
+    NoMark,
+    /// A further mark where there are as many as there may be.
+    TooManyMarks,
 }
 
 impl Refused {
@@ -33,6 +37,8 @@ impl Refused {
             Refused::Memory => b"refused 25 memory\n",
             Refused::NotStanding => b"refused 31 not standing\n",
             Refused::Command => b"refused 40 command\n",
+            Refused::NoMark => b"refused 41 no mark\n",
+            Refused::TooManyMarks => b"refused 42 too many marks\n",
         }
     }
 }

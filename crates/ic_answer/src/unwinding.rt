@@ -1,4 +1,4 @@
-ghost use Rattle.std.specs.Prelude.{◌≡◌, ◌++◌, [], codes, length, IfOk, OnOk};
+ghost use Rattle.std.specs.Prelude.{◌≡◌, ◌++◌, [], codes, length, IfOk, MatchResult, OnOk};
 ghost use Rattle.std.specs.Fmt.{decimal};
 ghost use Rattle.std.specs.List.{flat_map};
 ghost use Rattle.ic_command.specs.declared.command.Command.TheVariants.{UndoAll, Unwind};
@@ -19,7 +19,7 @@ pub(crate) fn undo_with_dependents(
     bench: &mut Bench<Store>,
     event: &EventName,
 ) -> Result<Answer, AllocError>
-    ensures { IfOk result (λ answer. Turns bench.old (Unwind event.now) (answer_text answer) bench.new) }
+    ensures { MatchResult result (λ answer. Turns bench.old (Unwind event.now) (answer_text answer) bench.new) (λ _. bench.new.start ≡ bench.old.start) }
 {
     bench.lawful();
     let Some(id) = bench.event(event) else {
@@ -37,7 +37,7 @@ pub(crate) fn undo_with_dependents(
 
 /// Undoes all events. An error where there is no memory to tell how many.
 pub(crate) fn undo_everything(alloc: Global, bench: &mut Bench<Store>) -> Result<Answer, AllocError>
-    ensures { IfOk result (λ answer. Turns bench.old UndoAll (answer_text answer) bench.new) }
+    ensures { MatchResult result (λ answer. Turns bench.old UndoAll (answer_text answer) bench.new) (λ _. bench.new.start ≡ bench.old.start) }
 {
     bench.lawful();
     let undone = undo_all(alloc, bench);

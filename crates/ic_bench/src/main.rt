@@ -1,27 +1,38 @@
 // The program icbench: a session over standard input and output.
 #![tactic(auto)]
 
-use ic_lines::IoFault;
-use ic_session::{Status, run_session};
-use std::io;
-use std::process::ExitCode;
+mod help;
+mod options;
+mod program;
+mod statuses;
+#[cfg(test)]
+mod tests;
 
-/// Runs a session over standard input and output. The exit status is 0 where it ended, 2 where the net was refused, and
-/// 1 where reading, writing or memory failed, which is said on standard error.
+use crate::program::{refuse_words, run_program};
+use std::process::ExitCode;
+use std::{env, io};
+
+/// Runs the program on the words of its command line, over standard input, standard output and standard error.
 fn main(rt: HostRuntime) -> ExitCode {
-    let mut reader = rt.reader();
-    let mut writer = io::writer(&rt);
-    match run_session(rt.alloc(), &mut reader, &mut writer, 1_048_576) {
-        Ok(Status::Ended) => ExitCode::from(0),
-        Ok(Status::NetRefused) => ExitCode::from(2),
-        Err(fault) => {
-            let said = match fault {
-                IoFault::Read => "icbench: the input can't be read",
-                IoFault::Write => "icbench: the output can't be written",
-                IoFault::Memory => "icbench: out of memory",
-            };
-            let _ = eprintln!(rt; "{said}");
-            ExitCode::from(1)
+    let mut errors = rt.stderr();
+    let status = match words_of(&rt) {
+        Ok(words) => {
+            let mut reader = rt.reader();
+            let mut writer = io::writer(&rt);
+            run_program(
+                rt.alloc(),
+                words.as_slice(),
+                &mut reader,
+                &mut writer,
+                &mut errors,
+            )
         }
-    }
+        Err(error) => refuse_words(&error, &mut errors),
+    };
+    ExitCode::from(status)
+}
+
+/// The words of the command line.
+fn words_of(rt: &HostRuntime) -> io::Result<Vec<String>> {
+    Ok(env::args(rt)?.collect(rt.alloc())?)
 }

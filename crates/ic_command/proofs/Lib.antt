@@ -1,4 +1,5 @@
 pub mod WordFacts
 pub mod WordCuts
 pub mod WordsAsked
+pub mod MarksAsked
 pub mod AgentsNamed

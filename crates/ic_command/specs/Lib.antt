@@ -1,2 +1,4 @@
 pub mod Words
 pub mod Commands
+pub mod MarkNames
+pub mod Requests

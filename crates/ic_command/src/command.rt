@@ -65,7 +65,7 @@ pub fn command_of(alloc: Global, line: &[u8]) -> Result<Command, AllocError>
 }
 
 /// The line without a carriage return at its end.
-fn without_return(line: &[u8]) -> &[u8]
+pub(crate) fn without_return(line: &[u8]) -> &[u8]
     ensures { result.now ≡ strip_last 13 line.now }
 {
     match line.last() {
@@ -80,7 +80,7 @@ fn is_plain(byte: u8) -> bool
     matches!(byte, b' '..=b'~' | b'\t')
 }
 
-fn is_well_formed(body: &[u8]) -> bool
+pub(crate) fn is_well_formed(body: &[u8]) -> bool
     ensures { result ≡ is_well_formed body.now }
 {
     body.len() <= MAX_COMMAND && are_plain(body)

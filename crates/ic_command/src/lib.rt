@@ -1,11 +1,15 @@
-// What the lines of a session ask for: words, and the commands that they make.
+// What the lines of a session ask for: words, the commands that they make, and the names of marks.
 #![tactic(auto)]
 
 pub mod command;
 pub mod laws;
+pub mod mark_name;
+pub mod request;
 pub mod words;
 
 pub use command::{Command, MAX_COMMAND, command_of};
+pub use mark_name::MarkName;
+pub use request::{Request, request_of};
 
 #[cfg(test)]
 mod tests;

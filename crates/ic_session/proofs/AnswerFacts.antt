@@ -8,39 +8,41 @@ use Rattle.ic_lines.specs.Faults.{AppendsFront}
 use Rattle.ic_theory.specs.Starts.{Start}
 use Rattle.ic_path.specs.Orders.{Alike}
 use Rattle.ic_path.specs.Orders as Orders
-use Rattle.ic_theory.specs.Machine.{State, initial, IsHistory, begins}
+use Rattle.ic_theory.specs.Machine as machine
+use Rattle.ic_theory.specs.Machine.{IsHistory, begins}
 use Rattle.ic_journal.specs.Views.{BenchView}
 use Rattle.ic_journal.specs.Benches.{IsAt, Opens, fired_in}
-use Rattle.ic_command.specs.declared.command.Command.{Command}
+use Rattle.ic_command.specs.declared.request.Request.{Request}
 use Rattle.ic_session.specs.InputLines.{lines}
-use Rattle.ic_command.specs.Commands.{within}
-use Rattle.ic_session.specs.NextCommand.{TakesCommand}
-use Rattle.ic_answer.specs.Replies.{Replies}
-use Rattle.ic_answer.specs.Turns.{Turns}
+use Rattle.ic_command.specs.Requests.{within}
+use Rattle.ic_desk.specs.Desks.{State, initial}
+use Rattle.ic_desk.specs.Replies.{Replies}
+use Rattle.ic_desk.specs.Views.{DeskView, IsDeskAt, IsOver, Turns, note_of}
+use Rattle.ic_session.specs.NextRequest.{TakesRequest}
 use Rattle.ic_session.specs.Sessions.{AreAnswers, AreBegun}
 use Rattle.ic_session.proofs.AnswerSteps.{Leads, leads_none, leads_more, leads_all, leads_begun, leads_first}
 
--- what was answered so far leaves the bench in some state, and the lines of what is left unanswered; where the input is
+-- what was answered so far leaves the desk in some state, and the lines of what is left unanswered; where the input is
 -- known
-abbrev pub HasAnswered : Start → ℕ → State → BenchView → Option (List ℕ) → Option (List ℕ) → Option (List ℕ) → Option (List ℕ) → Type 0
+abbrev pub HasAnswered : Start → ℕ → State → DeskView → Option (List ℕ) → Option (List ℕ) → Option (List ℕ) → Option (List ℕ) → Type 0
 HasAnswered s budget st v None now before after = Unit {0}
 HasAnswered s budget st v (Some xs) None before after = ⊥
 HasAnswered s budget st v (Some xs) (Some ys) before after =
-    (cur : State) × IsAt v cur × (text : List ℕ) × Appends before after text × Leads s budget st cur (lines xs) (lines ys) text
+    (cur : State) × IsDeskAt v cur × (text : List ℕ) × Appends before after text × Leads s budget st cur (lines xs) (lines ys) text
 
 -- nothing was answered
-pub answered_none : (s : Start) (budget : ℕ) (st : State) (v : BenchView) (old before : Option (List ℕ)) → IsAt v st
+pub answered_none : (s : Start) (budget : ℕ) (st : State) (v : DeskView) (old before : Option (List ℕ)) → IsDeskAt v st
     → HasAnswered s budget st v old old before before
 answered_none s budget st v None before a = tt
 answered_none s budget st v (Some xs) before a = (st, a, [], Appends-nil before, leads_none s budget st (lines xs))
 
 -- one command more was answered
-pub answered_more : (s : Start) (budget : ℕ) (st : State) (v w : BenchView) (old now next before then after : Option (List ℕ)) (o : Option Command) (c : Command) (text : List ℕ)
-    → v.start ≡ s → HasAnswered s budget st v old now before then → o ≡ Some c → IfSome now (λ ys. TakesCommand o ys next) → Turns v (within budget c) text w → Appends then after text → HasAnswered s budget st w old next before after
+pub answered_more : (s : Start) (budget : ℕ) (st : State) (v w : DeskView) (old now next before then after : Option (List ℕ)) (o : Option Request) (c : Request) (text : List ℕ)
+    → v.bench.start ≡ s → HasAnswered s budget st v old now before then → o ≡ Some c → IfSome now (λ ys. TakesRequest o ys next) → Turns v (within budget c) text w → Appends then after text → HasAnswered s budget st w old next before after
 answered_more s budget st v w None now next before then after o c text i h e t r a = tt
 answered_more s budget st v w (Some xs) None next before then after o c text i h e t r a = absurd h
 answered_more s budget st v w (Some xs) (Some ys) next before then after o c text i h e t r a =
-    let t' : TakesCommand (Some c) ys next = subst (λ p. TakesCommand p ys next) e t in
+    let t' : TakesRequest (Some c) ys next = subst (λ p. TakesRequest p ys next) e t in
     let turn = r.replies h.0 h.1 in
     let reply = subst (λ z. Replies z h.0 (within budget c) text turn.0) i turn.1 in
     rw t'.1 (
@@ -52,16 +54,16 @@ answered_more s budget st v w (Some xs) (Some ys) next before then after o c tex
     )
 
 -- all were answered
-pub answered_all : (s : Start) (budget : ℕ) (st : State) (v : BenchView) (old now next before after : Option (List ℕ)) (o : Option Command)
-    → HasAnswered s budget st v old now before after → o ≡ None → IfSome now (λ ys. TakesCommand o ys next) → IfSome old (λ xs. (text : List ℕ) × AreAnswers s budget st (lines xs) text × Appends before after text)
+pub answered_all : (s : Start) (budget : ℕ) (st : State) (v : DeskView) (old now next before after : Option (List ℕ)) (o : Option Request)
+    → HasAnswered s budget st v old now before after → o ≡ None → IfSome now (λ ys. TakesRequest o ys next) → IfSome old (λ xs. (text : List ℕ) × AreAnswers s budget st (lines xs) text × Appends before after text)
 answered_all s budget st v None now next before after o h e t = tt
 answered_all s budget st v (Some xs) None next before after o h e t = absurd h
 answered_all s budget st v (Some xs) (Some ys) next before after o h e t =
-    let t' : ys ≡ [] = subst (λ p. TakesCommand p ys next) e t in
+    let t' : ys ≡ [] = subst (λ p. TakesRequest p ys next) e t in
     (h.2, leads_all s budget st h.0 (lines xs) h.2 (subst (λ zs. Leads s budget st h.0 (lines xs) (lines zs) h.2) t' h.4), h.3)
 
 -- the lines that are left could not be read: no more was written
-pub answered_begun : (s : Start) (budget : ℕ) (st : State) (v : BenchView) (old now before after : Option (List ℕ))
+pub answered_begun : (s : Start) (budget : ℕ) (st : State) (v : DeskView) (old now before after : Option (List ℕ))
     → HasAnswered s budget st v old now before after
     → IfSome old (λ xs. (text : List ℕ) × AreBegun s budget st (lines xs) text × Appends before after text)
 answered_begun s budget st v None now before after h = tt
@@ -69,54 +71,58 @@ answered_begun s budget st v (Some xs) None before after h = absurd h
 answered_begun s budget st v (Some xs) (Some ys) before after h = (h.2, leads_begun s budget st h.0 (lines xs) (lines ys) h.2 h.2 [] h.4 (sym (append-nil h.2)), h.3)
 
 -- of the answer to one command more, a front was written
-pub answered_front : (s : Start) (budget : ℕ) (st : State) (v w : BenchView) (old now next before then after : Option (List ℕ)) (o : Option Command) (c : Command) (text : List ℕ)
-    → v.start ≡ s → HasAnswered s budget st v old now before then → o ≡ Some c → IfSome now (λ ys. TakesCommand o ys next) → Turns v (within budget c) text w → AppendsFront then after text
+pub answered_front : (s : Start) (budget : ℕ) (st : State) (v w : DeskView) (old now next before then after : Option (List ℕ)) (o : Option Request) (c : Request) (text : List ℕ)
+    → v.bench.start ≡ s → HasAnswered s budget st v old now before then → o ≡ Some c → IfSome now (λ ys. TakesRequest o ys next) → Turns v (within budget c) text w → AppendsFront then after text
     → IfSome old (λ xs. (text : List ℕ) × AreBegun s budget st (lines xs) text × Appends before after text)
 answered_front s budget st v w None now next before then after o c text i h e t r a = tt
 answered_front s budget st v w (Some xs) None next before then after o c text i h e t r a = absurd h
 answered_front s budget st v w (Some xs) (Some ys) next before then after o c text i h e t r a =
-    let t' : TakesCommand (Some c) ys next = subst (λ p. TakesCommand p ys next) e t in
+    let t' : TakesRequest (Some c) ys next = subst (λ p. TakesRequest p ys next) e t in
     let turn = r.replies h.0 h.1 in
     let reply = subst (λ z. Replies z h.0 (within budget c) text turn.0) i turn.1 in
     let led = leads_more s budget st h.0 turn.0 (lines xs) (lines ys) (lines (behind_line ys)) h.2 text h.4 (leads_first s budget h.0 turn.0 ys c text t'.0 reply) in
     let parts = ap (λ zs. h.2 ++ zs) a.parts ∙ sym (append_assoc h.2 a.front a.behind) in
     (h.2 ++ a.front, leads_begun s budget st turn.0 (lines xs) (lines (behind_line ys)) (h.2 ++ text) (h.2 ++ a.front) a.behind led parts, Appends-trans before then after h.2 a.front h.3 a.appended)
 
--- whatever state the bench was in
-pub all_begun : (budget : ℕ) (old : Option (List ℕ)) (v : BenchView) (before after : Option (List ℕ))
-    → ((st : State) → IsAt v st → IfSome old (λ xs. (text : List ℕ) × AreBegun v.start budget st (lines xs) text × Appends before after text))
-    → IfSome old (λ xs. (st : State) → IsAt v st → (text : List ℕ) × AreBegun v.start budget st (lines xs) text × Appends before after text)
+-- whatever state the desk was in
+pub all_begun : (budget : ℕ) (old : Option (List ℕ)) (v : DeskView) (before after : Option (List ℕ))
+    → ((st : State) → IsDeskAt v st → IfSome old (λ xs. (text : List ℕ) × AreBegun v.bench.start budget st (lines xs) text × Appends before after text))
+    → IfSome old (λ xs. (st : State) → IsDeskAt v st → (text : List ℕ) × AreBegun v.bench.start budget st (lines xs) text × Appends before after text)
 all_begun budget None v before after h = tt
 all_begun budget (Some xs) v before after h = h
 
--- whatever state the bench was in
-pub all_answered : (budget : ℕ) (old : Option (List ℕ)) (v : BenchView) (before after : Option (List ℕ))
-    → ((st : State) → IsAt v st → IfSome old (λ xs. (text : List ℕ) × AreAnswers v.start budget st (lines xs) text × Appends before after text))
-    → IfSome old (λ xs. (st : State) → IsAt v st → (text : List ℕ) × AreAnswers v.start budget st (lines xs) text × Appends before after text)
+-- whatever state the desk was in
+pub all_answered : (budget : ℕ) (old : Option (List ℕ)) (v : DeskView) (before after : Option (List ℕ))
+    → ((st : State) → IsDeskAt v st → IfSome old (λ xs. (text : List ℕ) × AreAnswers v.bench.start budget st (lines xs) text × Appends before after text))
+    → IfSome old (λ xs. (st : State) → IsDeskAt v st → (text : List ℕ) × AreAnswers v.bench.start budget st (lines xs) text × Appends before after text)
 all_answered budget None v before after h = tt
 all_answered budget (Some xs) v before after h = h
 
 -- a bench on which no call has been made
-opened_at : (s : Start) (v : BenchView) → Opens s v → IsAt v initial
+opened_at : (s : Start) (v : BenchView) → Opens s v → IsAt v machine.initial
 opened_at s v o = record {
-  history = subst (λ l. IsHistory v.start l initial) (sym o.lines) begins;
+  history = subst (λ l. IsHistory v.start l machine.initial) (sym o.lines) begins;
   standing = subst (λ l. Alike (map fired_in l) []) (sym o.events) Orders.none;
 }
 
--- the answers of a bench on which no call has been made
-pub opened_answers : (now : Option (List ℕ)) (s : Start) (budget : ℕ) (v : BenchView) (before after : Option (List ℕ))
-    → Opens s v
-    → IfSome now (λ ys. (st : State) → IsAt v st → (text : List ℕ) × AreAnswers v.start budget st (lines ys) text × Appends before after text)
+-- and of which nothing is marked
+over_at : (s : Start) (v : DeskView) → IsOver s v → IsDeskAt v initial
+over_at s v o = record { bench = opened_at s v.bench o.bench; marks = subst (λ l. Alike (map note_of l) []) (sym o.marks) Orders.none }
+
+-- the answers of a desk of which nothing was asked
+pub opened_answers : (now : Option (List ℕ)) (s : Start) (budget : ℕ) (v : DeskView) (before after : Option (List ℕ))
+    → IsOver s v
+    → IfSome now (λ ys. (st : State) → IsDeskAt v st → (text : List ℕ) × AreAnswers v.bench.start budget st (lines ys) text × Appends before after text)
     → IfSome now (λ ys. (text : List ℕ) × AreAnswers s budget initial (lines ys) text × Appends before after text)
 opened_answers None s budget v before after o h = tt
 opened_answers (Some ys) s budget v before after o h =
-    let a = h initial (opened_at s v o) in
-    (a.0, subst (λ z. AreAnswers z budget initial (lines ys) a.0) o.start a.1, a.2)
+    let a = h initial (over_at s v o) in
+    (a.0, subst (λ z. AreAnswers z budget initial (lines ys) a.0) o.bench.start a.1, a.2)
 
--- what a bench began on which no call had been made
-pub opened_begun : (now : Option (List ℕ)) (s : Start) (budget : ℕ) (v : BenchView) (before after : Option (List ℕ))
-    → Opens s v
-    → IfSome now (λ ys. (st : State) → IsAt v st → (text : List ℕ) × AreBegun v.start budget st (lines ys) text × Appends before after text)
+-- what a desk began of which nothing was asked
+pub opened_begun : (now : Option (List ℕ)) (s : Start) (budget : ℕ) (v : DeskView) (before after : Option (List ℕ))
+    → IsOver s v
+    → IfSome now (λ ys. (st : State) → IsDeskAt v st → (text : List ℕ) × AreBegun v.bench.start budget st (lines ys) text × Appends before after text)
     → IfSome now (λ ys. (text : List ℕ) × AreBegun s budget initial (lines ys) text × Appends before after text)
 opened_begun None s budget v before after o h = tt
-opened_begun (Some ys) s budget v before after o h = let a = h initial (opened_at s v o) in (a.0, subst (λ z. AreBegun z budget initial (lines ys) a.0) o.start a.1, a.2)
+opened_begun (Some ys) s budget v before after o h = let a = h initial (over_at s v o) in (a.0, subst (λ z. AreBegun z budget initial (lines ys) a.0) o.bench.start a.1, a.2)

@@ -2,12 +2,16 @@
 use Rattle.std.proofs.Common.{◌≡◌, ℕ, Bool, true, false, List, [], ◌∷◌, ◌++◌, refl, sym, ap, ◌∙◌, append_assoc, append-nil, subst}
 use Rattle.ic_lines.specs.Lines.{first_line, has_feed, behind_line}
 use Rattle.ic_theory.specs.Starts.{Start}
-use Rattle.ic_theory.specs.Machine.{State}
 use Rattle.ic_command.specs.declared.command.Command.{Command}
+use Rattle.ic_command.specs.declared.request.Request.{Request}
+use Rattle.ic_command.specs.declared.request.Request.TheVariants.{Bench}
 use Rattle.ic_command.specs.declared.command.Command.TheVariants.{Nothing}
-use Rattle.ic_command.specs.Commands.{is_well_formed, IsCommand, within, said, unsaid, AreWordsOf, asked, malformed, no_words}
+use Rattle.ic_command.specs.Commands.{is_well_formed, IsCommand, said, unsaid, AreWordsOf, asked, malformed, no_words}
 use Rattle.ic_session.specs.InputLines.{lines, TextLine}
-use Rattle.ic_answer.specs.Replies.{Replies, nothing, memory}
+use Rattle.ic_command.specs.Requests.{IsRequest, AsksMark, mark, back, within, of_mark, of_bench}
+use Rattle.ic_answer.specs.Replies.{nothing, memory}
+use Rattle.ic_desk.specs.Desks.{State}
+use Rattle.ic_desk.specs.Replies.{Replies, of_bench as answered_by_bench}
 use Rattle.ic_session.specs.Sessions.{AreAnswers, none, more, AreBegun}
 use Rattle.ic_session.proofs.InputFacts.{line_with_feed, line_without_feed}
 
@@ -71,32 +75,41 @@ empty_line : {c : Command} → IsCommand [] c → c ≡ Nothing
 empty_line (said w a) = words_none a
 empty_line (unsaid w) = absurd (apart (sym well_formed_none ∙ w))
 
+-- nor for a mark
+no_mark : {ws : List (List ℕ)} {r : Request} → ws ≡ [] → AsksMark ws r → ⊥
+no_mark e (mark named) = absurd cc
+no_mark e (back named) = absurd cc
+
+empty_request : {r : Request} → IsRequest [] r → r ≡ Bench Nothing
+empty_request (of_mark w a) = absurd (no_mark refl a)
+empty_request (of_bench asks_none k) = ap Bench (empty_line k)
+
 -- nothing is answered to it
-nothing_answered : {s : Start} {st next : State} {reply : List ℕ} → Replies s st Nothing reply next
+nothing_answered : {s : Start} {st next : State} {reply : List ℕ} → Replies s st (Bench Nothing) reply next
     → (reply ≡ []) × (next ≡ st)
-nothing_answered nothing = (refl, refl)
-nothing_answered (memory want) = absurd want
+nothing_answered (answered_by_bench nothing) = (refl, refl)
+nothing_answered (answered_by_bench (memory want)) = absurd want
 
 -- the answer to a line
-leads_line : (s : Start) (budget : ℕ) (st next : State) (line : TextLine) (ls : List TextLine) (c : Command) (reply : List ℕ)
-    → IsCommand line.bytes c → Replies s st (within budget c) reply next → Leads s budget st next (line ∷ ls) ls reply
-leads_line s budget st next line ls c reply k r = record { answered = line ∷ []; parts = refl; answers = λ further behind a. more k r a }
+leads_line : (s : Start) (budget : ℕ) (st next : State) (line : TextLine) (ls : List TextLine) (r : Request) (reply : List ℕ)
+    → IsRequest line.bytes r → Replies s st (within budget r) reply next → Leads s budget st next (line ∷ ls) ls reply
+leads_line s budget st next line ls r reply k a = record { answered = line ∷ []; parts = refl; answers = λ further behind later. more k a later }
 
 -- the answer to the first line of what is left; where nothing is, it is no answer
-pub leads_first : (s : Start) (budget : ℕ) (st next : State) (ys : List ℕ) (c : Command) (reply : List ℕ)
-    → IsCommand (first_line ys) c → Replies s st (within budget c) reply next
+pub leads_first : (s : Start) (budget : ℕ) (st next : State) (ys : List ℕ) (r : Request) (reply : List ℕ)
+    → IsRequest (first_line ys) r → Replies s st (within budget r) reply next
     → Leads s budget st next (lines ys) (lines (behind_line ys)) reply
-leads_first s budget st next ys c reply k r = go (has_feed ys) refl
+leads_first s budget st next ys r reply k a = go (has_feed ys) refl
   where
-    alone : (zs : List ℕ) → has_feed zs ≡ false → IsCommand (first_line zs) c
+    alone : (zs : List ℕ) → has_feed zs ≡ false → IsRequest (first_line zs) r
         → Leads s budget st next (lines zs) (lines (behind_line zs)) reply
     alone [] h k =
-        let n = nothing_answered (subst (λ d. Replies s st (within budget d) reply next) (empty_line k) r) in
+        let n = nothing_answered (subst (λ q. Replies s st (within budget q) reply next) (empty_request k) a) in
         rw (n.0, n.1) (leads_none s budget st [])
     alone (z ∷ zs) h k =
         let w = line_without_feed z zs h in
-        rw (w.0, w.2) (leads_line s budget st next (record { bytes = z ∷ zs; ended = false }) [] c reply (subst (λ t. IsCommand t c) w.1 k) r)
+        rw (w.0, w.2) (leads_line s budget st next (record { bytes = z ∷ zs; ended = false }) [] r reply (subst (λ t. IsRequest t r) w.1 k) a)
 
     go : (b : Bool) → has_feed ys ≡ b → Leads s budget st next (lines ys) (lines (behind_line ys)) reply
-    go true e = rw (line_with_feed ys e) (leads_line s budget st next (record { bytes = first_line ys; ended = true }) (lines (behind_line ys)) c reply k r)
+    go true e = rw (line_with_feed ys e) (leads_line s budget st next (record { bytes = first_line ys; ended = true }) (lines (behind_line ys)) r reply k a)
     go false e = alone ys e k

@@ -9,12 +9,14 @@ use Rattle.ic_lines.specs.Faults.{AppendsFront}
 use Rattle.ic_lines.specs.declared.piece.Piece.{Piece}
 use Rattle.ic_lines.specs.declared.piece.Piece.TheVariants as pieces
 use Rattle.ic_command.specs.Commands.{is_well_formed, unsaid}
-use Rattle.ic_session.specs.NextCommand.{TakesCommand}
+use Rattle.ic_command.specs.Requests.{of_bench}
+use Rattle.ic_command.specs.declared.request.Request.TheVariants.{Bench}
+use Rattle.ic_session.specs.NextRequest.{TakesRequest}
 use Rattle.ic_command.specs.declared.command.TheConstants.{MAX_COMMAND}
 use Rattle.ic_command.specs.declared.command.Command.TheVariants.{Malformed}
 use Rattle.std.specs.Io.KnownBytes.{Appends, prepend_known}
 use Rattle.ic_theory.specs.Starts.{Start}
-use Rattle.ic_theory.specs.Machine.{initial}
+use Rattle.ic_desk.specs.Desks.{initial}
 use Rattle.ic_grammar.specs.Grammar.{Denotes}
 use Rattle.ic_grammar.specs.Faults.{Stands, IsFirstFault, Precedes}
 use Rattle.ic_grammar.specs.declared.limits.TheConstants.{MAX_TEXT}
@@ -143,12 +145,16 @@ long_line line long = go (ends_with_byte 13 line) refl
         ap is_well_formed cut ∙ over (take (length line - 1) line) (omega arith)
     go false e = let cut : strip_last 13 line ≡ line = rw e refl in ap is_well_formed cut ∙ over line (omega arith)
 
+apart : ◌≡◌ {A = Bool} true false → ⊥
+apart e = cc
+
 -- such a line was taken
 pub long_taken : (old now new : Option (List ℕ)) (line : List ℕ) (p : Piece) → p ≡ pieces.TooLong
     → IfSome old (λ xs. Takes p line (MAX_COMMAND + 1) xs now) → IfSome now (λ ys. new ≡ Some (behind_line ys))
-    → IfSome old (λ xs. TakesCommand (Some Malformed) xs new)
+    → IfSome old (λ xs. TakesRequest (Some (Bench Malformed)) xs new)
 long_taken None now new line p e t s = tt
 long_taken (Some xs) None new line p e t s = let t' = subst (λ q. Takes q line (MAX_COMMAND + 1) xs None) e t in absurd t'.1
 long_taken (Some xs) (Some ys) new line p e t s =
     let t' = subst (λ q. Takes q line (MAX_COMMAND + 1) xs (Some ys)) e t in
-    (unsaid (long_line (first_line xs) t'.0), s ∙ ap Some t'.1)
+    let long = long_line (first_line xs) t'.0 in
+    (of_bench (λ r whole a. apart (sym whole ∙ long)) (unsaid long), s ∙ ap Some t'.1)

@@ -1,5 +1,5 @@
 pub mod InputLines
 pub mod NetInput
-pub mod NextCommand
+pub mod NextRequest
 pub mod Refusals
 pub mod Sessions

@@ -2,14 +2,14 @@
 use Rattle.std.specs.Prelude.{◌≡◌, ℕ, List, [], ◌∷◌, ◌++◌, Option}
 use Rattle.std.specs.Io.KnownBytes.{Appends}
 use Rattle.ic_theory.specs.Starts.{Start}
-use Rattle.ic_theory.specs.Machine.{State, initial}
 use Rattle.ic_grammar.specs.Grammar.{Denotes}
 use Rattle.ic_grammar.specs.Faults.{Stands, IsFirstFault}
 use Rattle.ic_grammar.specs.declared.refusal.Refusal.{Refusal}
-use Rattle.ic_command.specs.declared.command.Command.{Command}
-use Rattle.ic_command.specs.Commands.{IsCommand, within}
+use Rattle.ic_command.specs.declared.request.Request.{Request}
+use Rattle.ic_command.specs.Requests.{IsRequest, within}
 use Rattle.ic_session.specs.InputLines.{TextLine, lines, net_part, command_lines}
-use Rattle.ic_answer.specs.Replies.{Replies}
+use Rattle.ic_desk.specs.Desks.{State, initial}
+use Rattle.ic_desk.specs.Replies.{Replies}
 use Rattle.ic_session.specs.Refusals.{refusal_line}
 use Rattle.ic_session.specs.declared.session.Status.{Status}
 use Rattle.ic_session.specs.declared.session.Status.TheVariants.{Ended, NetRefused}
@@ -18,12 +18,12 @@ use Rattle.ic_session.specs.declared.session.Status.TheVariants.{Ended, NetRefus
 -- at once
 pub data AreAnswers (s : Start) (budget : ℕ) : State → List TextLine → List ℕ → Type 0 where
   none : {st : State} → AreAnswers s budget st [] []
-  more : {st next : State} {line : TextLine} {ls : List TextLine} {c : Command} {reply behind : List ℕ}
-      → IsCommand line.bytes c → Replies s st (within budget c) reply next → AreAnswers s budget next ls behind
+  more : {st next : State} {line : TextLine} {ls : List TextLine} {r : Request} {reply behind : List ℕ}
+      → IsRequest line.bytes r → Replies s st (within budget r) reply next → AreAnswers s budget next ls behind
       → AreAnswers s budget st (line ∷ ls) (reply ++ behind)
 
 -- The net text denotes a start and has no fault, and the text answers the commands over a bench on which no call has
--- been made.
+-- been made, and of which nothing is marked.
 pub record AnswersCommands (budget : ℕ) (input text : List ℕ) : Type 0 where
   pub start : Start
   pub denoted : Denotes (net_part (lines input)) start

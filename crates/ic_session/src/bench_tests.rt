@@ -1,23 +1,5 @@
-use crate::session::{Status, run_session};
+use crate::runs::{answers, answers_within};
 use std::test::Fail;
-
-/// Whether a session over memory ends well, and has then written this.
-fn answers(rt: &HostRuntime, input: &[u8], output: &[u8]) -> Result<bool, Fail> {
-    answers_within(rt, 1_048_576, input, output)
-}
-
-/// The same of a session of this budget.
-fn answers_within(
-    rt: &HostRuntime,
-    budget: u32,
-    input: &[u8],
-    output: &[u8],
-) -> Result<bool, Fail> {
-    let mut reader = input;
-    let mut writer = Vec::new(rt.alloc());
-    let ended = run_session(rt.alloc(), &mut reader, &mut writer, budget);
-    Ok(ended == Ok(Status::Ended) && writer.as_slice() == output)
-}
 
 #[test]
 fn a_firing_closes_a_ring_and_its_undo_opens_it(rt: HostRuntime) -> Result<(), Fail> {
@@ -32,17 +14,6 @@ fn a_firing_closes_a_ring_and_its_undo_opens_it(rt: HostRuntime) -> Result<(), F
 fn an_annihilation_closes_two_rings(rt: HostRuntime) -> Result<(), Fail> {
     let input = b"G(x,y) = G(y,x);\n---\nfire 0 1\nnet\n";
     let output = b"fired 0 1\n# agents 0 wires 0 rings 2\n_0 = _0;\n_1 = _1;\n";
-    assert!(rt; answers(&rt, input, output)?);
-    Ok(())
-}
-
-#[test]
-fn an_older_event_is_undone_and_opens_the_ring_of_a_younger_one(
-    rt: HostRuntime,
-) -> Result<(), Fail> {
-    let input = b"D(x,p) = D(y,q); D(x,r) = D(y,s);\n---\nfire 0 1\nfire 2 3\nnet\nundo 0 1\nnet\n";
-    let output =
-        b"fired 0 1\nfired 2 3\n# agents 0 wires 2 rings 1\np = q;\nr = s;\n_0 = _0;\nundone 0 1\n# agents 2 wires 5 rings 0\nD(_0,p) = _1;\nD(_0,q) = _1;\nr = s;\n";
     assert!(rt; answers(&rt, input, output)?);
     Ok(())
 }
@@ -116,16 +87,6 @@ fn words_that_are_no_commands(rt: HostRuntime) -> Result<(), Fail> {
         b"E = E;\n---\nfire 0\nfire 0 0\nfire 0 9\nundo 0 1\nwhy 0 1\nfire 0 1 2\nfire 00 1\nwhy 0 1.4\njournal 1\njournal\nfire 1 0\nwhy 1 0\n";
     let output =
         b"refused 40 command\nrefused 40 command\nrefused 21 not active\nrefused 31 not standing\nrefused 31 not standing\nrefused 40 command\nrefused 40 command\nrefused 40 command\nrefused 40 command\njournal 0\nfired 0 1\nwhy 0 1 rank 0 causes 0\n";
-    assert!(rt; answers(&rt, input, output)?);
-    Ok(())
-}
-
-#[test]
-fn what_rests_on_an_event_is_undone_with_it(rt: HostRuntime) -> Result<(), Fail> {
-    let input =
-        b"G(E,a) = D(b,E);\n---\nfire 0 2\nfire 1 0.0\nfire 3 0.3\nundo 0 2\nfire 1.1 3.0\nwhy 1.1 3.0\nunwind 3 0.3\n";
-    let output =
-        b"fired 0 2\nfired 1 0.0\nfired 3 0.3\nrefused 32 held by 1 0.0\nfired 1.1 3.0\nwhy 1.1 3.0 rank 2 causes 3\n0 2\n1 0.0\n3 0.3\nunwound 2\n1.1 3.0\n3 0.3\n";
     assert!(rt; answers(&rt, input, output)?);
     Ok(())
 }

@@ -11,6 +11,14 @@ pub use session::{Status, run_session};
 #[cfg(test)]
 mod bench_tests;
 #[cfg(test)]
+mod example_tests;
+#[cfg(test)]
+mod mark_tests;
+#[cfg(test)]
+mod order_tests;
+#[cfg(test)]
+mod runs;
+#[cfg(test)]
 mod step_tests;
 #[cfg(test)]
 mod tests;

@@ -4,19 +4,18 @@ ghost use Rattle.ic_lines.specs.Left.{left, work};
 ghost use Rattle.ic_lines.specs.Faults.{AppendsFront, IsReadFault};
 ghost use Rattle.ic_lines.specs.declared.piece.IoFault.TheVariants.{Read};
 ghost use Rattle.ic_session.specs.InputLines.{lines};
-ghost use Rattle.ic_theory.specs.Machine.{State};
-ghost use Rattle.ic_journal.specs.Benches.{IsAt};
+ghost use Rattle.ic_desk.specs.Desks.{State};
+ghost use Rattle.ic_desk.specs.Views.{IsDeskAt};
 ghost use Rattle.ic_session.specs.Refusals.{refusal_line};
-ghost use Rattle.ic_session.specs.NextCommand.{TakesCommand};
+ghost use Rattle.ic_session.specs.NextRequest.{TakesRequest};
 ghost use Rattle.ic_session.specs.Sessions.{AreAnswers, AreBegun, IsBegun, Writes};
 ghost use Rattle.ic_session.specs.declared.session.Status.TheVariants.{NetRefused};
 
 use crate::net_input::{NetInput, read_net_text};
 use crate::refusal::refusal_line;
-use ic_answer::carry_out;
-use ic_command::{Command, MAX_COMMAND, command_of};
+use ic_command::{Command, MAX_COMMAND, Request, request_of};
+use ic_desk::Desk;
 use ic_grammar::Refusal;
-use ic_journal::{Bench, Store};
 use ic_lines::{Input, IoFault, Piece, write_reply};
 use ic_text::{TextFault, read_net};
 use std::alloc::Global;
@@ -58,8 +57,8 @@ pub fn run_session<R: Read, W: Write>(
         Err(TextFault::Memory) => return Err(IoFault::Memory),
         Err(TextFault::Refused(refusal)) => return refuse(alloc, refusal, writer),
     };
-    let mut bench = Bench::over(alloc, start)?;
-    answer_all(alloc, &mut bench, &mut input, reader, writer, budget)?;
+    let mut desk = Desk::over(alloc, start)?;
+    answer_all(alloc, &mut desk, &mut input, reader, writer, budget)?;
     Ok(Status::Ended)
 }
 
@@ -77,23 +76,23 @@ fn refuse<W: Write>(alloc: Global, refusal: Refusal, writer: &mut W) -> Result<S
 /// Answers the lines that are left.
 fn answer_all<R: Read, W: Write>(
     alloc: Global,
-    bench: &mut Bench<Store>,
+    desk: &mut Desk,
     input: &mut Input,
     reader: &mut R,
     writer: &mut W,
     budget: u32,
 ) -> Result<(), IoFault>
-    ensures answered { OnOk result (IfSome (left input.old (R.remaining reader.old)) (λ bytes. (st : State) → IsAt bench.old st →
-        (text : List ℕ) × AreAnswers bench.old.start budget st (lines bytes) text × Appends (W.contents writer.old) (W.contents writer.new) text)) }
-    ensures begun { OnErr result (IfSome (left input.old (R.remaining reader.old)) (λ bytes. (st : State) → IsAt bench.old st →
-        (text : List ℕ) × AreBegun bench.old.start budget st (lines bytes) text × Appends (W.contents writer.old) (W.contents writer.new) text)) }
+    ensures answered { OnOk result (IfSome (left input.old (R.remaining reader.old)) (λ bytes. (st : State) → IsDeskAt desk.old st →
+        (text : List ℕ) × AreAnswers desk.old.bench.start budget st (lines bytes) text × Appends (W.contents writer.old) (W.contents writer.new) text)) }
+    ensures begun { OnErr result (IfSome (left input.old (R.remaining reader.old)) (λ bytes. (st : State) → IsDeskAt desk.old st →
+        (text : List ℕ) × AreBegun desk.old.bench.start budget st (lines bytes) text × Appends (W.contents writer.old) (W.contents writer.new) text)) }
     ensures fault { IfErr result (λ fault. fault ≡ Read → IsReadFault input.old.reads input.new.reads Read) }
 {
     let mut line = Vec::new(alloc);
     loop {
-        match next_command(alloc, input, reader, &mut line)? {
-            Some(command) => {
-                let reply = carry_out(alloc, bench, command.within(budget))?;
+        match next_request(alloc, input, reader, &mut line)? {
+            Some(request) => {
+                let reply = desk.carry_out(alloc, request.within(budget))?;
                 write_reply(writer, reply.bytes())?;
             }
             None => return Ok(()),
@@ -101,24 +100,24 @@ fn answer_all<R: Read, W: Write>(
     }
 }
 
-/// The command of the next line; `None` where the input has ended. `line` is room for a line.
-fn next_command<R: Read>(
+/// What the next line asks for; `None` where the input has ended. `line` is room for a line.
+fn next_request<R: Read>(
     alloc: Global,
     input: &mut Input,
     reader: &mut R,
     line: &mut Vec<u8>,
-) -> Result<Option<Command>, IoFault>
-    ensures taken { IfOk result (λ command. IfSome (left input.old (R.remaining reader.old))
-        (λ bytes. TakesCommand command bytes (left input.new (R.remaining reader.new)))) }
-    ensures less { IfOk result (λ command. IsSome command → work input.new < work input.old) }
+) -> Result<Option<Request>, IoFault>
+    ensures taken { IfOk result (λ request. IfSome (left input.old (R.remaining reader.old))
+        (λ bytes. TakesRequest request bytes (left input.new (R.remaining reader.new)))) }
+    ensures less { IfOk result (λ request. IsSome request → work input.new < work input.old) }
     ensures fewer { input.new.reads ≤ input.old.reads }
     ensures fault { IfErr result (IsReadFault input.old.reads input.new.reads) }
 {
     match input.next_line(reader, line, MAX_COMMAND + 1)? {
-        Piece::Line(_) => Ok(Some(command_of(alloc, line)?)),
+        Piece::Line(_) => Ok(Some(request_of(alloc, line)?)),
         Piece::TooLong => {
             input.skip_line(reader)?;
-            Ok(Some(Command::Malformed))
+            Ok(Some(Request::Bench(Command::Malformed)))
         }
         Piece::End => Ok(None),
     }

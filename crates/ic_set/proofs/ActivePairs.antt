@@ -31,7 +31,7 @@ event_between m n = record { lead = m.name; lead_kind = m.kind; other = n.name; 
 
 module _ (v : SetView) (set : IsStandingSet v) where
   -- an agent of the events and the start has an id
-  member_of : (n : Name) (k : Kind) → IsIn (n, k) (agents v.start (standing v)) → (m : Member) × IsIn m v.agents × (m.name ≡ n) × (m.kind ≡ k)
+  pub member_of : (n : Name) (k : Kind) → IsIn (n, k) (agents v.start (standing v)) → (m : Member) × IsIn m v.agents × (m.name ≡ n) × (m.kind ≡ k)
   member_of n k i =
       let m = map_cases agent_of v.agents (alike-in (alike_back set.agents) i) in
       (m.0, m.1, ap (λ x. x.0) m.2, ap (λ x. x.1) m.2)

@@ -35,8 +35,15 @@ pub mod Partners
 pub mod ConsumedAgents
 pub mod ActivePairs
 pub mod EventPairs
-pub mod LedPairs
-pub mod LeastPairs
+pub mod FarTouched
+pub mod NewlyActive
+pub mod FallingPairs
+pub mod LeadingPairs
+pub mod ReachedAgents
+pub mod KeptPairs
+pub mod GrownSets
+pub mod PairsAdmitted
+pub mod PairsLeft
 pub mod PlacedOrders
 pub mod OrderedIds
 pub mod RankedEvents

@@ -10,3 +10,4 @@ pub mod Entering
 pub mod Joining
 pub mod Admission
 pub mod Placed
+pub mod Queues

@@ -15,10 +15,10 @@ ghost use Rattle.ic_set.specs.Entering.{agents_in};
 ghost use Rattle.ic_set.specs.Joining.{made_links, HaveDigits};
 ghost use Rattle.ic_set.specs.Pairs.{IsPairOf};
 
+use crate::bare::BareSet;
 use crate::entering::{NewAgent, children_of, enter_all, remove_all};
 use crate::joining::{add_all, links_of_event};
 use crate::pairs::ActivePair;
-use crate::set::StandingSet;
 use ic_cause::{Dependents, direct_causes, rank_of};
 use ic_link::LinkStore;
 use ic_name::{AgentId, Event, EventId, Kind, RuleEnd};
@@ -38,7 +38,7 @@ struct Firing<'a> {
     causes: &'a [EventId],
 }
 
-impl<L: LinkStore> StandingSet<L> {
+impl<L: LinkStore> BareSet<L> {
     /// One event more, which is active, under an id with this line, which no standing event has: with it its children
     /// come, and the links of its rule are put in. At an error nothing changes.
     pub fn admit(

@@ -5,12 +5,12 @@ ghost use Rattle.ic_theory.specs.Nets.{kind_of};
 ghost use Rattle.ic_theory.specs.Sets.{consumed_times};
 ghost use Rattle.ic_set.specs.Views.{standing};
 
+use crate::bare::BareSet;
 use crate::pairs::principal_end;
-use crate::set::StandingSet;
 use ic_link::LinkStore;
 use ic_name::{AgentId, AgentName, Kind, Spot};
 
-impl<L: LinkStore> StandingSet<L> {
+impl<L: LinkStore> BareSet<L> {
     /// The kind of the agent of this name; `None` where there is none, or a standing event consumed it. It takes no memory.
     pub fn kind(&self, name: &AgentName) -> Option<Kind>
         ensures { result ≡ kind_of self.now.start (standing self.now) name.now }

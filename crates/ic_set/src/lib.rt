@@ -2,12 +2,16 @@
 #![tactic(auto)]
 
 pub mod admission;
+pub mod answers;
+mod bare;
+pub mod changes;
 mod entering;
 mod joining;
 pub mod kinds;
 pub mod nets;
 pub mod orders;
 pub mod pairs;
+mod queue;
 pub mod removal;
 pub mod set;
 

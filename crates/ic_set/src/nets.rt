@@ -8,15 +8,15 @@ ghost use Rattle.ic_theory.specs.Steps.{AreDefined, steps};
 ghost use Rattle.ic_set.specs.Views.{standing};
 ghost use Rattle.ic_set.specs.Orders.{AreRanked};
 
+use crate::bare::BareSet;
 use crate::orders::Placed;
-use crate::set::StandingSet;
 use ic_cause::RankedEvent;
 use ic_link::LinkStore;
 use ic_name::Event;
 use ic_net::{Net, replay};
 use std::alloc::{AllocError, Global};
 
-impl<L: LinkStore> StandingSet<L> {
+impl<L: LinkStore> BareSet<L> {
     /// The net of the set: the one in which the steps of its events end, in each causal order of them (Lafont 1997).
     pub fn net(&self) -> Result<Net, AllocError>
         ensures left { IfOk result (λ net. IsSameNet (shown net) (net_of self.now.start (standing self.now))) }

@@ -5,7 +5,7 @@ ghost use Rattle.ic_set.specs.Orders.{AreInOrder, IsAny, IsCauseOf, DependsOn};
 ghost use Rattle.ic_set.specs.Placed.{IsPlaced, ArePlaced};
 ghost use Rattle.ic_set.specs.Removal.{Stands};
 
-use crate::set::StandingSet;
+use crate::bare::BareSet;
 use ic_cause::canonical_cmp;
 use ic_link::LinkStore;
 use ic_name::{Event, EventId};
@@ -19,7 +19,7 @@ pub(crate) struct Placed<'a> {
     pub rank: u32,
 }
 
-impl<L: LinkStore> StandingSet<L> {
+impl<L: LinkStore> BareSet<L> {
     /// All standing events, in canonical order.
     pub fn standing(&self) -> Result<Vec<EventId>, AllocError>
         ensures { IfOk result (λ ids. AreInOrder self.now IsAny ids.items) }

@@ -1,18 +1,23 @@
-ghost use Rattle.std.specs.Prelude.{◌≡◌, ◌≢◌, ◌⊎◌, ◌↔◌, IsTrue, IfSome, IfNone, IfOk};
+ghost use Rattle.std.specs.Prelude.{◌≡◌, ◌≢◌, ◌⊎◌, ◌↔◌, IsTrue, IfSome, IfNone};
 ghost use Rattle.ic_name.specs.declared.ids.AgentId.{AgentId as AnAgentId};
 ghost use Rattle.ic_name.specs.declared.ids.Spot.TheVariants.{Agent};
 ghost use Rattle.ic_name.specs.Events.{Event as AnEvent};
 ghost use Rattle.ic_link.specs.declared.store.Far.TheVariants.{End};
 ghost use Rattle.ic_set.specs.declared.pairs.ActivePair.{ActivePair as APair};
+ghost use Rattle.ic_name.specs.declared.ports.Port.TheVariants.{Of};
+ghost use Rattle.ic_path.specs.Orders.{IsIn};
 ghost use Rattle.ic_theory.specs.Active.{IsActive};
+ghost use Rattle.ic_theory.specs.Sets.{consumed_times};
+ghost use Rattle.ic_theory.specs.Wires.{IsWire};
+ghost use Rattle.ic_roster.specs.Rosters.{Member as AMember};
+ghost use Rattle.ic_set.specs.Pairs.{AreJoined, IsPairOf};
+ghost use Rattle.ic_set.specs.Queues.{Reaches, AreBeside};
 ghost use Rattle.ic_set.specs.Views.{standing};
-ghost use Rattle.ic_set.specs.Pairs.{AreJoined, IsPairOf, IsLeastPair, AreActivePairs};
 
-use crate::set::StandingSet;
+use crate::bare::BareSet;
 use ic_link::{Far, LinkStore};
 use ic_name::{AgentId, AgentName, Event, Kind, Spot};
 use ic_roster::AgentEntry;
-use std::alloc::AllocError;
 use std::cmp::Ordering;
 
 /// An active pair: the ids of its two agents, of which the lead has the lesser name.
@@ -22,7 +27,7 @@ pub struct ActivePair {
     pub other: AgentId,
 }
 
-impl<L: LinkStore> StandingSet<L> {
+impl<L: LinkStore> BareSet<L> {
     /// The agent whose principal port a wire joins to that of this agent; `None` where there is none. It takes no memory.
     pub fn partner(&self, agent: AgentId) -> Option<AgentId>
         ensures found { IfSome result (λ partner. AreJoined self.now agent partner) }
@@ -78,38 +83,27 @@ impl<L: LinkStore> StandingSet<L> {
         }
     }
 
-    /// The active pair with the least lead; `None` where no pair is active. It takes no memory.
-    pub fn least_active(&self) -> Option<ActivePair>
-        ensures found { IfSome result (λ pair. IsLeastPair self.now pair) }
-        ensures absent { IfNone result ((e : AnEvent) → IsActive self.now.start (standing self.now) e → ⊥) }
+    /// The agents whose principal ports wires lead to from the auxiliary ports of this pair's agents, in place of each that
+    /// there isn't the pair's lead. It takes no memory.
+    pub fn beside(&self, pair: ActivePair) -> [AgentId; 4]
+        requires { (e : AnEvent) × IsPairOf self.now e pair }
+        ensures { (e : AnEvent) → IsPairOf self.now e pair → AreBeside self.now e pair result }
     {
         self.lawful();
-        for agent in self.agents.by_name() {
-            let Some(pair) = self.pair_with(*agent) else {
-                continue;
-            };
-            if pair.lead == *agent {
-                return Some(pair);
-            }
-        }
-        None
+        [
+            self.reached(pair.lead, 1).unwrap_or(pair.lead),
+            self.reached(pair.lead, 2).unwrap_or(pair.lead),
+            self.reached(pair.other, 1).unwrap_or(pair.lead),
+            self.reached(pair.other, 2).unwrap_or(pair.lead),
+        ]
     }
 
-    /// All active pairs, by lead.
-    pub fn active(&self) -> Result<Vec<ActivePair>, AllocError>
-        ensures { IfOk result (λ pairs. AreActivePairs self.now pairs.items) }
+    /// The agent whose principal port the wire from this port leads to, if it leads to one. It takes no memory.
+    fn reached(&self, agent: AgentId, port: u8) -> Option<AgentId>
+        ensures found { IfSome result (λ near. (m : AMember) → IsIn m self.now.agents → m.id ≡ agent → consumed_times m.name (standing self.now) ≡ 0 → Reaches self.now m.name port near) }
+        ensures absent { IfNone result ((m n : AMember) → IsIn m self.now.agents → m.id ≡ agent → IsIn n self.now.agents → IsWire self.now.start (standing self.now) (Of n.name 0) (Of m.name port) → ⊥) }
     {
-        self.lawful();
-        let mut pairs = Vec::new(self.alloc);
-        for agent in &self.agents.in_order(self.alloc)? {
-            let Some(pair) = self.pair_with(*agent) else {
-                continue;
-            };
-            if pair.lead == *agent {
-                pairs.push(pair)?;
-            }
-        }
-        Ok(pairs)
+        principal_end(self.store.far(Spot::Agent(agent, port)))
     }
 }
 

@@ -5,14 +5,14 @@ ghost use Rattle.ic_roster.specs.Rosters.{Stander};
 ghost use Rattle.ic_set.specs.Changes.{TakesOut};
 ghost use Rattle.ic_set.specs.Removal.{Stands, IsFree, IsLeast, TellsOrder, IsLeastOf};
 
+use crate::bare::BareSet;
 use crate::entering::remove_all;
-use crate::set::StandingSet;
 use ic_cause::canonical_cmp;
 use ic_link::LinkStore;
 use ic_name::EventId;
 use ic_roster::Standing;
 
-impl<L: LinkStore> StandingSet<L> {
+impl<L: LinkStore> BareSet<L> {
     /// The least direct dependent of a standing event, in canonical order; `None` where nothing depends on it. It takes no
     /// memory.
     pub fn least_dependent(&self, id: EventId) -> Option<EventId>

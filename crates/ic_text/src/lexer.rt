@@ -1,9 +1,10 @@
 ghost use Rattle.std.specs.Prelude.{◌≡◌, ◌+◌, ◌<◌, ◌≤◌, ◌^◌, [], ◌∷◌, length, MatchOption, IfSome};
 ghost use Rattle.std.specs.List.{prefix_len};
-ghost use Rattle.ic_grammar.specs.Texts.{is_letter, is_name_byte};
+ghost use Rattle.ic_grammar.specs.Texts.{is_name_byte};
 ghost use Rattle.ic_grammar.specs.Tokens.{is_gap, is_comment_byte, single, between, items};
 ghost use Rattle.ic_text.specs.Views.{token_of, Takes, left};
 
+use ic_grammar::bytes::{is_letter, is_name_byte};
 use ic_name::Kind;
 
 /// A token of a text. A digit that no name runs over, and a byte that may not stand where it does, count too.
@@ -26,20 +27,6 @@ pub struct Lexer<'a> {
     rest: &'a [u8],
     at: usize,
     in_comment: bool,
-}
-
-/// Whether this is a byte with which a name begins.
-fn is_letter(byte: u8) -> bool
-    ensures { result ≡ is_letter byte }
-{
-    byte.is_ascii_lowercase() || byte == b'_'
-}
-
-/// Whether this is a byte with which a name goes on.
-fn is_name_byte(byte: u8) -> bool
-    ensures { result ≡ is_name_byte byte }
-{
-    is_letter(byte) || byte.is_ascii_digit()
 }
 
 /// Whether this is a byte between tokens.

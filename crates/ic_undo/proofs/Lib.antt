@@ -1,18 +1,18 @@
 pub mod Backs
 mod CanonicalOrders
-mod FirableEvents
-mod FiredInTurn
+pub mod FirableEvents
+pub mod FiredInTurn
 pub mod FreeOrders
 mod HistoryLimits
 mod LeadTests
-mod MarkedBenches
-mod MarkedEvents
+pub mod MarkedBenches
+pub mod MarkedEvents
 mod NextUndone
 mod PlacedEvents
-mod StayedBenches
+pub mod StayedBenches
 mod UndoneOneMore
 pub mod Unwinds
-mod WaysBack
+pub mod WaysBack
 pub mod ChosenLists
 pub mod ChosenOrders
 pub mod Places

@@ -6,7 +6,6 @@ use Rattle.ic_name.specs.declared.ids.EventId.{EventId}
 use Rattle.ic_name.specs.declared.limits.TheConstants.{MAX_LINES}
 use Rattle.ic_path.specs.Orders.{IsIn, Alike}
 use Rattle.ic_path.proofs.Alikes.{alike-length}
-use Rattle.ic_path.proofs.EachOnce.{each_once_length}
 use Rattle.ic_theory.specs.Sound.{IsSound}
 use Rattle.ic_roster.specs.Rosters.{Stander}
 use Rattle.ic_set.specs.Orders.{AreInOrder}
@@ -58,17 +57,16 @@ module _ (v : BenchView) (ok : IsBench v) (m : MarkView) (same : m.start ≡ v.s
     outside = last_first v (IsOutside m) listed_outside.0 listed_outside.1;
     missing = listed_missing.1;
     did = record { between = new; undone = none_undone v new s; fired = none_fired new; undone_count = refl; fired_count = refl };
-    in_turn = inr refl;
+    in_turn = inl (refl, refl);
   }
 
   module _ (ids : List EventId) (came : List Event) (a : AreInOrder (set_of v) (IsOutside m) ids) (missing : AreMissing v m came) where
-    -- where a line for each of these doesn't fit, none does for any that are so listed
+    -- where a line for each of these doesn't fit
     pub dont_fit_back : MAX_LINES < length v.lines + (length ids + length came) → DontFitBack v m
-    dont_fit_back l gone others out miss =
-        let one = each_once_length gone a.order out.each a.each in
+    dont_fit_back l =
+        let one = alike-length (alike_reverse a.order) in
         let two = order_length a.order ids a.named in
-        let three = each_once_length others came miss.each missing.each in
-        omega (arith, l, one, two, three)
+        (reverse a.order, came, last_first v (IsOutside m) ids a, missing, omega (arith, l, one, two))
 
     -- what isn't in the mark can be undone from the last one on
     free : AreFree v a.order
@@ -137,5 +135,5 @@ module _ (v : BenchView) (ok : IsBench v) (m : MarkView) (same : m.start ≡ v.s
           outside = subst (λ xs. AreOutside v m xs) (sym (append-nil (reverse a.order))) out;
           missing = subst (λ xs. AreMissing v m xs) (sym f.parts) missing;
           did = record { between = mid; undone = undone; fired = f.fired; undone_count = one ∙ sym gone_length; fired_count = f.fired_count };
-          in_turn = inl refl;
+          in_turn = inr (refl, f.left);
         }

@@ -1,5 +1,5 @@
 -- Going back to a mark.
-use Rattle.std.specs.Prelude.{◌≡◌, ℕ, ◌+◌, ◌<◌, ◌⊎◌, List, [], ◌∷◌, ◌++◌, length, map}
+use Rattle.std.specs.Prelude.{◌≡◌, ◌≢◌, ℕ, ◌+◌, ◌<◌, ◌⊎◌, List, [], ◌∷◌, ◌++◌, length, map}
 use Rattle.std.specs.List.Sorted.{IsStrictlySortedBy}
 use Rattle.ic_name.specs.Events.{Event}
 use Rattle.ic_name.specs.declared.limits.TheConstants.{MAX_LINES}
@@ -56,11 +56,12 @@ pub record AreFired (old : BenchView) (es : List Event) (new : BenchView) : Type
   pub events : Alike (came ++ old.events) new.events
   pub lines : new.lines ≡ old.lines ++ map firing es
 
--- some of these events were fired, each from the first one on, and so many
+-- some of these events were fired, each from the first one on, but not all, and so many
 pub record AreSomeFired (old : BenchView) (es : List Event) (count : ℕ) (new : BenchView) : Type 0 where
   pub came : List Event
   pub behind : List Event
   pub parts : came ++ behind ≡ es
+  pub left : behind ≢ []
   pub fired : AreFired old came new
   pub fired_count : count ≡ length came
 
@@ -80,8 +81,8 @@ pub record IsBack (old : BenchView) (m : MarkView) (counts : Counts) (new : Benc
   pub missing : AreMissing old m came
   pub did : Goes old gone came counts new
 
--- some of what isn't in the mark was undone, or all of it and some of what was missing was fired, each from the first
--- one on
+-- nothing was done, or all of what isn't in the mark was undone and some of what was missing was fired, each from the
+-- first one on, but not all
 pub record IsPartWay (old : BenchView) (m : MarkView) (counts : Counts) (new : BenchView) : Type 0 where
   pub gone : List Stander
   pub others : List Stander
@@ -90,11 +91,11 @@ pub record IsPartWay (old : BenchView) (m : MarkView) (counts : Counts) (new : B
   pub outside : AreOutside old m (gone ++ others)
   pub missing : AreMissing old m (came ++ behind)
   pub did : Goes old gone came counts new
-  pub in_turn : (others ≡ []) ⊎ (came ≡ [])
+  pub in_turn : ((gone ≡ []) × (came ≡ [])) ⊎ ((others ≡ []) × (behind ≢ []))
 
 -- the history would be too long with a line for each event that isn't in the mark and each that is missing
 abbrev pub DontFitBack : BenchView → MarkView → Type 0
-DontFitBack v m = (gone : List Stander) (came : List Event) → AreOutside v m gone → AreMissing v m came → MAX_LINES < length v.lines + length gone + length came
+DontFitBack v m = (gone : List Stander) × (came : List Event) × AreOutside v m gone × AreMissing v m came × (MAX_LINES < length v.lines + length gone + length came)
 
 -- why a bench isn't back
 abbrev pub IsntBack : BenchView → MarkView → BackFault → BenchView → Type 0

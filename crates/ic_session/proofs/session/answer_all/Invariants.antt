@@ -1,15 +1,15 @@
 use Rattle.std.proofs.Common.{◌≡◌, ◌≤◌}
 use Rattle.ic_lines.specs.Left.{left, work}
-use Rattle.ic_theory.specs.Machine.{State}
-use Rattle.ic_journal.specs.Benches.{IsAt}
+use Rattle.ic_desk.specs.Desks.{State}
+use Rattle.ic_desk.specs.Views.{IsDeskAt}
 use Rattle.ic_session.proofs.AnswerFacts.{HasAnswered}
 use Rattle.ic_session.proofs.session.answer_all.Given as goal
 
 abbrev pub invariant-loop-line : goal.invariant-loop-line
 invariant-loop-line g l = record {
-  start : l.bench.start ≡ l.fn.bench.start;
-  answered : (st : State) → IsAt l.fn.bench st
-      → HasAnswered l.fn.bench.start l.fn.budget st l.bench (left l.fn.input (g.R.Read.remaining l.fn.reader)) (left l.input (g.R.Read.remaining l.reader)) (g.W.Write.contents l.fn.writer) (g.W.Write.contents l.writer);
+  start : l.desk.bench.start ≡ l.fn.desk.bench.start;
+  answered : (st : State) → IsDeskAt l.fn.desk st
+      → HasAnswered l.fn.desk.bench.start l.fn.budget st l.desk (left l.fn.input (g.R.Read.remaining l.fn.reader)) (left l.input (g.R.Read.remaining l.reader)) (g.W.Write.contents l.fn.writer) (g.W.Write.contents l.writer);
   fewer : l.input.reads ≤ l.fn.input.reads;
 }
 

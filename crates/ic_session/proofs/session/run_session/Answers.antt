@@ -35,7 +35,7 @@ returns-clause-written g c =
     let faultless = subst (λ bytes. (f : Refusal) → Stands bytes f → ⊥) c.deref.ensures.value c.in-Ok.ensures.faultless in
     wrote_answers c.args.budget (g.R.Read.remaining c.args.reader.now) now (g.W.Write.contents c.args.writer.now) (g.W.Write.contents c.answer_all.new.writer)
     c.in_ok-read_net_text.field-0 c.in-Whole.text c.in-Ok.start c.in-Whole.is read denoted faultless
-    (opened_answers now c.in-Ok.start c.args.budget c.in_ok-bench.bench (g.W.Write.contents c.args.writer.now) (g.W.Write.contents c.answer_all.new.writer) c.in_ok-bench.ensures c.in_ok-answer_all.ensures.answered)
+    (opened_answers now c.in-Ok.start c.args.budget c.in_ok-desk.desk (g.W.Write.contents c.args.writer.now) (g.W.Write.contents c.answer_all.new.writer) c.in_ok-desk.ensures c.in_ok-answer_all.ensures.answered)
 
 pub returns-in_err-input-clause-begun : goal.returns-in_err-input-clause-begun
 returns-in_err-input-clause-begun g c =
@@ -67,9 +67,9 @@ returns-in-Err-Refused-clause-begun g c =
     c.in_ok-read_net_text.field-0 c.in-Whole.text c.in-Err-Refused.refusal c.in-Whole.is read first)
     c.refuse-in-Err-Refused.ensures.front
 
-pub returns-in_err-bench-clause-begun : goal.returns-in_err-bench-clause-begun
-returns-in_err-bench-clause-begun g c =
-    at_error c.from_residual-in_err-bench.result (begun_nothing c.args.budget (g.R.Read.remaining c.args.reader.now) (g.W.Write.contents c.args.writer.now))
+pub returns-in_err-desk-clause-begun : goal.returns-in_err-desk-clause-begun
+returns-in_err-desk-clause-begun g c =
+    at_error c.from_residual-in_err-desk.result (begun_nothing c.args.budget (g.R.Read.remaining c.args.reader.now) (g.W.Write.contents c.args.writer.now))
 
 pub returns-in_err-answer_all-clause-begun : goal.returns-in_err-answer_all-clause-begun
 returns-in_err-answer_all-clause-begun g c =
@@ -80,4 +80,4 @@ returns-in_err-answer_all-clause-begun g c =
     at_error c.from_residual-in_err-answer_all.result
     (begun_answers c.args.budget (g.R.Read.remaining c.args.reader.now) now (g.W.Write.contents c.args.writer.now) (g.W.Write.contents c.answer_all.new.writer)
     c.in_ok-read_net_text.field-0 c.in-Whole.text c.in-Ok.start c.in-Whole.is read denoted faultless
-    (opened_begun now c.in-Ok.start c.args.budget c.in_ok-bench.bench (g.W.Write.contents c.args.writer.now) (g.W.Write.contents c.answer_all.new.writer) c.in_ok-bench.ensures c.in_err-answer_all.ensures.begun))
+    (opened_begun now c.in-Ok.start c.args.budget c.in_ok-desk.desk (g.W.Write.contents c.args.writer.now) (g.W.Write.contents c.answer_all.new.writer) c.in_ok-desk.ensures c.in_err-answer_all.ensures.begun))

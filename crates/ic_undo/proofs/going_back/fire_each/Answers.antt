@@ -23,6 +23,7 @@ returns-in_default-clause-some g c =
       came = c.loop-event.yielded;
       behind = c.in-Some.event ∷ c.next.new.self.rest.items;
       parts = rw steps at i.whole;
+      left = λ e. cc;
       fired = fired_still c.args.bench.now c.loop-event.bench c.fire.new.self c.loop-event.yielded i.did
           (only_memory c.loop-event.bench c.fire.new.self c.lawful.ensures c.in-Some.event c.next.new.self.rest.items (rw steps at i.firable) c.in_default.field-0 (rw steps at i.fit) c.in_default.ensures);
       fired_count = i.count;

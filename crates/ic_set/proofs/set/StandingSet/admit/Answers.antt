@@ -1,103 +1,81 @@
-use Rattle.std.proofs.Common.{refl, sym, ◌∙◌, subst}
-use Rattle.ic_path.proofs.Alikes.{alike_self, alike_back}
-use Rattle.ic_link.specs.Links.{IsLawful}
-use Rattle.ic_cause.specs.Dependents.{causes_in}
+use Rattle.std.proofs.Common.{List, length, ap, arith, refl}
 use Rattle.ic_cause.proofs.KeptViews.{at_error}
-use Rattle.ic_set.specs.Views.{SetView}
-use Rattle.ic_set.specs.Sets.{IsStandingSet}
-use Rattle.ic_set.proofs.KeptOrders.{kept_alike}
-use Rattle.ic_set.proofs.Admissions.{same_again, same_self, ends_same, ranks_fit, can_enter, can_put_in, put_keeps, put_admits}
+use Rattle.ic_roster.specs.Rosters.{Stander}
+use Rattle.ic_set.specs.Pairs.{IsPairOf}
+use Rattle.ic_set.proofs.Admissions.{same_self}
+use Rattle.ic_set.proofs.PairsAdmitted.{same_keeps, admitted_led, admitted_fall, admitted_some, admitted_each, few_born, one_more, entry_there}
 use Rattle.ic_set.proofs.set.StandingSet.admit.Goals as goal
 
-pub returns-in_err-causes-clause-unchanged : goal.returns-in_err-causes-clause-unchanged
-returns-in_err-causes-clause-unchanged g c = at_error _ (same_self _)
+pub returns-in_err-reserve-clause-unchanged : goal.returns-in_err-reserve-clause-unchanged
+returns-in_err-reserve-clause-unchanged g c = rw (← c.self.view_is) (at_error _ (same_self _))
 
-pub rank_over-requires : goal.rank_over-requires
-rank_over-requires g c =
-    ranks_fit c.args.self.now (subst IsStandingSet c.self.view_is c.self.invariant.set) c.requires.few_events
+pub admit-requires-clause-new_line : goal.admit-requires-clause-new_line
+admit-requires-clause-new_line g c = rw c.self.view_is c.requires.new_line
 
-pub returns-in_err-rank-clause-unchanged : goal.returns-in_err-rank-clause-unchanged
-returns-in_err-rank-clause-unchanged g c = at_error _ (same_self _)
+pub invariant_of-self-in_err-id : goal.invariant_of-self-in_err-id
+invariant_of-self-in_err-id g c =
+    rw c.reserve.ensures.items (same_keeps c.self.inside.bare c.admit.new.self c.self.inside.pairs.items _ _ c.in_err-id.ensures.unchanged c.reserve.ensures.capacity c.self.invariant)
 
-pub returns-in_err-children-clause-unchanged : goal.returns-in_err-children-clause-unchanged
-returns-in_err-children-clause-unchanged g c = at_error _ (same_self _)
+pub take-requires-clause-led : goal.take-requires-clause-led
+take-requires-clause-led g c =
+    let pair : IsPairOf c.self.inside.bare c.args.event.now c.args.pair = rw c.self.view_is c.requires.active in
+    rw (c.agents.ensures, c.reserve.ensures.items)
+    (admitted_led c.self.inside.bare c.admit.new.self c.lawful.ensures c.lawful-2.ensures c.args.event.now c.args.pair pair c.args.line _ c.in_ok-id.ensures.admitted c.self.inside.pairs.items c.self.invariant.some)
 
-pub returns-in_err-copy-clause-unchanged : goal.returns-in_err-copy-clause-unchanged
-returns-in_err-copy-clause-unchanged g c = at_error _ (same_self _)
+pub take-requires-clause-falling : goal.take-requires-clause-falling
+take-requires-clause-falling g c =
+    let pair : IsPairOf c.self.inside.bare c.args.event.now c.args.pair = rw c.self.view_is c.requires.active in
+    rw (c.agents.ensures, c.reserve.ensures.items)
+    (admitted_fall c.self.inside.bare c.admit.new.self c.lawful.ensures c.lawful-2.ensures c.args.event.now c.args.pair pair c.args.line _ c.in_ok-id.ensures.admitted c.self.inside.pairs.items c.self.invariant.some)
 
-pub enter_all-requires : goal.enter_all-requires
-enter_all-requires g c =
-    let view = c.self.inside in
-    let v : SetView = record { start = view.start; agents = view.agents; events = view.events } in
-    let ls = g.L.LinkStore.links view.store in
-    let kept = causes_in view.dependents in
-    can_enter v c.args.self.now c.self.view_is ls kept c.self.invariant c.args.event.now c.args.pair c.requires.active c.args.line c.requires.new_line _ c.in_ok-children.ensures
+pub put_all-requires-clause-some : goal.put_all-requires-clause-some
+put_all-requires-clause-some g c =
+    let pair : IsPairOf c.self.inside.bare c.args.event.now c.args.pair = rw c.self.view_is c.requires.active in
+    let falling = rw c.agents.ensures at c.take.ensures.falling in
+    let left = rw c.reserve.ensures.items at c.take.ensures.gone in
+    admitted_some c.self.inside.bare c.admit.new.self c.lawful.ensures c.lawful-2.ensures c.args.event.now c.args.pair pair c.args.line _ c.in_ok-id.ensures.admitted c.self.inside.pairs.items _ c.self.invariant.some falling left
 
-pub invariant_of-self : goal.invariant_of-self
-invariant_of-self g c =
-    let view = c.self.inside in
-    kept_alike view.start c.in_err-born.ensures.unchanged (alike_self view.events) (alike_self (g.L.LinkStore.links view.store)) (λ d. refl) c.self.invariant
+pub put_all-requires-in-Some-clause-room : goal.put_all-requires-in-Some-clause-room
+put_all-requires-in-Some-clause-room g c =
+    let pair : IsPairOf c.self.inside.bare c.args.event.now c.args.pair = rw c.self.view_is c.requires.active in
+    let there = rw c.events-2.ensures at c.in-Some.ensures.found in
+    let few = few_born c.self.inside.bare c.admit.new.self c.lawful.ensures c.lawful-2.ensures c.args.event.now c.args.pair pair c.args.line _ c.in_ok-id.ensures.admitted _ there refl in
+    let room = c.in_ok-reserve.ensures.ok in
+    let less = c.take.ensures.len in
+    let same = c.take.ensures.capacity in
+    let len = c.put_all.ensures.len in
+    let more = c.put_all.ensures.capacity in
+    omega arith
 
-pub returns-in_err-born-clause-unchanged : goal.returns-in_err-born-clause-unchanged
-returns-in_err-born-clause-unchanged g c =
-    let view = c.self.inside in
-    let v : SetView = record { start = view.start; agents = view.agents; events = view.events } in
-    at_error _ (same_again {v = v} c.self.view_is c.in_err-born.ensures.unchanged (alike_self view.events))
+pub invariant_of-self-in-Some : goal.invariant_of-self-in-Some
+invariant_of-self-in-Some g c =
+    let v = c.self.inside.bare in
+    let w = c.admit.new.self in
+    let pair : IsPairOf v c.args.event.now c.args.pair = rw c.self.view_is c.requires.active in
+    let there = rw c.events-2.ensures at c.in-Some.ensures.found in
+    let a = c.in_ok-id.ensures.admitted in
+    let few = few_born v w c.lawful.ensures c.lawful-2.ensures c.args.event.now c.args.pair pair c.args.line _ a _ there refl in
+    let one = one_more v w c.lawful.ensures c.lawful-2.ensures c.args.event.now c.args.pair pair c.args.line _ a in
+    let events = ap (λ (xs : List Stander). length xs) c.events.ensures in
+    let long = c.len.ensures in
+    let room = c.in_ok-reserve.ensures.ok in
+    let less = c.take.ensures.len in
+    let same = c.take.ensures.capacity in
+    let len = c.put_all.ensures.len in
+    let more = c.put_all.ensures.capacity in
+    let len' = c.put_all-in-Some.ensures.len in
+    let more' = c.put_all-in-Some.ensures.capacity in
+    let its = c.put_all-in-Some.new.pairs.ok.0 in
+    record {
+      some = c.put_all-in-Some.ensures.some;
+      each = admitted_each v w c.lawful.ensures c.lawful-2.ensures c.args.event.now c.args.pair pair c.args.line _ a _ there refl
+          c.beside-beside.result (c.beside-beside.ensures c.args.event.now pair) c.self.inside.pairs.items c.take.new.pairs.items c.put_all.new.pairs.items c.put_all-in-Some.new.pairs.items
+          c.self.invariant.each (rw c.reserve.ensures.items at c.take.ensures.stay) c.put_all.ensures.stay c.put_all.ensures.led c.put_all-in-Some.ensures.stay c.put_all-in-Some.ensures.led;
+      room = omega arith;
+    }
 
-pub put_event-requires : goal.put_event-requires
-put_event-requires g c =
-    let view = c.self.inside in
-    let v : SetView = record { start = view.start; agents = view.agents; events = view.events } in
-    let ls = g.L.LinkStore.links view.store in
-    let kept = causes_in view.dependents in
-    let ends = ends_same c.outcome-rules.ensures.links c.profile.ensures c.lead_kind.ensures c.other_kind.ensures in
-    let lawful : IsLawful ls = record { slim = c.lawful.ensures.slim; own_ids = c.lawful.ensures.own_ids } in
-    rw (c.in_ok-copy.ensures, c.deref-2.ensures.value, ends, c.deref-3.ensures.value)
-    (can_put_in v c.args.self.now c.self.view_is ls kept c.self.invariant c.args.event.now c.args.pair c.requires.active c.args.line c.requires.new_line
-    _ c.in_ok-children.ensures c.in_ok-born.born.items _ c.in_ok-born.ensures.entered c.lawful-2.ensures
-    c.in_ok-rank.rank c.in_ok-causes.causes.items c.in_ok-causes.ensures lawful)
-
-pub invariant_of-self-in-Ok : goal.invariant_of-self-in-Ok
-invariant_of-self-in-Ok g c =
-    let view = c.self.inside in
-    let v : SetView = record { start = view.start; agents = view.agents; events = view.events } in
-    let ls = g.L.LinkStore.links view.store in
-    let kept = causes_in view.dependents in
-    let ends = ends_same c.outcome-rules.ensures.links c.profile.ensures c.lead_kind.ensures c.other_kind.ensures in
-    let over = rw c.deref.ensures.value at c.in_ok-rank.ensures in
-    let puts = rw (c.in_ok-copy.ensures, c.deref-2.ensures.value, ends, c.deref-3.ensures.value) at c.in-Ok.ensures.put.1 in
-    put_keeps v c.args.self.now c.self.view_is ls kept c.self.invariant c.args.event.now c.args.pair c.requires.active c.args.line c.requires.new_line
-    _ c.in_ok-children.ensures c.in_ok-born.born.items _ c.in_ok-born.ensures.entered c.lawful-2.ensures
-    c.in_ok-rank.rank c.in_ok-causes.causes.items c.in_ok-causes.ensures over
-    c.in-Ok.id c.in-Ok.ensures.put.0 _ _ _ c.lawful-in-Ok.ensures puts
-
-pub returns-in-Ok-clause-admitted : goal.returns-in-Ok-clause-admitted
-returns-in-Ok-clause-admitted g c =
-    let view = c.self.inside in
-    let v : SetView = record { start = view.start; agents = view.agents; events = view.events } in
-    let ls = g.L.LinkStore.links view.store in
-    let kept = causes_in view.dependents in
-    let ends = ends_same c.outcome-rules.ensures.links c.profile.ensures c.lead_kind.ensures c.other_kind.ensures in
-    let over = rw c.deref.ensures.value at c.in_ok-rank.ensures in
-    let puts = rw (c.in_ok-copy.ensures, c.deref-2.ensures.value, ends, c.deref-3.ensures.value) at c.in-Ok.ensures.put.1 in
-    put_admits v c.args.self.now c.self.view_is ls kept c.self.invariant c.args.event.now c.args.pair c.requires.active c.args.line c.requires.new_line
-    _ c.in_ok-children.ensures c.in_ok-born.born.items _ c.in_ok-born.ensures.entered c.lawful-2.ensures
-    c.in_ok-rank.rank c.in_ok-causes.causes.items c.in_ok-causes.ensures over
-    c.in-Ok.id c.in-Ok.ensures.put.0 _ _ _ c.lawful-in-Ok.ensures puts
-
-pub invariant_of-self-in-Err : goal.invariant_of-self-in-Err
-invariant_of-self-in-Err g c =
-    let view = c.self.inside in
-    let enters = c.in_ok-born.ensures.entered in
-    let left = c.in-Err.ensures.unchanged in
-    let back = c.remove_all.ensures enters.entered view.agents (enters.under ∙ sym c.deref-in-Err.ensures.value) (alike_back enters.alike) in
-    kept_alike view.start back left.events left.links left.causes c.self.invariant
-
-pub returns-clause-unchanged : goal.returns-clause-unchanged
-returns-clause-unchanged g c =
-    let view = c.self.inside in
-    let v : SetView = record { start = view.start; agents = view.agents; events = view.events } in
-    let enters = c.in_ok-born.ensures.entered in
-    let left = c.in-Err.ensures.unchanged in
-    let back = c.remove_all.ensures enters.entered view.agents (enters.under ∙ sym c.deref-in-Err.ensures.value) (alike_back enters.alike) in
-    same_again {v = v} c.self.view_is back left.events
+pub invariant_of-self-in_default : goal.invariant_of-self-in_default
+invariant_of-self-in_default g c =
+    let a = c.in_ok-id.ensures.admitted in
+    let pair : IsPairOf c.self.inside.bare c.args.event.now c.args.pair = rw c.self.view_is c.requires.active in
+    absurd (c.in_default.ensures.absent a.entry (rw c.events-2.ensures (entry_there c.self.inside.bare c.admit.new.self c.lawful.ensures c.lawful-2.ensures c.args.event.now c.args.pair pair c.args.line _ a)) a.under)

@@ -1,43 +1,25 @@
-use Rattle.std.proofs.Common.{map, refl}
-use Rattle.std.proofs.lemmas.List.{append-nil}
-use Rattle.ic_set.specs.Joining.{moved_link}
-use Rattle.ic_set.proofs.EmptySets.{can_enter_start, start_numbers, start_slim, start_kept, start_serials}
-use Rattle.ic_set.proofs.StartLinks.{own_moved}
+use Rattle.std.proofs.Common.{List, length, ap, arith, subst}
+use Rattle.ic_path.specs.Orders.{IsIn}
+use Rattle.ic_path.proofs.Alikes.{alike-in}
+use Rattle.ic_roster.specs.Rosters.{Member, Stander}
+use Rattle.ic_shown.proofs.Elements.{in-map}
+use Rattle.ic_set.proofs.KeptPairs.{in_turned}
 use Rattle.ic_set.proofs.set.StandingSet.over.Goals as goal
-
-pub enter_all-requires : goal.enter_all-requires
-enter_all-requires g c = rw (c.new-agents.ensures, c.in_ok-entering.ensures, c.kinds.ensures) (can_enter_start c.args.start)
-
-pub links_of_start-requires : goal.links_of_start-requires
-links_of_start-requires g c =
-    let entered = rw (c.new-agents.ensures, c.in_ok-entering.ensures, c.kinds.ensures) at c.in_ok-ids.ensures.entered in
-    rw c.deref.ensures.value (start_numbers c.args.start c.lawful.ensures.proper _ _ c.links.result.now entered c.lawful-2.ensures c.links.ensures.joins c.links.ensures.placed)
-
-pub add_all-requires-clause-slim : goal.add_all-requires-clause-slim
-add_all-requires-clause-slim g c =
-    let entered = rw (c.new-agents.ensures, c.in_ok-entering.ensures, c.kinds.ensures) at c.in_ok-ids.ensures.entered in
-    let all = append-nil (map (moved_link c.in_ok-ids.ids.items) c.links.result.now) in
-    rw (c.deref-2.ensures.value, c.in_ok-links.ensures, c.deref.ensures.value, c.empty-store.ensures, all)
-    (start_slim c.args.start c.lawful.ensures.proper _ _ c.links.result.now entered c.lawful-2.ensures c.links.ensures.joins c.links.ensures.placed)
-
-pub add_all-requires-clause-own_ids : goal.add_all-requires-clause-own_ids
-add_all-requires-clause-own_ids g c =
-    let all = append-nil (map (moved_link c.in_ok-ids.ids.items) c.links.result.now) in
-    rw (c.deref-2.ensures.value, c.in_ok-links.ensures, c.deref.ensures.value, c.empty-store.ensures, all) (own_moved _ _ _ 0 c.links.result.now c.links.ensures.placed)
 
 pub invariant_of-result : goal.invariant_of-result
 invariant_of-result g c =
-    let entered = rw (c.new-agents.ensures, c.in_ok-entering.ensures, c.kinds.ensures) at c.in_ok-ids.ensures.entered in
-    let all = append-nil (map (moved_link c.in_ok-ids.ids.items) c.links.result.now) in
-    let added = rw (c.deref-2.ensures.value, c.in_ok-links.ensures, c.deref.ensures.value, c.empty-store.ensures, all) at c.in_ok-add_all.ensures.added in
-    rw c.new.ensures
-    (start_kept c.args.start c.lawful.ensures.proper _ _ c.links.result.now entered c.lawful-2.ensures c.links.ensures.joins c.links.ensures.placed _ _ added c.new-2.ensures)
-
-pub returns : goal.returns
-returns g c =
-    let entered = rw (c.new-agents.ensures, c.in_ok-entering.ensures, c.kinds.ensures) at c.in_ok-ids.ensures.entered in
+    let by_name = rw c.agents.ensures at c.in_ok-leads.ensures in
+    let len = c.put_all.ensures.len in
+    let capacity = c.put_all.ensures.capacity in
+    let exact = c.in_ok-pairs.ensures.exact in
+    let empty = c.in_ok-pairs.ensures.len in
+    let long = c.len.ensures in
+    let turned = c.deref.ensures.len in
+    let its = c.put_all.new.pairs.ok.0 in
+    let none = ap (λ (xs : List Stander). length xs) c.in_ok-bare.ensures.events in
     record {
-      start = refl;
-      events = c.new.ensures;
-      serials = start_serials c.args.start c.lawful.ensures.proper _ _ c.links.result.now entered c.lawful-2.ensures c.links.ensures.joins c.links.ensures.placed;
+      some = c.put_all.ensures.some;
+      each = λ e p h. c.put_all.ensures.led e p h (rw (c.deref.ensures.value, c.reverse.ensures.items) (in_turned c.in_ok-leads.leads.items
+          (subst (IsIn p.lead) by_name.named (in-map (λ (m : Member). m.id) (alike-in by_name.alike h.lead)))));
+      room = omega arith;
     }

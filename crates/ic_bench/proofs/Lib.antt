@@ -1,0 +1,2 @@
+pub mod GivenNumbers
+pub mod RunFacts

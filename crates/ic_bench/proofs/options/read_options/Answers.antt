@@ -1,0 +1,20 @@
+use Rattle.std.proofs.Common.{ap, map, ◌∙◌, sym}
+use Rattle.std.specs.Str.Parse.{ExplainsUnsignedError, HasUnsignedDigitsIfOk, ParsesUnsigned}
+use Rattle.clap.specs.Words.{fault_of, is_simple_and_free}
+use Rattle.ic_bench.proofs.GivenNumbers.{budget_chosen, workers_chosen}
+use Rattle.ic_bench.proofs.options.read_options.Goals as goal
+
+pub returns-clause-chosen : goal.returns-clause-chosen
+returns-clause-chosen g c =
+    let words = map g.S.AsStr.text c.args.words.now in
+    let made = c.in_ok-command.ensures in
+    let parsed = c.in_ok-matches.ensures in
+    record {
+      faultless = ap (λ app. fault_of app words) (sym made.shape) ∙ parsed.kinds (ap is_simple_and_free made.shape);
+      workers = workers_chosen c.in_ok-command.field-0 c.in_ok-matches.matches words parsed.parsed made.plain made.local made.shape parsed.matches
+          _ (λ bs r. ParsesUnsigned 8 10 bs r × ExplainsUnsignedError 10 bs r × HasUnsignedDigitsIfOk bs r) (λ u x h. h.0)
+          c.get_one-workers.result c.get_one-workers.ensures.none c.get_one-workers.ensures.value c.unwrap_or.result c.unwrap_or.ensures;
+      budget = budget_chosen c.in_ok-command.field-0 c.in_ok-matches.matches words parsed.parsed made.plain made.local made.shape parsed.matches
+          _ (λ bs r. ParsesUnsigned 32 10 bs r × ExplainsUnsignedError 10 bs r × HasUnsignedDigitsIfOk bs r) (λ u x h. h.0)
+          c.get_one-budget.result c.get_one-budget.ensures.none c.get_one-budget.ensures.value c.unwrap_or-2.result c.unwrap_or-2.ensures;
+    }

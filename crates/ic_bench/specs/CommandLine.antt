@@ -1,0 +1,47 @@
+-- The command line, and what it chooses.
+use Rattle.std.specs.Prelude.{◌≡◌, ◌≤◌, ◌⊎◌, ℕ, List, [], Option, MatchOption, pos, Some, codes}
+use Rattle.std.specs.Str.Parse.{digits_value, without_leading_plus}
+use Rattle.clap.specs.Words.{App, IsAmong, Rule, Text, new_app, new_rule, with_rule, matches_of, one_of, fault_of}
+use Rattle.clap.specs.declared.builder.action.ArgAction.TheVariants.{Set}
+use Rattle.clap.specs.declared.builder.value_parser.ValueParser.TheVariants.{Signed}
+use Rattle.clap.specs.declared.error.kind.ErrorKind.{ErrorKind}
+use Rattle.clap.specs.declared.error.kind.ErrorKind.TheVariants.{OutOfMemory}
+use Rattle.ic_bench.specs.declared.options.Options.{Options}
+use Rattle.ic_bench.specs.declared.options.TheConstants.{MAX_WORKERS, MAX_BUDGET}
+
+-- an option that takes a number
+abbrev pub number_rule : List ℕ → ℕ → ℕ → Rule
+number_rule name least most = record (new_rule name) {
+  long = Some name;
+  action = Some Set;
+  value_names = 1;
+  parser = Some (Signed (pos least) (pos most));
+}
+
+-- `--workers N`
+abbrev pub workers_rule : Rule
+workers_rule = number_rule (codes "workers") 1 MAX_WORKERS
+
+-- `--budget N`
+abbrev pub budget_rule : Rule
+budget_rule = number_rule (codes "budget") 0 MAX_BUDGET
+
+-- the program, as its command line is read
+abbrev pub icbench : App
+icbench = with_rule (with_rule (new_app (codes "icbench")) workers_rule) budget_rule
+
+-- the number that an option was given, or what stands where it was not given; it is within the option's limits
+pub record IsChoice (otherwise low high : ℕ) (given : Option Text) (n : ℕ) : Type 0 where
+  pub number : MatchOption given (n ≡ otherwise) (λ text. n ≡ digits_value 10 (without_leading_plus text))
+  pub least : low ≤ n
+  pub most : n ≤ high
+
+-- the words of a command line have no fault, and choose these options
+pub record Choose (words : List Text) (options : Options) : Type 0 where
+  pub faultless : fault_of icbench words ≡ []
+  pub workers : IsChoice 1 1 MAX_WORKERS (one_of (codes "workers") (matches_of icbench words)) options.workers
+  pub budget : IsChoice MAX_BUDGET 0 MAX_BUDGET (one_of (codes "budget") (matches_of icbench words)) options.budget
+
+-- memory was wanting, or it is a fault of these words
+abbrev pub IsFaultOf : List Text → ErrorKind → Type 0
+IsFaultOf words kind = (kind ≡ OutOfMemory) ⊎ IsAmong kind (fault_of icbench words)

@@ -1,0 +1,45 @@
+-- What a run of the program does.
+use Rattle.std.specs.Prelude.{◌≡◌, ◌≢◌, ℕ, List, Option, IfSome}
+use Rattle.std.specs.Io.KnownBytes.{Appends}
+use Rattle.clap.specs.Words.{Text}
+use Rattle.clap.specs.declared.error.kind.ErrorKind.{ErrorKind}
+use Rattle.clap.specs.declared.error.kind.ErrorKind.TheVariants.{DisplayHelp, DisplayVersion, OutOfMemory}
+use Rattle.ic_lines.specs.Faults.{AppendsFront}
+use Rattle.ic_lines.specs.declared.piece.IoFault.{IoFault}
+use Rattle.ic_lines.specs.declared.piece.IoFault.TheVariants.{Write, Memory}
+use Rattle.ic_session.specs.Sessions.{IsBegun, Writes}
+use Rattle.ic_session.specs.declared.session.Status.{Status}
+use Rattle.ic_bench.specs.CommandLine.{Choose, IsFaultOf}
+use Rattle.ic_bench.specs.Statuses.{fault_line, fault_status, session_status}
+use Rattle.ic_bench.specs.declared.options.Options.{Options}
+
+-- what a writer holds before and after, where that is known
+pub record Held : Type 0 where
+  pub before : Option (List ℕ)
+  pub after : Option (List ℕ)
+
+-- A session over this input ends in a status: it wrote its text, or it broke off in a fault and said so. A writer that
+-- fails holds a front of what it was given.
+pub data RunsSession (budget : ℕ) (input : Option (List ℕ)) (output errors : Held) : ℕ → Type 0 where
+  ended : (status : Status) → IfSome input (λ bytes. Writes budget bytes status output.before output.after) → errors.after ≡ errors.before
+      → RunsSession budget input output errors (session_status status)
+  broken : (fault : IoFault) → IfSome input (λ bytes. (text : List ℕ) × IsBegun budget bytes text × Appends output.before output.after text)
+      → AppendsFront errors.before errors.after (fault_line fault) → RunsSession budget input output errors (fault_status fault)
+
+-- the command line is wrong, and doesn't ask for a text
+abbrev pub IsMistake : ErrorKind → Type 0
+IsMistake kind = (kind ≢ DisplayHelp) × (kind ≢ DisplayVersion)
+
+-- A command line that starts no session is explained: by the help that it asks for, or by what is wrong with it.
+pub data Explains (kind : ErrorKind) (output errors : Held) : ℕ → Type 0 where
+  helped : (text : List ℕ) → (IsMistake kind → ⊥) → Appends output.before output.after text → errors.after ≡ errors.before → Explains kind output errors 0
+  unheard : (text : List ℕ) → (IsMistake kind → ⊥) → AppendsFront output.before output.after text → AppendsFront errors.before errors.after (fault_line Write)
+      → Explains kind output errors (fault_status Write)
+  wanting : output.after ≡ output.before → AppendsFront errors.before errors.after (fault_line Memory) → Explains kind output errors (fault_status Memory)
+  refused : (text : List ℕ) → IsMistake kind → kind ≢ OutOfMemory → output.after ≡ output.before → AppendsFront errors.before errors.after text
+      → Explains kind output errors 64
+
+-- A run ends in a status: the words have no fault and choose a session, or they have one that is explained.
+pub data Runs (words : List Text) (input : Option (List ℕ)) (output errors : Held) (status : ℕ) : Type 0 where
+  session : (options : Options) → Choose words options → RunsSession options.budget input output errors status → Runs words input output errors status
+  explained : (kind : ErrorKind) → IsFaultOf words kind → Explains kind output errors status → Runs words input output errors status

@@ -1,0 +1,46 @@
+/// What stands in the help above the usage.
+pub const ABOUT: &str =
+    "A workbench for nets of interaction combinators: fires interactions, and takes them back in any causal order.
+Reads a net and commands from standard input, and writes an answer to each command to standard output.";
+
+/// What stands in the help below the options.
+pub const LESSON: &str = "Input:
+  The text of a net, a line ---, and then commands, one a line.
+  A net is equations of terms: G(p,q) is a gamma, D(p,q) a delta, E an epsilon, each with its principal
+  port at the place of the term. A name that occurs twice is a wire, one that occurs once a free end.
+  The agents are named 0, 1, .. in the order of the text; those that 0 and 1 become are 0.0 to 0.3.
+  A # begins a comment.
+
+Commands:
+  net          print the net
+  active       list the active pairs
+  fire A B     fire the active pair of the agents A and B
+  undo A B     undo the event of A and B, if no other rests on it
+  why A B      tell the rank and the direct causes of an event
+  unwind A B   undo an event and all that rests on it
+  reduce N     fire up to N active pairs, each time the one with the least name
+  mark NAME    note which events stand
+  back NAME    go back to the events that were noted
+  journal      list the events that stand
+  undo-all     undo all events
+
+Example:
+  G(x,a) = D(x,b);
+  ---
+  active
+  fire 0 1
+  why 0 1
+
+  is answered by
+
+  active 1
+  0 1
+  fired 0 1
+  why 0 1 rank 0 causes 0
+
+Exit status:
+  0    the session ended
+  1    reading or writing failed
+  2    the net was refused, and its first fault named
+  3    there was no memory
+  64   the command line is wrong";

@@ -1,0 +1,77 @@
+ghost use Rattle.std.specs.Prelude.{◌≡◌, IfErr, IfOk, map, false};
+ghost use Rattle.clap.specs.Words.{IsPlain, IsPlainArg, app_of, kind_of, rule_of};
+ghost use Rattle.clap.specs.declared.builder.command.Command.TheViews.{out-Command};
+ghost use Rattle.ic_bench.specs.CommandLine.{Choose, IsFaultOf, budget_rule, icbench, workers_rule};
+
+use crate::help::{ABOUT, LESSON};
+use clap::{Arg, ArgAction, Command, Error, value_parser};
+use std::alloc::{AllocError, Global};
+use std::convert::AsStr;
+
+/// The most worker threads.
+pub const MAX_WORKERS: u8 = 64;
+
+/// The most events that a `reduce` may be allowed to fire.
+pub const MAX_BUDGET: u32 = 1_048_576;
+
+/// What the command line chooses.
+#[derive(Clone, Copy, Debug, PartialEq, Eq)]
+pub struct Options {
+    /// The worker threads. A session has one today.
+    pub workers: u8,
+    /// The events that a `reduce` may fire.
+    pub budget: u32,
+}
+
+/// Reads the words of a command line, the first of which names the program.
+pub fn read_options<S: AsStr>(alloc: Global, words: &[S]) -> Result<Options, Error>
+    ensures chosen { IfOk result (λ options. Choose (map S.text words.now) options) }
+    ensures fault { IfErr result (λ error. IsFaultOf (map S.text words.now) (kind_of error)) }
+{
+    let matches = command(alloc)?.try_get_matches_from(words)?;
+    let workers = matches.get_one::<u8>("workers");
+    let budget = matches.get_one::<u32>("budget");
+    Ok(Options {
+        workers: workers.unwrap_or(1),
+        budget: budget.unwrap_or(MAX_BUDGET),
+    })
+}
+
+/// The command line.
+fn command<'a>(alloc: Global) -> Result<Command<'a>, AllocError>
+    ensures shape { IfOk result (λ command. app_of command ≡ icbench) }
+    ensures plain { IfOk result (λ command. IsPlain command) }
+    ensures local { IfOk result (λ command. (out-Command command).has_globals ≡ false) }
+{
+    Command::new(alloc, "icbench")
+        .about(ABOUT)
+        .after_help(LESSON)
+        .arg(workers_argument(alloc))?
+        .arg(budget_argument(alloc))
+}
+
+/// The option that says how many worker threads there are.
+fn workers_argument<'a>(alloc: Global) -> Arg<'a>
+    ensures rule { rule_of result ≡ workers_rule }
+    ensures plain { IsPlainArg result × (result.global ≡ false) }
+{
+    Arg::new(alloc, "workers")
+        .long("workers")
+        .value_name("N")
+        .value_parser(value_parser!(u8).range(1..=i64::from(MAX_WORKERS)))
+        .action(ArgAction::Set)
+        .help("worker threads, 1 to 64; a session has one today [default: 1]")
+}
+
+/// The option that says how much a `reduce` may fire.
+fn budget_argument<'a>(alloc: Global) -> Arg<'a>
+    ensures rule { rule_of result ≡ budget_rule }
+    ensures plain { IsPlainArg result × (result.global ≡ false) }
+{
+    Arg::new(alloc, "budget")
+        .long("budget")
+        .value_name("N")
+        .value_parser(value_parser!(u32).range(0..=i64::from(MAX_BUDGET)))
+        .action(ArgAction::Set)
+        .help("the most that a reduce fires, 0 to 1048576 [default: 1048576]")
+}

@@ -1,0 +1,19 @@
+-- The names of marks.
+use Rattle.std.specs.Prelude.{◌≡◌, ◌≤◌, ◌∷◌, ℕ, true, List, length, Option, Some, None}
+use Rattle.std.specs.List.{list_all}
+use Rattle.ic_grammar.specs.Texts.{is_letter, is_name_byte}
+use Rattle.ic_grammar.specs.declared.limits.TheConstants.{MAX_NAME}
+
+-- a name as it may stand in a net text: a letter, then letters and digits, not too long
+pub record IsMarkName (name : List ℕ) : Type 0 where
+  pub first : ℕ
+  pub further : List ℕ
+  pub parts : name ≡ first ∷ further
+  pub begins : is_letter first ≡ true
+  pub goes_on : list_all is_name_byte further ≡ true
+  pub short : length name ≤ MAX_NAME
+
+-- the mark's name that a word writes, if it writes one
+abbrev pub IsMarkNameIn : List ℕ → Option (List ℕ) → Type 0
+IsMarkNameIn word (Some name) = IsMarkName word × (name ≡ word)
+IsMarkNameIn word None = ¬ (IsMarkName word)

@@ -1,0 +1,72 @@
+ghost use Rattle.std.specs.Prelude.{◌≡◌, IfOk};
+ghost use Rattle.ic_command.specs.Requests.{IsMarkRequestIn, IsRequest, within};
+ghost use Rattle.ic_command.specs.Words.{words};
+
+use crate::command::{Command, command_of, is_well_formed, without_return};
+use crate::mark_name::MarkName;
+use crate::words::next_word;
+use std::alloc::{AllocError, Global};
+
+/// What a line of a session asks for.
+#[derive(Drop)]
+pub enum Request {
+    /// A command of the bench.
+    Bench(Command),
+    /// To mark what stands.
+    Mark(MarkName),
+    /// To go back to a mark.
+    Back(MarkName),
+}
+
+impl Request {
+    /// The request in a session that fires at most so many events at once.
+    pub fn within(self, budget: u32) -> Request
+        ensures { result ≡ within budget self }
+    {
+        match self {
+            Request::Bench(command) => Request::Bench(command.within(budget)),
+            other => other,
+        }
+    }
+}
+
+/// The request of a line without its line feed. An error where there is no memory for the names in it.
+pub fn request_of(alloc: Global, line: &[u8]) -> Result<Request, AllocError>
+    ensures { IfOk result (λ request. IsRequest line.now request) }
+{
+    let body = without_return(line);
+    if is_well_formed(body) {
+        if let Some(request) = mark_request_in(alloc, body)? {
+            return Ok(request);
+        }
+    }
+    Ok(Request::Bench(command_of(alloc, line)?))
+}
+
+/// What the words of a line ask for with a mark; `None` where they don't.
+fn mark_request_in(alloc: Global, body: &[u8]) -> Result<Option<Request>, AllocError>
+    ensures { IfOk result (λ request. IsMarkRequestIn (words body.now) request) }
+{
+    let Some((word, behind)) = next_word(body) else {
+        return Ok(None);
+    };
+    let Some((second, rest)) = next_word(behind) else {
+        return Ok(None);
+    };
+    if next_word(rest).is_some() {
+        return Ok(None);
+    }
+    if word == b"mark".as_slice() {
+        match MarkName::read(alloc, second)? {
+            Some(name) => Ok(Some(Request::Mark(name))),
+            None => Ok(None),
+        }
+    } else if word == b"back".as_slice() {
+        match MarkName::read(alloc, second)? {
+            Some(name) => Ok(Some(Request::Back(name))),
+            None => Ok(None),
+        }
+    } else {
+        Ok(None)
+    }
+}

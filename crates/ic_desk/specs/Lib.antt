@@ -1,0 +1,5 @@
+pub mod Desks
+pub mod Backs
+pub mod Replies
+pub mod Views
+pub mod Places

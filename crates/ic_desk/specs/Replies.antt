@@ -1,0 +1,43 @@
+-- What a desk answers, and what state it leaves.
+use Rattle.std.specs.Prelude.{◌≤◌, ℕ, List, ◌++◌, codes, length}
+use Rattle.std.specs.Fmt.{decimal}
+use Rattle.ic_name.specs.Events.{Event}
+use Rattle.ic_path.specs.Orders.{Alike}
+use Rattle.ic_theory.specs.Starts.{Start}
+use Rattle.ic_theory.specs.Machine as machine
+use Rattle.ic_command.specs.declared.command.Command.{Command}
+use Rattle.ic_command.specs.declared.request.Request.{Request}
+use Rattle.ic_command.specs.declared.request.Request.TheVariants.{Bench, Mark, Back}
+use Rattle.ic_answer.specs.Replies as bench
+use Rattle.ic_answer.specs.Texts.{refusal_text}
+use Rattle.ic_answer.specs.declared.refused.Refused.TheVariants.{HistoryFull, Memory, NoMark, TooManyMarks}
+use Rattle.ic_desk.specs.declared.desk.TheConstants.{MAX_MARKS}
+use Rattle.ic_desk.specs.Desks.{Noted, State, NoneNoted, IsNoted, Puts}
+use Rattle.ic_desk.specs.Backs.{AreOutside, AreMissing, DontFit, GoesBack, GoesPartWay}
+
+-- how many events are marked under the name
+abbrev pub marked_text : List ℕ → ℕ → List ℕ
+marked_text name n = codes "marked " ++ name ++ codes " " ++ decimal n ++ codes "\n"
+
+-- how many events were undone and fired to go back to the mark of this name
+abbrev pub back_text : List ℕ → ℕ → ℕ → List ℕ
+back_text name undone fired = codes "back " ++ name ++ codes " undone " ++ decimal undone ++ codes " fired " ++ decimal fired ++ codes "\n"
+
+-- memory was wanting after so many
+abbrev pub wanting_text : ℕ → ℕ → List ℕ
+wanting_text undone fired = codes "refused 25 memory after " ++ decimal undone ++ codes " undone " ++ decimal fired ++ codes " fired\n"
+
+-- the answer to what a line asks for, and the state after it
+pub data Replies (s : Start) (st : State) : Request → List ℕ → State → Type 0 where
+  of_bench : {c : Command} {text : List ℕ} {next : machine.State} → bench.Replies s st.bench c text next → Replies s st (Bench c) text (record st { bench = next })
+  marked : {name : List ℕ} {es : List Event} {marks : List Noted} → Alike (machine.events st.bench) es → Puts st.marks (record { name = name; events = es }) marks
+      → Replies s st (Mark name) (marked_text name (length es)) (record st { marks = marks })
+  too_many : {name : List ℕ} → NoneNoted st.marks name → MAX_MARKS ≤ length st.marks → Replies s st (Mark name) (refusal_text TooManyMarks) st
+  mark_memory : {name : List ℕ} → Replies s st (Mark name) (refusal_text Memory) st
+  no_mark : {name : List ℕ} → NoneNoted st.marks name → Replies s st (Back name) (refusal_text NoMark) st
+  back_history_full : {name : List ℕ} {x : Noted} {gone came : List Event} → IsNoted st.marks name x → AreOutside s st.bench x.events gone → AreMissing s st.bench x.events came
+      → DontFit st.bench gone came → Replies s st (Back name) (refusal_text HistoryFull) st
+  back : {name : List ℕ} {x : Noted} {undone fired : ℕ} {next : machine.State} → IsNoted st.marks name x → GoesBack s st.bench x.events undone fired next
+      → Replies s st (Back name) (back_text name undone fired) (record st { bench = next })
+  back_memory : {name : List ℕ} {x : Noted} {undone fired : ℕ} {next : machine.State} → IsNoted st.marks name x → GoesPartWay s st.bench x.events undone fired next
+      → Replies s st (Back name) (wanting_text undone fired) (record st { bench = next })

@@ -1,0 +1,89 @@
+use crate::desk::Desk;
+use ic_command::request_of;
+use ic_text::read_net;
+use std::test::Fail;
+
+/// A desk over the net `G(x,a) = D(x,b);`.
+fn desk(rt: &HostRuntime) -> Result<Desk, Fail> {
+    let start = read_net(rt.alloc(), b"G(x,a) = D(x,b);\n")?;
+    Ok(Desk::over(rt.alloc(), start)?)
+}
+
+/// Whether the desk answers the line so.
+fn answers(rt: &HostRuntime, desk: &mut Desk, line: &[u8], text: &[u8]) -> Result<bool, Fail> {
+    let request = request_of(rt.alloc(), line)?;
+    let answer = desk.carry_out(rt.alloc(), request)?;
+    Ok(answer.bytes() == text)
+}
+
+/// The event of 0.0 and 0.2 goes with the two that rest on it.
+const UNWOUND: &[u8] = b"unwound 3\n0.0.0.0 0.0.0.2\n0.0.0 0.0.2\n0.0 0.2\n";
+
+/// Whether a desk goes back over what was undone and over what was fired.
+fn goes_back(rt: &HostRuntime, desk: &mut Desk) -> Result<bool, Fail> {
+    Ok(
+        answers(rt, desk, b"fire 0 1", b"fired 0 1\n")?
+            && answers(rt, desk, b"fire 0.0 0.2", b"fired 0.0 0.2\n")?
+            && answers(rt, desk, b"mark m", b"marked m 2\n")?
+            && answers(rt, desk, b"reduce 2", b"reduced 2 budget\n")?
+            && answers(rt, desk, b"unwind 0.0 0.2", UNWOUND)?
+            && answers(rt, desk, b"back m", b"back m undone 0 fired 1\n")?
+            && answers(rt, desk, b"reduce 3", b"reduced 3 budget\n")?
+            && answers(rt, desk, b"back m", b"back m undone 3 fired 0\n")?
+            && answers(rt, desk, b"back z", b"refused 41 no mark\n")?,
+    )
+}
+
+#[test]
+fn a_desk_goes_back_to_its_marks(rt: HostRuntime) -> Result<(), Fail> {
+    let mut desk = desk(&rt)?;
+    assert!(rt; goes_back(&rt, &mut desk)?);
+    Ok(())
+}
+
+/// Whether a mark of the same name takes the place of the one before.
+fn replaces(rt: &HostRuntime, desk: &mut Desk) -> Result<bool, Fail> {
+    Ok(
+        answers(rt, desk, b"mark m", b"marked m 0\n")?
+            && answers(rt, desk, b"fire 0 1", b"fired 0 1\n")?
+            && answers(rt, desk, b"mark m", b"marked m 1\n")?
+            && answers(rt, desk, b"undo 0 1", b"undone 0 1\n")?
+            && answers(rt, desk, b"back m", b"back m undone 0 fired 1\n")?,
+    )
+}
+
+#[test]
+fn a_mark_is_replaced(rt: HostRuntime) -> Result<(), Fail> {
+    let mut desk = desk(&rt)?;
+    assert!(rt; replaces(&rt, &mut desk)?);
+    Ok(())
+}
+
+/// Whether as many marks are made as there may be, `m0`, `m1` and so on.
+fn marks_all(rt: &HostRuntime, desk: &mut Desk) -> Result<bool, Fail> {
+    for number in 0..256 {
+        let line = format!(in rt.alloc(); "mark m{}", number)?;
+        let text = format!(in rt.alloc(); "marked m{} 0\n", number)?;
+        if !answers(rt, desk, line.as_bytes(), text.as_bytes())? {
+            return Ok(false);
+        }
+    }
+    Ok(true)
+}
+
+/// Whether a further name is refused then, and one of a mark isn't.
+fn refuses_more(rt: &HostRuntime, desk: &mut Desk) -> Result<bool, Fail> {
+    Ok(
+        marks_all(rt, desk)?
+            && answers(rt, desk, b"mark m256", b"refused 42 too many marks\n")?
+            && answers(rt, desk, b"back m256", b"refused 41 no mark\n")?
+            && answers(rt, desk, b"mark m7", b"marked m7 0\n")?,
+    )
+}
+
+#[test]
+fn marks_are_limited(rt: HostRuntime) -> Result<(), Fail> {
+    let mut desk = desk(&rt)?;
+    assert!(rt; refuses_more(&rt, &mut desk)?);
+    Ok(())
+}

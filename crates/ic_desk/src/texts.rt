@@ -1,0 +1,43 @@
+ghost use Rattle.std.specs.Prelude.{◌≡◌, IfOk};
+ghost use Rattle.ic_desk.specs.Replies.{back_text, marked_text, wanting_text};
+
+use ic_command::MarkName;
+use ic_undo::Counts;
+use std::alloc::{AllocError, Global};
+
+/// How many events are marked under the name.
+pub(crate) fn marked_text(alloc: Global, name: &MarkName, count: u32) -> Result<Vec<u8>, AllocError>
+    ensures { IfOk result (λ text. text.items ≡ marked_text name.now count) }
+{
+    let mut text = Vec::from_slice(alloc, b"marked ")?;
+    text.extend_from_slice(name.bytes())?;
+    let rest = format!(in alloc; " {}\n", count)?;
+    text.extend_from_slice(rest.as_bytes())?;
+    Ok(text)
+}
+
+/// How many events were undone and fired to go back to the mark of this name.
+pub(crate) fn back_text(
+    alloc: Global,
+    name: &MarkName,
+    counts: Counts,
+) -> Result<Vec<u8>, AllocError>
+    ensures { IfOk result (λ text. text.items ≡ back_text name.now counts.undone counts.fired) }
+{
+    let mut text = Vec::from_slice(alloc, b"back ")?;
+    text.extend_from_slice(name.bytes())?;
+    let rest = format!(in alloc; " undone {} fired {}\n", counts.undone, counts.fired)?;
+    text.extend_from_slice(rest.as_bytes())?;
+    Ok(text)
+}
+
+/// That memory was wanting after so many undoings and firings.
+pub(crate) fn wanting_text(alloc: Global, counts: Counts) -> Result<Vec<u8>, AllocError>
+    ensures { IfOk result (λ text. text.items ≡ wanting_text counts.undone counts.fired) }
+{
+    let text = format!(in alloc;
+        "refused 25 memory after {} undone {} fired\n",
+        counts.undone, counts.fired
+    )?;
+    Ok(text.into_bytes())
+}

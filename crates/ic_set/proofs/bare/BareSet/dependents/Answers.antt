@@ -1,0 +1,15 @@
+use Rattle.std.proofs.lemmas.Result.{IfOk-weaker}
+use Rattle.ic_set.specs.Placed.{ArePlaced}
+use Rattle.ic_set.specs.Removal.{Stands}
+use Rattle.ic_set.specs.Views.{SetView}
+use Rattle.ic_path.specs.Orders.{IsIn}
+use Rattle.ic_set.proofs.OrderedIds.{ids_in_order, placed_so, dependents_of}
+use Rattle.ic_set.proofs.bare.BareSet.dependents.Goals as goal
+
+pub returns : goal.returns
+returns g c =
+    let v : SetView = record { start = c.self.inside.start; agents = c.self.inside.agents; events = c.self.inside.events } in
+    let stands : Stands v c.args.id = rw (← c.self.view_is) at c.requires in
+    let placed : ArePlaced v (λ x. IsIn x.id c.dependents.result.now) c.in_ok-in_order.field-0.items = rw (← c.self.view_is) at c.in_ok-in_order.ensures in
+    let same = dependents_of v _ c.self.invariant.set.own_lines c.self.invariant.causes c.self.invariant.naming c.self.invariant.named c.args.id _ stands c.dependents.ensures in
+    rw (← c.self.view_is) (IfOk-weaker c.ids_of.result _ _ (λ ids e. ids_in_order v _ _ ids.items (placed_so v _ same placed) e) (rw c.deref.ensures.value at c.ids_of.ensures))

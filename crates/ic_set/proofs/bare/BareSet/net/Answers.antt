@@ -1,0 +1,25 @@
+use Rattle.std.proofs.Common.{[], sym, subst, ◌∙◌}
+use Rattle.ic_path.specs.Orders.{Alike}
+use Rattle.ic_theory.specs.Firings.{then_fired}
+use Rattle.ic_theory.specs.Listed.{shown}
+use Rattle.ic_theory.specs.Nets.{IsSameNet, net_of}
+use Rattle.ic_set.specs.Views.{SetView, standing}
+use Rattle.ic_set.proofs.SetNets.{net_left, causal_defined, causal_net}
+use Rattle.ic_set.proofs.bare.BareSet.net.Goals as goal
+
+-- the net of the replay is that of the set
+same_net : goal.returns-in-Ok-clause-left
+same_net g c =
+    let list = c.deref.result.now in
+    let all : Alike (standing c.args.self.now) list = subst (Alike (standing c.args.self.now)) (sym (c.deref.ensures.value ∙ c.in_ok-events.ensures)) c.in_ok-ranked.ensures.in_order.alike in
+    net_left c.args.self.now.start c.lawful.ensures.proper (standing c.args.self.now) c.lawful.ensures.sound (shown c.in-Ok.net) list all
+    (subst (λ (v : SetView). IsSameNet (shown c.in-Ok.net) (net_of v.start (then_fired [] list))) c.self.view_is c.in-Ok.ensures.left)
+
+pub returns-in-Ok-clause-left : goal.returns-in-Ok-clause-left
+returns-in-Ok-clause-left g c = same_net g c
+
+pub returns-in-Ok-clause-defined : goal.returns-in-Ok-clause-defined
+returns-in-Ok-clause-defined g c = λ order a after. causal_defined c.args.self.now.start c.lawful.ensures.proper (standing c.args.self.now) c.lawful.ensures.sound order a after
+
+pub returns-in-Ok-clause-every_order : goal.returns-in-Ok-clause-every_order
+returns-in-Ok-clause-every_order g c = λ order a after. causal_net c.args.self.now.start c.lawful.ensures.proper (standing c.args.self.now) c.lawful.ensures.sound order a after (shown c.in-Ok.net) (same_net g c)

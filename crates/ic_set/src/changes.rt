@@ -1,0 +1,74 @@
+ghost use Rattle.std.specs.Prelude.{◌≡◌, ◌≢◌, ◌<◌, length, IfOk, OnErr};
+ghost use Rattle.ic_name.specs.declared.limits.TheConstants.{MAX_LINES};
+ghost use Rattle.ic_path.specs.Orders.{IsIn};
+ghost use Rattle.ic_theory.specs.Machine.{IsDeep};
+ghost use Rattle.ic_roster.specs.Rosters.{Stander};
+ghost use Rattle.ic_set.specs.Changes.{Admits, IsSame, TakesOut};
+ghost use Rattle.ic_set.specs.Pairs.{IsPairOf};
+ghost use Rattle.ic_set.specs.Removal.{Stands, IsFree};
+
+use crate::pairs::ActivePair;
+use crate::queue::{put, put_all, take, take_all};
+use crate::set::StandingSet;
+use ic_link::LinkStore;
+use ic_name::{Event, EventId};
+use std::alloc::AllocError;
+
+/// At most so many pairs come with an event: one for each of its children, and one for each auxiliary port of its agents.
+const MAX_NEW_PAIRS: usize = 8;
+
+impl<L: LinkStore> StandingSet<L> {
+    /// One event more, which is active, under an id with this line, which no standing event has: with it its children
+    /// come, and the links of its rule are put in. At an error nothing changes.
+    pub fn admit(
+        &mut self,
+        event: &Event,
+        pair: ActivePair,
+        line: u32,
+    ) -> Result<EventId, AllocError>
+        requires active { IsPairOf self.old event.now pair }
+        requires shallow { ¬ (IsDeep event.now) }
+        requires new_line { (x : Stander) → IsIn x self.old.events → x.id.line ≢ line }
+        requires few_lines { line < MAX_LINES }
+        requires few_events { length self.old.events < MAX_LINES }
+        ensures admitted { IfOk result (λ id. Admits self.old event.now line id self.new) }
+        ensures unchanged { OnErr result (IsSame self.old self.new) }
+    {
+        self.bare.lawful();
+        let beside = self.bare.beside(pair);
+        self.pairs
+            .reserve(self.bare.events().len() + 1 + MAX_NEW_PAIRS)?;
+        let id = self.bare.admit(event, pair, line)?;
+        self.bare.lawful();
+        take(&mut self.pairs, self.bare.agents(), pair.lead);
+        put_all(&mut self.pairs, &self.bare, &beside);
+        if let Some(entry) = self.bare.events().get(id) {
+            put_all(&mut self.pairs, &self.bare, entry.born);
+        }
+        Ok(id)
+    }
+
+    /// A standing event goes on which nothing depends: with it its children go, and its links. It takes no memory.
+    pub fn take_out(&mut self, id: EventId)
+        requires standing { Stands self.old id }
+        requires free { IsFree self.old id }
+        ensures { TakesOut self.old id self.new }
+    {
+        self.bare.lawful();
+        let Some(entry) = self.bare.events().get(id) else {
+            return;
+        };
+        let Some(lead) = self.bare.agents().find(entry.event.lead()) else {
+            return;
+        };
+        let Some(other) = self.bare.agents().find(entry.event.other()) else {
+            return;
+        };
+        let pair = ActivePair { lead, other };
+        take_all(&mut self.pairs, self.bare.agents(), entry.born);
+        self.bare.take_out(id);
+        self.bare.lawful();
+        take_all(&mut self.pairs, self.bare.agents(), &self.bare.beside(pair));
+        put(&mut self.pairs, self.bare.agents(), pair);
+    }
+}

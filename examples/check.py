@@ -1,0 +1,29 @@
+#!/usr/bin/env python3
+"""Runs the sessions of this folder on the built program: python3 examples/check.py [PROGRAM].
+
+Each NAME.session has what it is answered beside it, in NAME.answer. Prints the names of those that are answered
+otherwise; the status is 1 if there are any.
+"""
+
+import pathlib
+import subprocess
+import sys
+
+HERE = pathlib.Path(__file__).resolve().parent
+PROGRAM = HERE.parent / "crates/ic_bench/out/ic_bench"
+
+
+def main():
+    program = sys.argv[1] if len(sys.argv) > 1 else str(PROGRAM)
+    wrong = 0
+    for session in sorted(HERE.glob("*.session")):
+        done = subprocess.run([program], input=session.read_bytes(), capture_output=True, check=False)
+        answer = session.with_suffix(".answer").read_bytes()
+        if done.returncode != 0 or done.stdout != answer:
+            print(f"{session.name}: answered otherwise, status {done.returncode}")
+            wrong += 1
+    sys.exit(1 if wrong else 0)
+
+
+if __name__ == "__main__":
+    main()
