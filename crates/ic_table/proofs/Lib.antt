@@ -1,0 +1,17 @@
+pub mod SlotLookUps
+pub mod SameRecords
+pub mod WrittenRecords
+pub mod GivenUpRecords
+pub mod RecordWrites
+pub mod Left
+pub mod RecordWalks
+pub mod JoinedRecords
+pub mod PartedRecords
+pub mod PartedEnds
+pub mod Keys
+pub mod KeyOrderFacts
+pub mod FoundLinks
+pub mod ShownLinks
+pub mod AddedLinks
+pub mod TakenLinks
+pub mod Takes
