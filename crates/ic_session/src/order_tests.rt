@@ -19,14 +19,15 @@ fn is_next(bench: &Bench<Store>, chosen: &[EventId], id: EventId) -> Result<bool
     Ok(!chosen.contains(&id) && causes.iter().all(|cause| chosen.contains(cause)))
 }
 
-/// One of the events that may come next, which one by a number.
+/// One of the events that may come next, which one by a number, and the number that says how to go on: between them,
+/// the numbers from 0 on lead to each order.
 fn choose(
     rt: &HostRuntime,
     bench: &Bench<Store>,
     ids: &[EventId],
     chosen: &[EventId],
     number: usize,
-) -> Result<EventId, Fail> {
+) -> Result<(EventId, usize), Fail> {
     let mut ready = Vec::new(rt.alloc());
     for id in ids {
         if is_next(bench, chosen, *id)? {
@@ -36,7 +37,8 @@ fn choose(
     let place = number
         .checked_rem(ready.len())
         .ok_or("an event that may come next")?;
-    Ok(*ready.get(place).ok_or("a place")?)
+    let further = number.checked_div(ready.len()).ok_or("a number")?;
+    Ok((*ready.get(place).ok_or("a place")?, further))
 }
 
 /// A causal order of what stands, which one by a number.
@@ -44,9 +46,10 @@ fn causal_order(rt: &HostRuntime, bench: &Bench<Store>, number: usize) -> Result
     let ids = bench.standing()?;
     let mut chosen = Vec::new(rt.alloc());
     let mut events = Vec::new(rt.alloc());
-    for place in 0..ids.len() {
-        let by = number.wrapping_mul(place.wrapping_add(1));
-        let id = choose(rt, bench, &ids, &chosen, by)?;
+    let mut left = number;
+    for _ in 0..ids.len() {
+        let (id, further) = choose(rt, bench, &ids, &chosen, left)?;
+        left = further;
         chosen.push(id)?;
         events.push(bench.event_of(id)?.ok_or("a standing event")?)?;
     }
