@@ -2,7 +2,7 @@
 use Rattle.std.proofs.Common.{◌≡◌, ℕ, ◌+◌, ◌<◌, List, ◌++◌, codes, sym, subst, append_assoc, arith}
 use Rattle.std.specs.Fmt.{decimal}
 use Rattle.ic_theory.specs.Starts.{Start}
-use Rattle.ic_theory.specs.Machine.{State, events}
+use Rattle.ic_theory.specs.Machine.{State}
 use Rattle.ic_journal.specs.Views.{BenchView}
 use Rattle.ic_journal.specs.Benches.{IsAt}
 use Rattle.ic_command.specs.declared.command.Command.TheVariants.{Reduce}

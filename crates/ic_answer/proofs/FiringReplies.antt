@@ -118,5 +118,5 @@ pub fires_full : (old new : BenchView) (p : Pair) (e : Event) → IsProposed old
 fires_full old new p e is bench steps = stepped old new (Fire p) _ (call.Fire e) reply.Full bench steps (λ st next at few answers. fire_full (is st at) few answers)
 
 -- and one for which the history has no line
-pub tells_no_line : (v : BenchView) (p : Pair) → length v.lines ≡ MAX_LINES → Tells v (Fire p) (refusal_text refused.HistoryFull)
-tells_no_line v p full = λ st at. fire_history_full (history_length at.history ∙ full)
+pub tells_no_line : (v : BenchView) (p : Pair) (e : Event) → IsProposed v p e → length v.lines ≡ MAX_LINES → Tells v (Fire p) (refusal_text refused.HistoryFull)
+tells_no_line v p e is full = λ st at. fire_history_full (is st at) (history_length at.history ∙ full)

@@ -1,14 +1,10 @@
 -- The active pair with the least lead, and what firing it does.
-use Rattle.std.proofs.Common.{◌≡◌, ◌≢◌, ℕ, ◌<◌, List, length, Result, Ok, Err, inl, refl, sym, ap, subst, arith, ◌∙◌}
+use Rattle.std.proofs.Common.{◌≡◌, ◌≢◌, ℕ, Err, inl, refl, sym, subst, arith, ◌∙◌}
 use Rattle.std.specs.declared.cmp.Ordering.TheVariants.{Less}
 use Rattle.ic_name.specs.Names.{name_cmp}
 use Rattle.ic_name.specs.Events.{Event, event_of}
-use Rattle.ic_name.specs.declared.ids.EventId.{EventId}
-use Rattle.ic_name.specs.declared.limits.TheConstants.{MAX_LINES}
 use Rattle.ic_name.specs.declared.lines.Call.TheVariants as call
-use Rattle.ic_name.specs.declared.lines.Reply.{Reply}
 use Rattle.ic_name.specs.declared.lines.Reply.TheVariants as reply
-use Rattle.ic_path.specs.Orders.{IsIn}
 use Rattle.ic_path.proofs.Alikes.{alike_back}
 use Rattle.ic_theory.specs.Active.{IsActive}
 use Rattle.ic_theory.specs.Starts.{Start}
@@ -28,7 +24,7 @@ use Rattle.ic_journal.specs.declared.faults.FireFault.{FireFault}
 use Rattle.ic_journal.specs.declared.faults.FireFault.TheVariants as fault
 use Rattle.ic_journal.proofs.MachineSteps.{events_at}
 use Rattle.ic_answer.specs.declared.reducing.End.TheVariants.{Normal, Budget, Limit, Memory}
-use Rattle.ic_answer.specs.Reducing.{IsLeastActive, none, more, MeetsLimit, history_full, deep, full}
+use Rattle.ic_answer.specs.Reducing.{IsLeastActive, none, more, history_full, deep, full}
 use Rattle.ic_answer.specs.Reduced.{Reduces, FiresLeast}
 use Rattle.ic_answer.proofs.TurnSteps.{still_at, line_left}
 use Rattle.ic_answer.proofs.FiredInTurn.{HasFired}

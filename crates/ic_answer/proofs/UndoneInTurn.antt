@@ -1,13 +1,13 @@
 -- Events that a bench undoes, undone in turn by the machine.
-use Rattle.std.proofs.Common.{◌≡◌, ℕ, ◌+◌, ◌≤◌, List, [], ◌∷◌, ◌++◌, length, map, reverse, refl, sym, ap, subst, append_assoc, append-nil, arith, ◌∙◌}
+use Rattle.std.proofs.Common.{◌≡◌, ◌+◌, ◌≤◌, List, [], ◌∷◌, ◌++◌, length, map, reverse, refl, sym, ap, subst, append_assoc, append-nil, arith, ◌∙◌}
 use Rattle.ic_name.specs.Events.{Event}
 use Rattle.ic_name.specs.declared.limits.TheConstants.{MAX_LINES}
 use Rattle.ic_name.specs.declared.lines.Line.{Line}
 use Rattle.ic_name.specs.declared.lines.Call.TheVariants.{Undo}
 use Rattle.ic_name.specs.declared.lines.Reply.TheVariants.{Undone}
-use Rattle.ic_path.specs.Orders.{Pick, here, IsIn, Alike}
+use Rattle.ic_path.specs.Orders.{here, IsIn, Alike}
 use Rattle.ic_path.proofs.Picks.{in_first}
-use Rattle.ic_path.proofs.Alikes.{alike_back, alike_pick, alike_then, alike_more, alike-append, append-alike-comm, alike_self, alike_past, alike-map, alike-in}
+use Rattle.ic_path.proofs.Alikes.{alike_back, alike_pick, alike_then, alike_more, alike_past, alike-map, alike-in}
 use Rattle.ic_shown.proofs.Elements.{map_cases}
 use Rattle.ic_theory.specs.Causes.{IsDependent}
 use Rattle.ic_theory.specs.Future.{Includes}

@@ -5,7 +5,7 @@ use Rattle.std.specs.List.{flat_map}
 use Rattle.std.specs.List.Sorted.{IsStrictlySortedBy}
 use Rattle.std.proofs.lemmas.List.{length-map, length-append, take_more}
 use Rattle.std.proofs.lemmas.List.Concat.{flat_map-append}
-use Rattle.ic_name.specs.Events.{Event, Pair, pair}
+use Rattle.ic_name.specs.Events.{Pair, pair}
 use Rattle.ic_name.specs.declared.ids.EventId.{EventId}
 use Rattle.ic_name.specs.declared.limits.TheConstants.{MAX_LINES}
 use Rattle.ic_theory.specs.Starts.{Start}
@@ -14,9 +14,8 @@ use Rattle.ic_theory.specs.Machine.{State, events, IsHistory}
 use Rattle.ic_theory.proofs.Machines.{history_length}
 use Rattle.ic_path.specs.Orders.{IsIn}
 use Rattle.ic_roster.specs.Rosters.{Stander}
-use Rattle.ic_set.specs.Orders.{AreInOrder, IsAny}
-use Rattle.ic_set.specs.Views as set
-use Rattle.ic_journal.specs.Views.{BenchView, set_of}
+use Rattle.ic_set.specs.Orders.{IsAny}
+use Rattle.ic_journal.specs.Views.{BenchView}
 use Rattle.ic_journal.specs.Benches.{IsAt, IsBench, fired_in}
 use Rattle.ic_journal.specs.Calls.{Stays}
 use Rattle.ic_undo.specs.Undone as bench
@@ -27,18 +26,17 @@ use Rattle.ic_undo.specs.Backwards.{AreFree}
 use Rattle.ic_undo.proofs.Backs.{map-reverse}
 use Rattle.ic_undo.proofs.FreeOrders.{AreWithDependents, in_free_order, resting_with_dependents, all_with_dependents}
 use Rattle.ic_undo.proofs.Unwinds.{each_once_back}
-use Rattle.ic_command.specs.declared.command.Command.{Command}
 use Rattle.ic_command.specs.declared.command.Command.TheVariants.{Unwind, UndoAll}
 use Rattle.ic_answer.specs.declared.refused.Refused.TheVariants as refused
 use Rattle.ic_answer.specs.Replies.{Replies, unwind_not_standing, unwind_history_full, unwound, undo_all_history_full, undone_all}
 use Rattle.ic_answer.specs.Texts.{event_line, pair_line, unwound_text, undone_all_text, refusal_text}
 use Rattle.ic_answer.specs.Turns.{Tells, Turns}
-use Rattle.ic_answer.specs.Unwinding.{RestsOn, AreLastFirst, AreUndoneInTurn, DontFit, events_of}
+use Rattle.ic_answer.specs.Unwinding.{RestsOn, AreUndoneInTurn, events_of}
 use Rattle.ic_answer.proofs.StandingCauses.{named_event, none_named}
 use Rattle.ic_answer.proofs.TurnSteps.{still_at}
 use Rattle.ic_answer.proofs.UndoneInTurn.{EndsSo, undone_in_turn}
 use Rattle.ic_answer.proofs.UndoingReplies.{Stands}
-use Rattle.ic_answer.proofs.UnwoundEvents.{SaysSame, last_first_at, dont_fit_at, any_same, resting_same}
+use Rattle.ic_answer.proofs.UnwoundEvents.{last_first_at, dont_fit_at, any_same, resting_same}
 
 -- the events of a list, the last one in canonical order first, are in a free order from its end
 pub free_back : (v : BenchView) (P : Stander → Type 0) (xs : List Stander) → IsBench v → AreWithDependents v P

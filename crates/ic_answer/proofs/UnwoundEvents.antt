@@ -1,19 +1,16 @@
 -- The events that are undone at once, as the machine has them.
-use Rattle.std.proofs.Common.{◌≡◌, ℕ, ◌+◌, ◌<◌, List, length, map, reverse, inr, refl, sym, ap, subst, arith, ◌∙◌}
-use Rattle.std.specs.List.Sorted.{IsStrictlySortedBy}
+use Rattle.std.proofs.Common.{◌≡◌, List, map, inr, refl, sym, ap, subst, arith}
 use Rattle.std.proofs.lemmas.List.{length-map}
 use Rattle.ic_name.specs.Events.{Event}
-use Rattle.ic_name.specs.declared.limits.TheConstants.{MAX_LINES}
 use Rattle.ic_path.specs.Orders.{IsIn}
 use Rattle.ic_path.proofs.Alikes.{alike_back, alike-in}
 use Rattle.ic_shown.proofs.Elements.{in-map, map_cases}
-use Rattle.ic_theory.specs.Causes.{IsCause, canonical_cmp}
+use Rattle.ic_theory.specs.Causes.{IsCause}
 use Rattle.ic_theory.specs.Machine.{State, events}
 use Rattle.ic_theory.proofs.Machines.{history_length}
 use Rattle.ic_theory.proofs.Ranks.{cause_included, same_set}
 use Rattle.ic_roster.specs.Rosters.{Stander}
 use Rattle.ic_set.specs.Views.{standing}
-use Rattle.ic_set.specs.Views as set
 use Rattle.ic_set.specs.Orders.{IsAny}
 use Rattle.ic_set.proofs.Namings.{same_stander}
 use Rattle.ic_journal.specs.Views.{BenchView, set_of}

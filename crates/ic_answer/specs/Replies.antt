@@ -63,7 +63,7 @@ pub data Replies (s : Start) (st : State) : Command → List ℕ → State → T
       → Replies s st (Why p) (why_text p r cs) st
   why_not_standing : {p : Pair} → NoneIsNamed st p → Replies s st (Why p) (refusal_text refused.NotStanding) st
   fire_unknown : {p : Pair} → NoneIsPresent s st p → Replies s st (Fire p) (refusal_text refused.NotActive) st
-  fire_history_full : {p : Pair} → st.lines ≡ MAX_LINES → Replies s st (Fire p) (refusal_text refused.HistoryFull) st
+  fire_history_full : {p : Pair} {e : Event} → IsPresent s st p e → st.lines ≡ MAX_LINES → Replies s st (Fire p) (refusal_text refused.HistoryFull) st
   fired : {p : Pair} {e : Event} {next : State} → IsPresent s st p e → st.lines < MAX_LINES → Answers s st (call.Fire e) reply.Fired next
       → Replies s st (Fire p) (pair_line (codes "fired ") p) next
   fire_not_active : {p : Pair} {e : Event} {next : State} → IsPresent s st p e → st.lines < MAX_LINES → Answers s st (call.Fire e) reply.NotActive next

@@ -8,7 +8,7 @@ use Rattle.ic_path.specs.Orders.{IsIn}
 use Rattle.ic_path.specs.Rings.{HasEachOnce}
 use Rattle.ic_theory.specs.Starts.{Start}
 use Rattle.ic_theory.specs.Causes.{IsCause}
-use Rattle.ic_theory.specs.Machine.{Standing, State, events, Answers}
+use Rattle.ic_theory.specs.Machine.{Standing, State, Answers}
 use Rattle.ic_answer.specs.Standing.{AreCanonical}
 
 -- an event rests on another one: it is that one, or a direct cause of it rests on that one

@@ -10,7 +10,7 @@ use crate::refused::Refused;
 use crate::unwinding::{undo_everything, undo_with_dependents};
 use crate::why::why;
 use ic_command::command::Command;
-use ic_journal::{Bench, Store};
+use ic_journal::{Bench, LinkStore};
 use std::alloc::{AllocError, Global};
 
 /// What is written in answer to a command.
@@ -37,9 +37,9 @@ impl Answer {
 /// Carries out a command over a bench. Where there is no memory for it, the answer is a refusal, and then neither net nor
 /// standing set have changed, but for what a `reduce` says that it has fired. An error where there is no memory for the
 /// answer to a command that has changed them; the start stays the same then, too.
-pub fn carry_out(
+pub fn carry_out<L: LinkStore>(
     alloc: Global,
-    bench: &mut Bench<Store>,
+    bench: &mut Bench<L>,
     command: Command,
 ) -> Result<Answer, AllocError>
     ensures { MatchResult result (λ answer. Turns bench.old command (answer_text answer) bench.new) (λ _. bench.new.start ≡ bench.old.start) }

@@ -10,12 +10,12 @@ ghost use Rattle.ic_answer.specs.Turns.{Turns};
 use crate::answer::Answer;
 use crate::named::{event_line, name_line};
 use crate::refused::Refused;
-use ic_journal::{Bench, FireFault, Store, UndoFault};
+use ic_journal::{Bench, FireFault, LinkStore, UndoFault};
 use ic_name::{EventId, EventName};
 use std::alloc::Global;
 
 /// Fires an event. Its answer is made before it is fired.
-pub(crate) fn fire(alloc: Global, bench: &mut Bench<Store>, event: &EventName) -> Answer
+pub(crate) fn fire<L: LinkStore>(alloc: Global, bench: &mut Bench<L>, event: &EventName) -> Answer
     ensures { Turns bench.old (Fire event.now) (answer_text result) bench.new }
 {
     bench.lawful();
@@ -45,7 +45,7 @@ pub(crate) fn fire(alloc: Global, bench: &mut Bench<Store>, event: &EventName) -
 }
 
 /// Undoes the firing of an event. Its answer is made before.
-pub(crate) fn undo(alloc: Global, bench: &mut Bench<Store>, event: &EventName) -> Answer
+pub(crate) fn undo<L: LinkStore>(alloc: Global, bench: &mut Bench<L>, event: &EventName) -> Answer
     ensures { Turns bench.old (Undo event.now) (answer_text result) bench.new }
 {
     let Some(id) = bench.event(event) else {
@@ -66,7 +66,7 @@ pub(crate) fn undo(alloc: Global, bench: &mut Bench<Store>, event: &EventName) -
 }
 
 /// That this event depends on another one.
-fn held(alloc: Global, bench: &Bench<Store>, holder: EventId) -> Answer
+fn held<L: LinkStore>(alloc: Global, bench: &Bench<L>, holder: EventId) -> Answer
     ensures { (x : Stander) → IsIn x bench.now.events → x.id ≡ holder → (answer_text result ≡ pair_line (codes "refused 32 held by ") (pair x.event)) ⊎ (answer_text result ≡ refusal_text Memory) }
 {
     bench.lawful();

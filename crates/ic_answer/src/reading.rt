@@ -8,12 +8,12 @@ ghost use Rattle.ic_answer.specs.Turns.{Tells};
 
 use crate::named::push_pair;
 use ic_cause::journal_text;
-use ic_journal::{ActivePair, Bench, Store};
+use ic_journal::{ActivePair, Bench, LinkStore};
 use ic_print::print_net;
 use std::alloc::{AllocError, Global};
 
 /// The printed net.
-pub(crate) fn net(alloc: Global, bench: &Bench<Store>) -> Result<Vec<u8>, AllocError>
+pub(crate) fn net<L: LinkStore>(alloc: Global, bench: &Bench<L>) -> Result<Vec<u8>, AllocError>
     ensures { IfOk result (λ text. Tells bench.now Net text.items) }
 {
     bench.lawful();
@@ -23,7 +23,7 @@ pub(crate) fn net(alloc: Global, bench: &Bench<Store>) -> Result<Vec<u8>, AllocE
 }
 
 /// How many active pairs there are, and their names, in order of leads.
-pub(crate) fn active(alloc: Global, bench: &Bench<Store>) -> Result<Vec<u8>, AllocError>
+pub(crate) fn active<L: LinkStore>(alloc: Global, bench: &Bench<L>) -> Result<Vec<u8>, AllocError>
     ensures { IfOk result (λ text. Tells bench.now Active text.items) }
 {
     bench.lawful();
@@ -36,8 +36,8 @@ pub(crate) fn active(alloc: Global, bench: &Bench<Store>) -> Result<Vec<u8>, All
 }
 
 /// Puts a line with the names of an active pair at the end.
-fn push_active(
-    bench: &Bench<Store>,
+fn push_active<L: LinkStore>(
+    bench: &Bench<L>,
     text: &mut Vec<u8>,
     pair: &ActivePair,
 ) -> Result<(), AllocError>
@@ -56,7 +56,7 @@ fn push_active(
 }
 
 /// The standing events with their ranks, in canonical order.
-pub(crate) fn journal(alloc: Global, bench: &Bench<Store>) -> Result<Vec<u8>, AllocError>
+pub(crate) fn journal<L: LinkStore>(alloc: Global, bench: &Bench<L>) -> Result<Vec<u8>, AllocError>
     ensures { IfOk result (λ text. Tells bench.now Journal text.items) }
 {
     let events = bench.ranked()?;

@@ -5,7 +5,7 @@ ghost use Rattle.ic_answer.specs.Turns.{Turns};
 ghost use Rattle.ic_answer.specs.Reduced.{FiresNext, Reduces, end_text};
 
 use crate::answer::Answer;
-use ic_journal::{Bench, FireFault, Store};
+use ic_journal::{Bench, FireFault, LinkStore};
 use std::alloc::{AllocError, Global};
 
 /// Why no more events are fired.
@@ -23,9 +23,9 @@ pub(crate) enum End {
 
 /// Fires the active pair with the least lead again and again, at most so often. An error where there is no memory to
 /// tell how many were fired.
-pub(crate) fn reduce(
+pub(crate) fn reduce<L: LinkStore>(
     alloc: Global,
-    bench: &mut Bench<Store>,
+    bench: &mut Bench<L>,
     most: u32,
 ) -> Result<Answer, AllocError>
     ensures { MatchResult result (λ answer. Turns bench.old (Reduce most) (answer_text answer) bench.new) (λ _. bench.new.start ≡ bench.old.start) }
@@ -48,7 +48,7 @@ fn end_text(alloc: Global, fired: u32, end: End) -> Result<Vec<u8>, AllocError>
 
 /// Fires the active pair with the least lead again and again, at most so often; answers how many were fired, and why no
 /// more.
-fn fire_least(bench: &mut Bench<Store>, most: u32) -> (u32, End)
+fn fire_least<L: LinkStore>(bench: &mut Bench<L>, most: u32) -> (u32, End)
     ensures { Reduces bench.old most result.0 result.1 bench.new }
 {
     for fired in 0..most {
@@ -63,7 +63,7 @@ fn fire_least(bench: &mut Bench<Store>, most: u32) -> (u32, End)
 }
 
 /// Fires the active pair with the least lead; answers why it isn't fired, if it isn't.
-fn fire_next(bench: &mut Bench<Store>) -> Option<End>
+fn fire_next<L: LinkStore>(bench: &mut Bench<L>) -> Option<End>
     ensures { FiresNext bench.old result bench.new }
 {
     bench.lawful();

@@ -8,15 +8,15 @@ ghost use Rattle.ic_answer.specs.Turns.{Turns};
 use crate::answer::Answer;
 use crate::named::push_name;
 use crate::refused::Refused;
-use ic_journal::{Bench, Store};
+use ic_journal::{Bench, LinkStore};
 use ic_name::EventName;
 use ic_undo::{UndoAllFault, UnwindFault, undo_all, unwind};
 use std::alloc::{AllocError, Global};
 
 /// Undoes an event with all that rests on it. An error where there is no memory to tell what was undone.
-pub(crate) fn undo_with_dependents(
+pub(crate) fn undo_with_dependents<L: LinkStore>(
     alloc: Global,
-    bench: &mut Bench<Store>,
+    bench: &mut Bench<L>,
     event: &EventName,
 ) -> Result<Answer, AllocError>
     ensures { MatchResult result (λ answer. Turns bench.old (Unwind event.now) (answer_text answer) bench.new) (λ _. bench.new.start ≡ bench.old.start) }
@@ -36,7 +36,10 @@ pub(crate) fn undo_with_dependents(
 }
 
 /// Undoes all events. An error where there is no memory to tell how many.
-pub(crate) fn undo_everything(alloc: Global, bench: &mut Bench<Store>) -> Result<Answer, AllocError>
+pub(crate) fn undo_everything<L: LinkStore>(
+    alloc: Global,
+    bench: &mut Bench<L>,
+) -> Result<Answer, AllocError>
     ensures { MatchResult result (λ answer. Turns bench.old UndoAll (answer_text answer) bench.new) (λ _. bench.new.start ≡ bench.old.start) }
 {
     bench.lawful();

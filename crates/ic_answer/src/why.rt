@@ -10,14 +10,14 @@ ghost use Rattle.ic_answer.specs.Turns.{Tells};
 use crate::answer::Answer;
 use crate::named::{push_event, push_name};
 use crate::refused::Refused;
-use ic_journal::{Bench, Store};
+use ic_journal::{Bench, LinkStore};
 use ic_name::{EventId, EventName};
 use std::alloc::{AllocError, Global};
 
 /// The rank and the direct causes of a standing event.
-pub(crate) fn why(
+pub(crate) fn why<L: LinkStore>(
     alloc: Global,
-    bench: &Bench<Store>,
+    bench: &Bench<L>,
     event: &EventName,
 ) -> Result<Answer, AllocError>
     ensures { IfOk result (λ answer. Tells bench.now (Why event.now) (answer_text answer)) }
@@ -41,8 +41,8 @@ pub(crate) fn why(
 }
 
 /// Puts a line with the names of each of these events at the end.
-fn push_events(
-    bench: &Bench<Store>,
+fn push_events<L: LinkStore>(
+    bench: &Bench<L>,
     text: &mut Vec<u8>,
     events: &[EventId],
 ) -> Result<(), AllocError>
@@ -55,7 +55,11 @@ fn push_events(
 }
 
 /// Puts a line with the names of the event under an id at the end.
-fn push_under(bench: &Bench<Store>, text: &mut Vec<u8>, id: EventId) -> Result<(), AllocError>
+fn push_under<L: LinkStore>(
+    bench: &Bench<L>,
+    text: &mut Vec<u8>,
+    id: EventId,
+) -> Result<(), AllocError>
     ensures { OnOk result ((x : Stander) → IsIn x bench.now.events → x.id ≡ id → text.new.items ≡ text.old.items ++ event_line x.event) }
 {
     bench.lawful();

@@ -8,7 +8,7 @@ use crate::marking::mark_under;
 use crate::named_mark::NamedMark;
 use ic_answer::{Answer, carry_out};
 use ic_command::{Command, Request};
-use ic_journal::{Bench, Store};
+use ic_journal::{Bench, LinkStore};
 use ic_start::Start;
 use std::alloc::{AllocError, Global};
 use std::marker::Model;
@@ -16,14 +16,14 @@ use std::marker::Model;
 /// The marks of a desk, at most.
 pub const MAX_MARKS: usize = 256;
 
-/// A bench, and marks of what stood on it, to which it can go back.
+/// A bench, and marks of what stood on it, to which it can go back, over a store of links.
 #[derive(Drop)]
-pub struct Desk {
-    bench: Bench<Store>,
+pub struct Desk<L: LinkStore> {
+    bench: Bench<L>,
     marks: Vec<NamedMark>,
 }
 
-impl Model for Desk {
+impl<L: LinkStore> Model for Desk<L> {
     ghost use Rattle.ic_desk.specs.Views.{DeskView, IsDesk};
 
     ghost Value = { DeskView };
@@ -33,10 +33,10 @@ impl Model for Desk {
     ghost invariant = { λ d. IsDesk (record { bench = d.bench; marks = d.marks.items }) };
 }
 
-impl Desk {
+impl<L: LinkStore> Desk<L> {
     /// A desk with a bench over the start, on which nothing is marked. An error where memory is wanting, and then the start
     /// is gone.
-    pub fn over(alloc: Global, start: Start) -> Result<Desk, AllocError>
+    pub fn over(alloc: Global, start: Start) -> Result<Desk<L>, AllocError>
         ensures { IfOk result (λ desk. IsOver start desk) }
     {
         let bench = Bench::over(alloc, start)?;
@@ -66,9 +66,9 @@ impl Desk {
 }
 
 /// Carries out a command of the bench; the marks stay.
-fn carry_out_command(
+fn carry_out_command<L: LinkStore>(
     alloc: Global,
-    bench: &mut Bench<Store>,
+    bench: &mut Bench<L>,
     marks: &[NamedMark],
     command: Command,
 ) -> Result<Answer, AllocError>

@@ -7,14 +7,14 @@ use crate::named_mark::{NamedMark, place_of};
 use crate::texts::{back_text, wanting_text};
 use ic_answer::{Answer, Refused};
 use ic_command::MarkName;
-use ic_journal::{Bench, Store};
+use ic_journal::{Bench, LinkStore};
 use ic_undo::{BackFault, back};
 use std::alloc::{AllocError, Global};
 
 /// Goes back to the mark of this name. An error where there is no memory for the answer.
-pub(crate) fn go_back(
+pub(crate) fn go_back<L: LinkStore>(
     alloc: Global,
-    bench: &mut Bench<Store>,
+    bench: &mut Bench<L>,
     marks: &[NamedMark],
     name: &MarkName,
 ) -> Result<Answer, AllocError>

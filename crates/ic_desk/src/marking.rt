@@ -9,15 +9,15 @@ use crate::named_mark::{NamedMark, place_of};
 use crate::texts::marked_text;
 use ic_answer::{Answer, Refused};
 use ic_command::MarkName;
-use ic_journal::{Bench, Store};
+use ic_journal::{Bench, LinkStore};
 use ic_undo::mark;
 use std::alloc::{AllocError, Global};
 
 /// Marks what stands on the bench under the name, in place of the mark that has it or as a further one. Where memory is
 /// wanting, the answer is a refusal, and no mark has changed.
-pub(crate) fn mark_under(
+pub(crate) fn mark_under<L: LinkStore>(
     alloc: Global,
-    bench: &Bench<Store>,
+    bench: &Bench<L>,
     marks: &mut Vec<NamedMark>,
     name: MarkName,
 ) -> Answer
@@ -32,9 +32,9 @@ pub(crate) fn mark_under(
 }
 
 /// The same, but for an error where memory is wanting. The mark and the answer's text are made before a mark changes.
-fn marked(
+fn marked<L: LinkStore>(
     alloc: Global,
-    bench: &Bench<Store>,
+    bench: &Bench<L>,
     marks: &mut Vec<NamedMark>,
     name: MarkName,
 ) -> Result<Answer, AllocError>

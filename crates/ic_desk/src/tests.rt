@@ -1,16 +1,22 @@
 use crate::desk::Desk;
 use ic_command::request_of;
+use ic_journal::Store;
 use ic_text::read_net;
 use std::test::Fail;
 
 /// A desk over the net `G(x,a) = D(x,b);`.
-fn desk(rt: &HostRuntime) -> Result<Desk, Fail> {
+fn desk(rt: &HostRuntime) -> Result<Desk<Store>, Fail> {
     let start = read_net(rt.alloc(), b"G(x,a) = D(x,b);\n")?;
     Ok(Desk::over(rt.alloc(), start)?)
 }
 
 /// Whether the desk answers the line so.
-fn answers(rt: &HostRuntime, desk: &mut Desk, line: &[u8], text: &[u8]) -> Result<bool, Fail> {
+fn answers(
+    rt: &HostRuntime,
+    desk: &mut Desk<Store>,
+    line: &[u8],
+    text: &[u8],
+) -> Result<bool, Fail> {
     let request = request_of(rt.alloc(), line)?;
     let answer = desk.carry_out(rt.alloc(), request)?;
     Ok(answer.bytes() == text)
@@ -20,7 +26,7 @@ fn answers(rt: &HostRuntime, desk: &mut Desk, line: &[u8], text: &[u8]) -> Resul
 const UNWOUND: &[u8] = b"unwound 3\n0.0.0.0 0.0.0.2\n0.0.0 0.0.2\n0.0 0.2\n";
 
 /// Whether a desk goes back over what was undone and over what was fired.
-fn goes_back(rt: &HostRuntime, desk: &mut Desk) -> Result<bool, Fail> {
+fn goes_back(rt: &HostRuntime, desk: &mut Desk<Store>) -> Result<bool, Fail> {
     Ok(
         answers(rt, desk, b"fire 0 1", b"fired 0 1\n")?
             && answers(rt, desk, b"fire 0.0 0.2", b"fired 0.0 0.2\n")?
@@ -42,7 +48,7 @@ fn a_desk_goes_back_to_its_marks(rt: HostRuntime) -> Result<(), Fail> {
 }
 
 /// Whether a mark of the same name takes the place of the one before.
-fn replaces(rt: &HostRuntime, desk: &mut Desk) -> Result<bool, Fail> {
+fn replaces(rt: &HostRuntime, desk: &mut Desk<Store>) -> Result<bool, Fail> {
     Ok(
         answers(rt, desk, b"mark m", b"marked m 0\n")?
             && answers(rt, desk, b"fire 0 1", b"fired 0 1\n")?
@@ -60,7 +66,7 @@ fn a_mark_is_replaced(rt: HostRuntime) -> Result<(), Fail> {
 }
 
 /// Whether as many marks are made as there may be, `m0`, `m1` and so on.
-fn marks_all(rt: &HostRuntime, desk: &mut Desk) -> Result<bool, Fail> {
+fn marks_all(rt: &HostRuntime, desk: &mut Desk<Store>) -> Result<bool, Fail> {
     for number in 0..256 {
         let line = format!(in rt.alloc(); "mark m{}", number)?;
         let text = format!(in rt.alloc(); "marked m{} 0\n", number)?;
@@ -72,7 +78,7 @@ fn marks_all(rt: &HostRuntime, desk: &mut Desk) -> Result<bool, Fail> {
 }
 
 /// Whether a further name is refused then, and one of a mark isn't.
-fn refuses_more(rt: &HostRuntime, desk: &mut Desk) -> Result<bool, Fail> {
+fn refuses_more(rt: &HostRuntime, desk: &mut Desk<Store>) -> Result<bool, Fail> {
     Ok(
         marks_all(rt, desk)?
             && answers(rt, desk, b"mark m256", b"refused 42 too many marks\n")?

@@ -1,4 +1,4 @@
-ghost use Rattle.std.specs.Prelude.{◌≡◌, ◌+◌, ◌<◌, ◌≤◌, ◌++◌, ◌∷◌, [], length, IfOk, OnOk, OnErr};
+ghost use Rattle.std.specs.Prelude.{◌≡◌, ◌+◌, ◌<◌, ◌≤◌, ◌++◌, ◌∷◌, ◌↔◌, [], length, slice_get, IsTrue, Some, IfOk, OnOk, OnErr};
 ghost use Rattle.ic_name.specs.declared.limits.TheConstants.{MAX_LINES};
 
 use ic_name::limits::MAX_LINES;
@@ -48,6 +48,16 @@ impl History {
         ensures few { result ≤ MAX_LINES }
     {
         self.lines.len()
+    }
+
+    /// Whether there is a line with this number, and it is this call with this reply.
+    pub fn line_is(&self, number: usize, call: &Call, reply: Reply) -> bool
+        ensures { IsTrue result ↔ (slice_get self.now.lines number ≡ Some (record { call = call.now; reply = reply })) }
+    {
+        match self.lines.get(number) {
+            Some(line) => line.call.is(call) && line.reply == reply,
+            None => false,
+        }
     }
 
     /// The lines for which there is room.

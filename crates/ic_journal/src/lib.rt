@@ -6,14 +6,16 @@ pub mod bench;
 pub mod faults;
 mod history;
 pub mod laws;
+pub mod lines;
 pub mod proposal;
 pub mod reading;
 mod verdict;
 
 pub use bench::Bench;
 pub use faults::{FireFault, ProposeFault, ReserveFault, UndoFault};
-pub use ic_link::{LinkRows as Store, LinkStore};
+pub use ic_link::LinkStore;
 pub use ic_set::ActivePair;
+pub use ic_table::PortTable as Store;
 pub use proposal::Proposal;
 
 #[cfg(test)]

@@ -1,5 +1,5 @@
 use crate::{Bench, FireFault, Proposal, ReserveFault, Store, UndoFault};
-use ic_name::{AgentId, AgentName, EventId};
+use ic_name::{AgentId, AgentName, Call, EventId, Reply};
 use ic_text::read_net;
 use std::test::Fail;
 
@@ -116,5 +116,35 @@ fn older_is_undone(rt: &HostRuntime, bench: &mut Bench<Store>) -> Result<bool, F
 fn with_room_an_older_event_is_undone(rt: HostRuntime) -> Result<(), Fail> {
     let mut bench = bench_over(&rt, b"D(x,p) = D(y,q); D(x,r) = D(y,s);")?;
     assert!(rt; older_is_undone(&rt, &mut bench)?);
+    Ok(())
+}
+
+/// Fires an event and undoes it, and answers whether the undo stands in the line after its firing, and nowhere else.
+fn undo_is_the_last_line(rt: &HostRuntime, bench: &mut Bench<Store>) -> Result<bool, Fail> {
+    let id = fired(rt, bench, b"0", b"1")?;
+    bench.undo(id)?;
+    let undo = Call::Undo(id.line);
+    let first = bench.line_is(0, &undo, Reply::Undone);
+    let last = bench.line_is(1, &undo, Reply::Undone);
+    let past = bench.line_is(2, &undo, Reply::Undone);
+    Ok(last && !first && !past)
+}
+
+/// Fires an event, and answers whether its firing is the line of its id, with the reply that it was fired alone.
+fn firing_is_its_line(rt: &HostRuntime, bench: &mut Bench<Store>) -> Result<bool, Fail> {
+    let event = proposal(rt, bench, b"0", b"1")?;
+    let call = Call::Fire(event.event().copy()?);
+    let id = fire(bench, event)?;
+    let fired = bench.line_is(id.line, &call, Reply::Fired);
+    let refused = bench.line_is(id.line, &call, Reply::NotActive);
+    Ok(fired && !refused)
+}
+
+#[test]
+fn a_line_is_found_by_its_number(rt: HostRuntime) -> Result<(), Fail> {
+    let mut bench = bench_over(&rt, b"G(x,a) = D(x,b);")?;
+    assert!(rt; undo_is_the_last_line(&rt, &mut bench)?);
+    assert!(rt; firing_is_its_line(&rt, &mut bench)?);
+    assert_eq!(rt; bench.lines(), 3);
     Ok(())
 }

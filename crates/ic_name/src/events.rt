@@ -1,4 +1,4 @@
-ghost use Rattle.std.specs.Prelude.{◌≡◌, ◌≢◌, ◌↔◌, IsSome, IfSome, IfOk};
+ghost use Rattle.std.specs.Prelude.{◌≡◌, ◌≢◌, ◌↔◌, IsTrue, IsSome, IfSome, IfOk};
 ghost use Rattle.std.specs.declared.cmp.Ordering.TheVariants.{Less};
 ghost use Rattle.ic_name.specs.Names.{name_cmp};
 ghost use Rattle.ic_name.specs.Events.{event_of};
@@ -61,6 +61,16 @@ impl Event {
         ensures { name_cmp self.now.lead self.now.other ≡ Less }
     {
         let _ = &self.lead;
+    }
+
+    /// Whether the two events are one. It takes no memory.
+    pub fn is(&self, other: &Event) -> bool
+        ensures { IsTrue result ↔ (self.now ≡ other.now) }
+    {
+        self.lead.is(&other.lead)
+            && self.lead_kind == other.lead_kind
+            && self.other.is(&other.other)
+            && self.other_kind == other.other_kind
     }
 
     /// The lesser of the two agents.

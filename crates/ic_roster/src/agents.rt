@@ -1,7 +1,5 @@
 ghost use Rattle.std.specs.Prelude.{◌≡◌, ◌≢◌, ◌∷◌, [], None, length, IfSome, IfNone, IfOk, OnErr};
-ghost use Rattle.std.specs.Map.Iter.{ShowsInOrder, deref};
 ghost use Rattle.ic_path.specs.Orders.{Alike, IsIn};
-ghost use Rattle.ic_name.specs.declared.ids.AgentId.{AgentId as AnAgentId};
 ghost use Rattle.ic_name.specs.declared.kinds.Kind.{Kind as AKind};
 ghost use Rattle.ic_roster.specs.Rosters.{Member, HaveOwnNames, IsNewName, AreByName};
 ghost use Rattle.ic_roster.specs.AgentSlots.{Sets};
@@ -10,7 +8,6 @@ use ic_name::{AgentId, AgentName, Kind};
 use slab::Slab;
 use std::alloc::{AllocError, Global};
 use std::collections::BTreeMap;
-use std::collections::btree_map::Values;
 use std::marker::Model;
 
 /// The agents of a bench, each under its id, and found by name.
@@ -104,14 +101,6 @@ impl Agents {
             ids.push(*id)?;
         }
         Ok(ids)
-    }
-
-    /// The ids of all agents, in order of their names, to be gone through. It takes no memory.
-    pub fn by_name(&self) -> Values<'_, AgentName, AgentId>
-        ensures in_order { AreByName self.now result }
-        ensures runs { ShowsInOrder (deref {X = AnAgentId}) }
-    {
-        self.ids.values()
     }
 
     /// One agent more, under an id with this serial number. At an error nothing changes.

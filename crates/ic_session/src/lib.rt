@@ -6,7 +6,7 @@ pub mod net_input;
 pub mod refusal;
 pub mod session;
 
-pub use session::{Status, run_session};
+pub use session::{Status, run_session, run_session_over};
 
 #[cfg(test)]
 mod bench_tests;
@@ -20,5 +20,7 @@ mod order_tests;
 mod runs;
 #[cfg(test)]
 mod step_tests;
+#[cfg(test)]
+mod store_tests;
 #[cfg(test)]
 mod tests;

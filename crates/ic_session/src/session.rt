@@ -16,6 +16,7 @@ use crate::refusal::refusal_line;
 use ic_command::{Command, MAX_COMMAND, Request, request_of};
 use ic_desk::Desk;
 use ic_grammar::Refusal;
+use ic_journal::{LinkStore, Store};
 use ic_lines::{Input, IoFault, Piece, write_reply};
 use ic_text::{TextFault, read_net};
 use std::alloc::Global;
@@ -47,6 +48,22 @@ pub fn run_session<R: Read, W: Write>(
     ensures written { IfOk result (λ status. IfSome (R.remaining reader.old) (λ input. Writes budget input status (W.contents writer.old) (W.contents writer.new))) }
     ensures begun { OnErr result (IfSome (R.remaining reader.old) (λ input. (text : List ℕ) × IsBegun budget input text × Appends (W.contents writer.old) (W.contents writer.new) text)) }
 {
+    run_session_over::<Store, R, W>(alloc, reader, writer, budget)
+}
+
+/// Runs a session over a store of links, as `run_session` does over the fast one: what is written is the same.
+///
+/// `IoFault::Read` where the reader fails or `MAX_READS` calls were made, `IoFault::Write` where the writer fails, and
+/// `IoFault::Memory` where there is no memory. What was written by then is a front of what a session may write.
+pub fn run_session_over<L: LinkStore, R: Read, W: Write>(
+    alloc: Global,
+    reader: &mut R,
+    writer: &mut W,
+    budget: u32,
+) -> Result<Status, IoFault>
+    ensures written { IfOk result (λ status. IfSome (R.remaining reader.old) (λ input. Writes budget input status (W.contents writer.old) (W.contents writer.new))) }
+    ensures begun { OnErr result (IfSome (R.remaining reader.old) (λ input. (text : List ℕ) × IsBegun budget input text × Appends (W.contents writer.old) (W.contents writer.new) text)) }
+{
     let mut input = Input::new(alloc, MAX_READS)?;
     let text = match read_net_text(alloc, &mut input, reader)? {
         NetInput::TooLong => return refuse(alloc, Refusal::TooLong, writer),
@@ -57,7 +74,7 @@ pub fn run_session<R: Read, W: Write>(
         Err(TextFault::Memory) => return Err(IoFault::Memory),
         Err(TextFault::Refused(refusal)) => return refuse(alloc, refusal, writer),
     };
-    let mut desk = Desk::over(alloc, start)?;
+    let mut desk: Desk<L> = Desk::over(alloc, start)?;
     answer_all(alloc, &mut desk, &mut input, reader, writer, budget)?;
     Ok(Status::Ended)
 }
@@ -74,9 +91,9 @@ fn refuse<W: Write>(alloc: Global, refusal: Refusal, writer: &mut W) -> Result<S
 }
 
 /// Answers the lines that are left.
-fn answer_all<R: Read, W: Write>(
+fn answer_all<L: LinkStore, R: Read, W: Write>(
     alloc: Global,
-    desk: &mut Desk,
+    desk: &mut Desk<L>,
     input: &mut Input,
     reader: &mut R,
     writer: &mut W,

@@ -7,7 +7,7 @@ use Rattle.ic_answer.proofs.UndoingReplies.{one_line}
 use Rattle.ic_answer.proofs.changing.held.Goals as goal
 
 pub returns-in-Ok : goal.returns-in-Ok
-returns-in-Ok c = λ x i under.
+returns-in-Ok g c = λ x i under.
     let found = rw c.in-Ok-Some.field-0-is at c.in-Ok-Some.ensures in
     let same : found.0 ≡ x = one_line c.args.bench.now.events found.0 x c.lawful.ensures.set.own_lines found.1.0 i (found.1.1 ∙ ap (λ (d : EventId). d.line) (sym under)) in
     let event : c.in-Ok-Some.event ≡ x.event = sym found.2 ∙ ap (λ (y : Stander). y.event) same in

@@ -12,7 +12,7 @@ use Rattle.ic_answer.proofs.StandingPairs.{told_active}
 use Rattle.ic_answer.proofs.reading.active.Goals as goal
 
 pub loop-pair-init : goal.loop-pair-init
-loop-pair-init c =
+loop-pair-init g c =
     let v = c.args.bench.now in
     let ys = c.deref-pair-items.result.now in
     let head = codes "active " ++ decimal (length ys) ++ codes "\n" in
@@ -21,11 +21,11 @@ loop-pair-init c =
     (no_lines (λ (x : Event × ActivePair). x.1) (λ x. event_line x.0) (λ x. IsPairOf (set_of v) x.0 x.1) ys head)
 
 pub loop-pair-preserved : goal.loop-pair-preserved
-loop-pair-preserved c =
+loop-pair-preserved g c =
     let v = c.args.bench.now in
     let ys = c.deref-pair-items.result.now in
     more_lines (λ (x : Event × ActivePair). x.1) (λ x. event_line x.0) (λ x. IsPairOf (set_of v) x.0 x.1) ys (codes "active " ++ decimal (length ys) ++ codes "\n") c.loop-pair.text.items c.push_active.new.text.items c.loop-pair.pair-index _ c.loop-pair-test.true c.loop-pair.invariant
     (λ x p e. c.in_ok-push_active.ensures x.0 (subst (λ (q : ActivePair). IsPairOf (set_of v) x.0 q) e p))
 
 pub returns : goal.returns
-returns c = told_active c.args.bench.now c.lawful.ensures c.in_ok-pairs.pairs.items c.deref-pair-items.result.now c.deref-pair-items.ensures.value c.in_ok-pairs.ensures c.loop-pair.text.items c.loop-pair.pair-index c.loop-pair-test.false c.loop-pair.invariant
+returns g c = told_active c.args.bench.now c.lawful.ensures c.in_ok-pairs.pairs.items c.deref-pair-items.result.now c.deref-pair-items.ensures.value c.in_ok-pairs.ensures c.loop-pair.text.items c.loop-pair.pair-index c.loop-pair-test.false c.loop-pair.invariant

@@ -2,5 +2,5 @@ use Rattle.ic_answer.proofs.FiredInTurn.{reduces}
 use Rattle.ic_answer.proofs.reducing.reduce.Goals as goal
 
 pub returns : goal.returns
-returns c =
+returns g c =
     reduces c.args.bench.now c.fire_least-fired.new.bench c.args.most c.fire_least-fired.result.0 c.fire_least-fired.result.1 c.in_ok-end_text.field-0.items c.in_ok-end_text.ensures c.fire_least-fired.ensures

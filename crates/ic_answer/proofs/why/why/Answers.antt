@@ -13,18 +13,18 @@ use Rattle.ic_set.proofs.CauseRanks.{all_places}
 use Rattle.ic_answer.proofs.why.why.Goals as goal
 
 pub returns-in_default : goal.returns-in_default
-returns-in_default c = tells_none c.args.bench.now c.args.event.now c.in_default.ensures.absent
+returns-in_default g c = tells_none c.args.bench.now c.args.event.now c.in_default.ensures.absent
 
 pub returns-in_default-rank : goal.returns-in_default-rank
-returns-in_default-rank c = let x = c.in-Some.ensures.found in absurd (c.in_default-rank.ensures x.0 x.1 (ap (λ (d : EventId). d.line) x.2))
+returns-in_default-rank g c = let x = c.in-Some.ensures.found in absurd (c.in_default-rank.ensures x.0 x.1 (ap (λ (d : EventId). d.line) x.2))
 
 pub returns-in_default-2 : goal.returns-in_default-2
-returns-in_default-2 c =
+returns-in_default-2 g c =
     let x = c.in-Some.ensures.found in
     absurd (causes_there c.args.bench.now c.lawful.ensures c.in-Some.id x.0 x.1 x.2 c.in_ok-causes.field-0 c.in_ok-causes.ensures c.in_default-2.is)
 
 pub returns : goal.returns
-returns c =
+returns g c =
     let v = c.args.bench.now in
     let x = c.in-Some.ensures.found in
     let ids = c.in-Some-2.causes in

@@ -11,7 +11,7 @@ use Rattle.ic_desk.proofs.marking.marked.Goals.{else-is_none-via-then-is_none+el
 use Rattle.ic_desk.proofs.marking.marked.Goals as goal
 
 pub returns-then-full-clause-turns : goal.returns-then-full-clause-turns
-returns-then-full-clause-turns c =
+returns-then-full-clause-turns g c =
     let none = has_none c.place_of-place.result c.is_none.result c.is_none.ensures c.if-is_none.true in
     let place = rw c.deref.ensures.value at c.place_of-place.ensures in
     let many = c.if-full.true in
@@ -22,13 +22,13 @@ returns-then-full-clause-turns c =
     (subst (λ p. IsPlace c.args.marks.now.items c.args.name p) none place) (omega (arith, many, one, two, three)) refl
 
 pub put-requires : goal.put-requires
-put-requires c = place_in c.args.marks.now.items c.args.name c.place_of-place.result (rw c.deref.ensures.value at c.place_of-place.ensures)
+put-requires g c = place_in c.args.marks.now.items c.args.name c.place_of-place.result (rw c.deref.ensures.value at c.place_of-place.ensures)
 
 pub returns-in_err-put-clause-desk : goal.returns-in_err-put-clause-desk
-returns-in_err-put-clause-desk c = λ x i. c.requires x (subst (λ (xs : List NamedView). IsIn x xs) c.in_err-put.ensures.same i)
+returns-in_err-put-clause-desk g c = λ x i. c.requires x (subst (λ (xs : List NamedView). IsIn x xs) c.in_err-put.ensures.same i)
 
 pub returns-clause-turns : goal.returns-clause-turns
-returns-clause-turns c =
+returns-clause-turns g c =
     marks_turns c.args.bench.now c.args.marks.now.items c.args.name c.put.new.marks.items c.place_of-place.result c.in_ok-mark.mark c.in_ok-text.text.items
     (rw c.deref.ensures.value at c.place_of-place.ensures)
     (λ none. elim c.else-is_none.branch [
@@ -43,6 +43,6 @@ returns-clause-turns c =
     c.in_ok-put.ensures.puts c.in_ok-mark.ensures (c.in_ok-text.ensures ∙ ap (marked_text c.args.name) c.len.ensures)
 
 pub returns-clause-desk : goal.returns-clause-desk
-returns-clause-desk c =
+returns-clause-desk g c =
     put_all (λ (y : NamedView). y.mark.start ≡ c.args.bench.now.start) c.args.marks.now.items c.put.new.marks.items c.place_of-place.result (record { name = c.args.name; mark = c.in_ok-mark.mark })
     (place_in c.args.marks.now.items c.args.name c.place_of-place.result (rw c.deref.ensures.value at c.place_of-place.ensures)) c.in_ok-put.ensures.puts c.requires c.in_ok-mark.ensures.start

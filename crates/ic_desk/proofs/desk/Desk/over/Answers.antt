@@ -5,4 +5,4 @@ use Rattle.ic_desk.specs.Views.{NamedView}
 use Rattle.ic_desk.proofs.desk.Desk.over.Goals as goal
 
 pub invariant_of-result : goal.invariant_of-result
-invariant_of-result c = λ x i. absurd (none_in (subst (λ (xs : List NamedView). IsIn x xs) c.new.ensures.items i))
+invariant_of-result g c = λ x i. absurd (none_in (subst (λ (xs : List NamedView). IsIn x xs) c.new.ensures.items i))

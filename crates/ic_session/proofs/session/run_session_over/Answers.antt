@@ -7,7 +7,7 @@ use Rattle.ic_grammar.specs.declared.refusal.Refusal.{Refusal}
 use Rattle.ic_lines.specs.Left.{left}
 use Rattle.ic_session.proofs.SessionFacts.{fresh_read, wrote_too_long, wrote_fault, wrote_answers, begun_nothing, begun_too_long, begun_fault, begun_answers}
 use Rattle.ic_session.proofs.AnswerFacts.{opened_answers, opened_begun}
-use Rattle.ic_session.proofs.session.run_session.Goals as goal
+use Rattle.ic_session.proofs.session.run_session_over.Goals as goal
 
 pub returns-in-TooLong-clause-written : goal.returns-in-TooLong-clause-written
 returns-in-TooLong-clause-written g c =

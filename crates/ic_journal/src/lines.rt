@@ -1,0 +1,21 @@
+ghost use Rattle.std.specs.Prelude.{◌≡◌, ◌↔◌, IsTrue, Some, length, slice_get};
+
+use crate::bench::Bench;
+use ic_link::LinkStore;
+use ic_name::{Call, Reply};
+
+impl<L: LinkStore> Bench<L> {
+    /// The number of lines in the history. It takes no memory.
+    pub fn lines(&self) -> u32
+        ensures { result ≡ length self.now.lines }
+    {
+        self.history.len() as u32
+    }
+
+    /// Whether the history has a line with this number, and it is this call with this reply. It takes no memory.
+    pub fn line_is(&self, number: u32, call: &Call, reply: Reply) -> bool
+        ensures { IsTrue result ↔ (slice_get self.now.lines number ≡ Some (record { call = call.now; reply = reply })) }
+    {
+        self.history.line_is(number as usize, call, reply)
+    }
+}

@@ -1,0 +1,40 @@
+-- What settling has found, put together.
+use Rattle.std.proofs.Common.{◌≡◌, ℕ, ◌+◌, ◌-◌, ◌++◌, zero, suc, take, List, [], ◌∷◌, length, drop, refl, ap, ◌∙◌, subst, arith, length-append}
+use Rattle.ic_journal.specs.Views.{BenchView}
+use Rattle.ic_name.specs.declared.lines.Line.{Line}
+use Rattle.ic_shared.specs.declared.receipts.Receipt.{Receipt}
+use Rattle.ic_shared.specs.Openings.{OpeningView}
+use Rattle.ic_shared.specs.Settles.{Settles, WrongAt}
+use Rattle.ic_shared.specs.Agrees.{Agrees, IsFalseAt, other_receipts}
+
+pub agrees : (opening : OpeningView) (passes seen : List (List Receipt)) (bench : BenchView) (lines : List Line) (base number : ℕ)
+    → seen ≡ passes → length passes ≡ opening.passes → bench.start ≡ opening.start → lines ≡ opening.lines → base ≡ length lines
+    → bench.lines ≡ lines ++ drop (length lines) bench.lines → number ≡ length bench.lines
+    → Settles base (drop base bench.lines) seen → Agrees opening passes bench (number - base)
+agrees opening passes seen bench lines base number same count start is based parts all h =
+    let base_is : base ≡ length opening.lines = based ∙ ap length is in
+    let whole : length bench.lines ≡ length lines + length (drop (length lines) bench.lines) = ap length parts ∙ length-append lines (drop (length lines) bench.lines) in
+    let len : length lines ≡ length opening.lines = ap length is in record {
+      every_pass = count;
+      start = start;
+      opened = parts ∙ ap (λ (xs : List Line). xs ++ drop (length xs) bench.lines) is;
+      added = omega arith;
+      settled = subst (λ (z : ℕ × List (List Receipt)). Settles z.0 (drop z.0 bench.lines) z.1) (λ i. (base_is i, same i)) h;
+    }
+
+pub false_at : (opening : OpeningView) (passes seen : List (List Receipt)) (bench : BenchView) (lines : List Line) (base number : ℕ)
+    → seen ≡ passes → length passes ≡ opening.passes → lines ≡ opening.lines → base ≡ length lines
+    → WrongAt base bench.lines seen number → (length passes ≡ opening.passes) × IsFalseAt opening passes bench number
+false_at opening passes seen bench lines base number same count is based wrong =
+    let base_is : base ≡ length opening.lines = based ∙ ap length is in
+    (count, other_receipts (subst (λ (z : ℕ × List (List Receipt)). WrongAt z.0 bench.lines z.1 number) (λ i. (base_is i, same i)) wrong))
+
+-- a Vec whose slice came back as it was
+pub put_back : {A : Type 0} (now old : List A) (n : ℕ) → now ≡ old → length old ≡ n → take n (now ++ drop (length now) old) ≡ old
+put_back {A = A} now old n same len = ap (λ zs. take n (zs ++ drop (length zs) old)) same ∙ (let e : take n (old ++ drop (length old) old) ≡ old = first old n (drop (length old) old) len in e)
+  where
+    first : (xs : List A) (n : ℕ) (ys : List A) → length xs ≡ n → take n (xs ++ ys) ≡ xs
+    first [] zero ys e = refl
+    first [] (suc n) ys e = absurd (omega arith)
+    first (x ∷ xs) zero ys e = absurd (omega arith)
+    first (x ∷ xs) (suc n) ys e = ap (λ zs. x ∷ zs) (first xs n ys (omega arith))

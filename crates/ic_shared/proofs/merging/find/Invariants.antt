@@ -1,0 +1,6 @@
+use Rattle.std.proofs.Common.{ℕ, ◌<◌}
+use Rattle.ic_shared.specs.Settles.{IsNext}
+use Rattle.ic_shared.proofs.merging.find.Given as goal
+
+abbrev pub invariant-loop-p : goal.invariant-loop-p
+invariant-loop-p g l = (q : ℕ) → q < l.p → ¬ IsNext l.passes l.cursors q l.number

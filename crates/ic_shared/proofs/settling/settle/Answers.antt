@@ -1,0 +1,30 @@
+use Rattle.std.proofs.Common.{length, refl, sym, ap, ◌∙◌}
+use Rattle.ic_shared.proofs.Agreeing.{agrees, false_at, put_back}
+use Rattle.ic_shared.proofs.settling.settle.Goals as goal
+
+pub returns-in-Ok-clause-ok : goal.returns-in-Ok-clause-ok
+returns-in-Ok-clause-ok g c =
+    let v = c.opening.view_is in
+    let len = sym (ap length c.as_mut_slice.ensures.value) ∙ c.as_mut_slice.ensures.len in
+    let items = ap (λ o. o.lines) v in
+    agrees c.args.opening c.args.passes.items c.as_slice-2.result.now c.into_locked-bench.result.bench c.as_slice.result.now c.into_locked-bench.result.base c.lines-number.result
+    (c.as_slice-2.ensures.value ∙ put_back c.audit.new.passes c.args.passes.items c.args.passes.len (c.audit.ensures.passes ∙ c.as_mut_slice.ensures.value) len)
+    (len ∙ sym c.len.ensures ∙ c.if-len-count.false ∙ ap (λ o. o.passes) v)
+    (sym c.start-2.ensures ∙ c.if-not-same.ensures.0 refl ∙ ap (λ o. o.start) v)
+    (c.as_slice.ensures.value ∙ items)
+    (c.if-base-len.false ∙ c.len-2.ensures ∙ sym c.as_slice.ensures.len)
+    c.in-None.ensures.none
+    c.lines-number.ensures
+    c.in-Ok.ensures.ok
+
+pub returns-clause-err : goal.returns-clause-err
+returns-clause-err g c =
+    let v = c.opening.view_is in
+    let len = sym (ap length c.as_mut_slice.ensures.value) ∙ c.as_mut_slice.ensures.len in
+    let items = ap (λ o. o.lines) v in
+    false_at c.args.opening c.args.passes.items c.as_slice-2.result.now c.into_locked-bench.result.bench c.as_slice.result.now c.into_locked-bench.result.base c.in-Err.wrong
+    (c.as_slice-2.ensures.value ∙ put_back c.audit.new.passes c.args.passes.items c.args.passes.len (c.audit.ensures.passes ∙ c.as_mut_slice.ensures.value) len)
+    (len ∙ sym c.len.ensures ∙ c.if-len-count.false ∙ ap (λ o. o.passes) v)
+    (c.as_slice.ensures.value ∙ items)
+    (c.if-base-len.false ∙ c.len-2.ensures ∙ sym c.as_slice.ensures.len)
+    c.in-Err.ensures.err

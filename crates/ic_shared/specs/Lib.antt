@@ -1,0 +1,7 @@
+pub mod CallLines
+pub mod Receipts
+pub mod CallsForPass
+pub mod Openings
+pub mod Settles
+pub mod Agrees
+pub mod Faults

@@ -1,0 +1,25 @@
+//! One bench, many callers: threads share a bench by reference, each with a pass that keeps a receipt for every line that
+//! its calls add to the history. Once the threads are done, settling compares the receipts of all passes with the history.
+//!
+//! Each bench that is shared has a ledger type of its own, which its passes and its opening carry. So a pass of another
+//! `Shared` has another type, and a call with it doesn't compile.
+#![tactic(auto)]
+
+pub mod faults;
+mod locked;
+mod merging;
+pub mod opening;
+pub mod passes;
+pub mod receipts;
+pub mod settling;
+pub mod shared;
+
+pub use faults::{SettleFault, Settled};
+pub use opening::Opening;
+pub use passes::Pass;
+pub use receipts::Receipt;
+pub use settling::settle;
+pub use shared::{Shared, share};
+
+#[cfg(test)]
+mod tests;

@@ -1,0 +1,136 @@
+// What lies under the lock.
+ghost use Rattle.std.specs.Prelude.{◌≡◌, ◌+◌, ◌++◌, ◌<◌, length, vec_len, vec_capacity};
+ghost use Rattle.ic_name.specs.declared.lines.Call.TheVariants.{Fire, Undo};
+ghost use Rattle.ic_journal.specs.Benches.{IsBench};
+ghost use Rattle.ic_journal.specs.Calls.{Fires, Undoes};
+ghost use Rattle.ic_shared.specs.CallLines.{fire_reply, undo_reply, lines_of, fire_lines, undo_lines};
+ghost use Rattle.ic_shared.specs.Receipts.{receipts_of};
+
+use crate::receipts::Receipt;
+use ic_journal::{Bench, FireFault, Proposal, Store, UndoFault};
+use ic_name::{Call, Event, EventId, Reply};
+use std::sync::ledger::{Book, Ledger, Share};
+
+/// A bench, the account of the lines that callers added to its history, and how many stood there before.
+#[derive(Drop)]
+pub(crate) struct Locked<B: Ledger> {
+    pub bench: Bench<Store>,
+    pub book: Book<B>,
+    pub base: u32,
+    ghost counted: { book.total + base ≡ length bench.lines },
+}
+
+impl<B: Ledger> Locked<B> {
+    /// Fires the event on the bench, and gives a receipt for the line, of which the event once more is the call.
+    pub fn fire(
+        &mut self,
+        share: &mut Share<B>,
+        receipts: &mut Vec<Receipt>,
+        proposal: Proposal,
+        event: Event,
+    ) -> Result<EventId, FireFault>
+        requires part { 0 < share.old.parts }
+        requires room { vec_len receipts.old < vec_capacity receipts.old }
+        requires copy { event ≡ proposal }
+        ensures bench { IsBench self.old.bench }
+        ensures fires { Fires self.old.bench proposal result self.new.bench }
+        ensures receipts { receipts.new.items ≡ receipts.old.items ++ receipts_of (length self.old.bench.lines) (fire_lines proposal result) }
+        ensures parts { share.new.parts ≡ share.old.parts }
+        ensures amount { share.new.amount ≡ share.old.amount + length (fire_lines proposal result) }
+    {
+        self.bench.lawful();
+        let number = self.bench.lines();
+        let answer = self.bench.fire(proposal);
+        let reply = reply_of_firing(&answer);
+        note(
+            &mut self.book,
+            share,
+            receipts,
+            number,
+            Call::Fire(event),
+            reply,
+        );
+        answer
+    }
+
+    /// Undoes the event on the bench, and gives a receipt for the line.
+    pub fn undo(
+        &mut self,
+        share: &mut Share<B>,
+        receipts: &mut Vec<Receipt>,
+        id: EventId,
+    ) -> Result<(), UndoFault>
+        requires part { 0 < share.old.parts }
+        requires room { vec_len receipts.old < vec_capacity receipts.old }
+        ensures bench { IsBench self.old.bench }
+        ensures undoes { Undoes self.old.bench id result self.new.bench }
+        ensures receipts { receipts.new.items ≡ receipts.old.items ++ receipts_of (length self.old.bench.lines) (undo_lines id result) }
+        ensures parts { share.new.parts ≡ share.old.parts }
+        ensures amount { share.new.amount ≡ share.old.amount + length (undo_lines id result) }
+    {
+        self.bench.lawful();
+        let number = self.bench.lines();
+        let answer = self.bench.undo(id);
+        let reply = reply_of_undo(&answer);
+        note(
+            &mut self.book,
+            share,
+            receipts,
+            number,
+            Call::Undo(id.line),
+            reply,
+        );
+        answer
+    }
+}
+
+/// Where the call has a reply, enters its line in the book and gives a receipt for it. It takes no memory.
+fn note<B: Ledger>(
+    book: &mut Book<B>,
+    share: &mut Share<B>,
+    receipts: &mut Vec<Receipt>,
+    number: u32,
+    call: Call,
+    reply: Option<Reply>,
+)
+    requires part { 0 < share.old.parts }
+    requires room { vec_len receipts.old < vec_capacity receipts.old }
+    ensures total { book.new.total ≡ book.old.total + length (lines_of call reply) }
+    ensures parts { share.new.parts ≡ share.old.parts }
+    ensures amount { share.new.amount ≡ share.old.amount + length (lines_of call reply) }
+    ensures receipts { receipts.new.items ≡ receipts.old.items ++ receipts_of number (lines_of call reply) }
+{
+    if let Some(reply) = reply {
+        book.add(share, 1);
+        receipts.push_reserved(Receipt {
+            number,
+            call,
+            reply,
+        });
+    }
+}
+
+/// The reply that stands in the history for an answer to a firing; `None` where the call adds no line.
+fn reply_of_firing(answer: &Result<EventId, FireFault>) -> Option<Reply>
+    ensures { result ≡ fire_reply answer.now }
+{
+    match answer {
+        Ok(_) => Some(Reply::Fired),
+        Err(FireFault::NotActive) => Some(Reply::NotActive),
+        Err(FireFault::Deep) => Some(Reply::Deep),
+        Err(FireFault::Full) => Some(Reply::Full),
+        Err(FireFault::HistoryFull(_)) | Err(FireFault::Memory(_)) => None,
+    }
+}
+
+/// The reply that stands in the history for an answer to an undo; `None` where the call adds no line.
+fn reply_of_undo(answer: &Result<(), UndoFault>) -> Option<Reply>
+    ensures { result ≡ undo_reply answer.now }
+{
+    match answer {
+        Ok(()) => Some(Reply::Undone),
+        Err(UndoFault::NotStanding) => Some(Reply::NotStanding),
+        Err(UndoFault::Held(holder)) => Some(Reply::Held(holder.line)),
+        Err(UndoFault::HistoryFull) | Err(UndoFault::Memory) => None,
+    }
+}

@@ -1,0 +1,104 @@
+// What is compared once all threads are done.
+ghost use Rattle.std.specs.Prelude.{◌≡◌, ◌≢◌, ◌+◌, ◌^◌, ◌++◌, ◌<◌, ◌≤◌, length, drop, slice_get, IfOk, IfErr, IfSome, IfNone};
+ghost use Rattle.ic_shared.specs.Settles.{lengths};
+ghost use Rattle.ic_shared.specs.Agrees.{Agrees};
+ghost use Rattle.ic_shared.specs.Faults.{FaultIs};
+
+use crate::faults::{SettleFault, Settled};
+use crate::locked::Locked;
+use crate::merging::merge;
+use crate::opening::Opening;
+use crate::passes::Pass;
+use crate::shared::Shared;
+use ic_journal::{Bench, Store};
+use ic_name::Line;
+use std::sync::ledger::{Book, Ledger, Share};
+
+/// Lends the part of each pass to `all` in turn, and reads the book once every part is there. It shows that the callers
+/// have as many receipts together as lines were added, and changes nothing.
+fn audit<B: Ledger>(book: &mut Book<B>, all: &mut Share<B>, passes: &mut [Pass<B>])
+    requires parts { all.old.parts + length passes.old ≡ B.parts }
+    requires some { 0 < all.old.parts }
+    ensures total { book.old.total ≡ all.old.amount + lengths passes.old }
+    ensures book { book.new.total ≡ book.old.total }
+    ensures all { (all.new.parts ≡ all.old.parts) × (all.new.amount ≡ all.old.amount) }
+    ensures passes { passes.new ≡ passes.old }
+{
+    match passes.split_first_mut() {
+        None => book.audit(all),
+        Some((pass, rest)) => {
+            let Pass { share, receipts } = pass;
+            let count = receipts.len() as u64;
+            share.give(all, 1, count);
+            audit(book, all, rest);
+            all.give(share, 1, count);
+        }
+    }
+}
+
+/// The first line of the opening that isn't the history's.
+fn first_other(bench: &Bench<Store>, lines: &[Line]) -> Option<u32>
+    requires within { length lines.now ≤ length bench.now.lines }
+    requires few { length lines.now < 2 ^ 32 }
+    ensures none { IfNone result (bench.now.lines ≡ lines.now ++ drop (length lines.now) bench.now.lines) }
+    ensures some { IfSome result (λ k. (k < length lines.now) × (slice_get bench.now.lines k ≢ slice_get lines.now k)) }
+{
+    for k in 0..lines.len() {
+        let line = &lines[k];
+        if !bench.line_is(k as u32, &line.call, line.reply) {
+            return Some(k as u32);
+        }
+    }
+    None
+}
+
+/// Compares the opening and the receipts of all passes with the history, once nobody shares the bench any more. It takes no
+/// memory.
+///
+/// For an answer of `Ok` the bench has the start of the opening, its history is the opening's lines and then exactly the
+/// receipts of the passes, each under its number, and the lines that were added are counted. It is `Missing` exactly where
+/// there are not as many passes as were given out. It is `Mismatch` only where all passes are there, and then what the
+/// opening and the passes say is false at its number: the history's length where the start is another or the receipts are
+/// too few or too many.
+pub fn settle<B: Ledger>(
+    opening: Opening<B>,
+    mut passes: Vec<Pass<B>>,
+    shared: Shared<B>,
+) -> Result<Settled, SettleFault>
+    ensures ok { IfOk result (λ s. Agrees opening passes.items s.bench s.lines) }
+    ensures err { IfErr result (λ e. FaultIs opening passes.items e) }
+{
+    let Locked {
+        bench,
+        mut book,
+        base,
+    } = shared.into_locked();
+    let Opening {
+        start,
+        lines,
+        count,
+        mut share,
+    } = opening;
+    if passes.len() != count.passes as usize {
+        return Err(SettleFault::Missing(bench));
+    }
+    audit(&mut book, &mut share, passes.as_mut_slice());
+    let number = bench.lines();
+    if !bench.start().same(&start) {
+        return Err(SettleFault::Mismatch(number, bench));
+    }
+    if base as usize != lines.len() {
+        return Err(SettleFault::Mismatch(number, bench));
+    }
+    match first_other(&bench, lines.as_slice()) {
+        Some(other) => return Err(SettleFault::Mismatch(other, bench)),
+        None => {}
+    }
+    match merge(&bench, base, passes.as_slice()) {
+        Ok(()) => Ok(Settled {
+            bench,
+            lines: number - base,
+        }),
+        Err(wrong) => Err(SettleFault::Mismatch(wrong, bench)),
+    }
+}

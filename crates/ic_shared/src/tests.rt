@@ -1,0 +1,4 @@
+mod benches;
+mod faults;
+mod settling;
+mod stress;
