@@ -1,0 +1,13 @@
+pub mod Totals
+pub mod Numbers
+pub mod Others
+pub mod Drawing
+pub mod Claiming
+pub mod Stopping
+pub mod Splitting
+pub mod Joining
+pub mod Opening
+pub mod Homes
+pub mod Allowed
+pub mod SeatFacts
+pub mod Consequences

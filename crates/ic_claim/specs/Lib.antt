@@ -1,0 +1,5 @@
+pub mod Counts
+pub mod Views
+pub mod Rule
+pub mod Plays
+pub mod Seats

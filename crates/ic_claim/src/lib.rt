@@ -1,0 +1,20 @@
+//! Tickets and claims for many threads: numbers below a budget, each drawn once, claim words of which each is held by
+//! at most one seat, and a word by which each seat asks all to stop. Every call is one atomic step or none, and only
+//! `Claims::make` takes memory.
+#![tactic(auto)]
+
+mod claims;
+mod laws;
+mod limits;
+mod rule;
+mod seat;
+#[cfg(test)]
+mod tests;
+mod view;
+
+pub use claims::{Busy, Claims, Ticket};
+pub use laws::{one_holder, ticket_word, tickets};
+pub use limits::{CLAIM_WORDS, MAX_BUDGET, MAX_SEATS};
+pub use rule::ClaimRule;
+pub use seat::Seat;
+pub use view::View;

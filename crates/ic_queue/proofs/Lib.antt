@@ -1,0 +1,3 @@
+pub mod Permuted
+pub mod Tops
+pub mod OneLeast
