@@ -97,10 +97,6 @@ proposed_found v p e a b n m k l bench less first second i j h = proposed v p e 
     (subst (λ (x : Name). IsIn (record { id = b; name = x; kind = l }) v.agents) second j)
     h
 
--- what firing does, where the fault is known
-pub fault_known : (old new : BenchView) (e : Event) (result : Result EventId FireFault) (f known : FireFault) → result ≡ Err f → f ≡ known → Fires old e result new → Fires old e (Err known) new
-fault_known old new e result f known is same fires = subst (λ (r : Result EventId FireFault). Fires old e r new) (is ∙ ap (λ (g : FireFault). Err g) same) fires
-
 -- an event that is fired
 pub fires : (old new : BenchView) (p : Pair) (e : Event) → IsProposed old p e → IsBench new → Steps old (call.Fire e) reply.Fired new → Turns old (Fire p) (pair_line (codes "fired ") p) new
 fires old new p e is bench steps = stepped old new (Fire p) _ (call.Fire e) reply.Fired bench steps (λ st next at few answers. fired (is st at) few answers)

@@ -11,5 +11,4 @@ pub mod ToldReplies
 pub mod UndoneInTurn
 pub mod UnwoundEvents
 pub mod UnwindingReplies
-pub mod FiredInTurn
-pub mod LeastFired
+pub mod ReducingReplies

@@ -10,6 +10,7 @@ use Rattle.ic_journal.specs.Views.{BenchView}
 use Rattle.ic_journal.specs.Benches.{fired_in, IsAt, IsBench}
 use Rattle.ic_journal.specs.Calls.{Steps, Stays}
 use Rattle.ic_journal.proofs.Answering.{length-noted}
+use Rattle.ic_reduce.proofs.BenchSteps.{still_at, line_left}
 use Rattle.ic_command.specs.declared.command.Command.{Command}
 use Rattle.ic_answer.specs.declared.refused.Refused.TheVariants as refused
 use Rattle.ic_answer.specs.Replies.{Replies, MayWant, memory}
@@ -24,13 +25,6 @@ told v c text tells = record { start = refl; replies = λ st at. (st, tells st a
 pub told_same : (old new : BenchView) (c : Command) (text : List ℕ) → new ≡ old → Tells old c text → Turns old c text new
 told_same old new c text same tells = subst (λ (v : BenchView). Turns old c text v) (sym same) (told old c text tells)
 
--- a bench that stays is at the same states
-pub still_at : (old new : BenchView) → Stays old new → (st : State) → IsAt old st → IsAt new st
-still_at old new stays st at = record {
-  history = rw (stays.same.start, stays.lines) at.history;
-  standing = alike_then (alike_back (alike-map fired_in stays.same.events)) at.standing;
-}
-
 -- where memory is wanting, a bench may stay
 pub stays_for_memory : (old new : BenchView) (c : Command) → MayWant c → Stays old new → Turns old c (refusal_text refused.Memory) new
 stays_for_memory old new c want stays = record {
@@ -41,14 +35,6 @@ stays_for_memory old new c want stays = record {
 -- a command that asks for something may be refused for memory
 pub tells_memory : (v : BenchView) (c : Command) → MayWant c → Tells v c (refusal_text refused.Memory)
 tells_memory v c want = λ st at. memory want
-
--- a step is made only where the history has room
-pub line_left : (old new : BenchView) (call : Call) (answer : Reply) → IsBench new → Steps old call answer new → (st : State) → IsAt old st → st.lines < MAX_LINES
-line_left old new call answer bench steps st at =
-    let count = history_length at.history in
-    let more = length-noted old.lines _ steps.lines in
-    let short = bench.running.short in
-    omega (arith, count, more, short)
 
 -- one step of the machine is a turn, where its answer is the reply
 pub stepped : (old new : BenchView) (c : Command) (text : List ℕ) (call : Call) (answer : Reply) → IsBench new → Steps old call answer new

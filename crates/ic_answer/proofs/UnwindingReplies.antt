@@ -33,7 +33,7 @@ use Rattle.ic_answer.specs.Texts.{event_line, pair_line, unwound_text, undone_al
 use Rattle.ic_answer.specs.Turns.{Tells, Turns}
 use Rattle.ic_answer.specs.Unwinding.{RestsOn, AreUndoneInTurn, events_of}
 use Rattle.ic_answer.proofs.StandingCauses.{named_event, none_named}
-use Rattle.ic_answer.proofs.TurnSteps.{still_at}
+use Rattle.ic_reduce.proofs.BenchSteps.{still_at}
 use Rattle.ic_answer.proofs.UndoneInTurn.{EndsSo, undone_in_turn}
 use Rattle.ic_answer.proofs.UndoingReplies.{Stands}
 use Rattle.ic_answer.proofs.UnwoundEvents.{last_first_at, dont_fit_at, any_same, resting_same}

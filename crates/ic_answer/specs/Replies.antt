@@ -18,7 +18,7 @@ use Rattle.ic_answer.specs.declared.refused.Refused.TheVariants as refused
 use Rattle.ic_answer.specs.Texts.{pair_line, active_text, why_text, unwound_text, undone_all_text, reduced_text, wanting_after, refusal_text}
 use Rattle.ic_answer.specs.Standing.{AreActive, AreJournal, HasRank, AreCauses}
 use Rattle.ic_answer.specs.Unwinding.{RestsOn, IsAnyEvent, AreLastFirst, DontFit, events_of, AreUndoneInTurn}
-use Rattle.ic_answer.specs.Reducing.{IsNormal, AreFiredInTurn, MeetsLimit}
+use Rattle.ic_reduce.specs.Reducing.{IsNormal, AreFiredInTurn, MeetsLimit}
 
 -- a standing event of this name
 pub record IsNamed (st : State) (p : Pair) (x : Standing) : Type 0 where

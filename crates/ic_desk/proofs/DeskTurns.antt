@@ -18,7 +18,7 @@ use Rattle.ic_answer.specs.declared.answer.Answer.{Answer}
 use Rattle.ic_answer.specs.declared.refused.Refused.TheVariants.{HistoryFull, Memory, NoMark, TooManyMarks}
 use Rattle.ic_answer.specs.Texts.{answer_text, refusal_text}
 use Rattle.ic_answer.specs.Turns as bench
-use Rattle.ic_answer.proofs.TurnSteps.{still_at}
+use Rattle.ic_reduce.proofs.BenchSteps.{still_at}
 use Rattle.ic_desk.specs.Places.{IsPlace, PutsAt}
 use Rattle.ic_desk.specs.Replies.{Replies, marked_text, back_text, wanting_text, of_bench, marked, too_many, mark_memory, no_mark, back_history_full, back, back_memory}
 use Rattle.ic_desk.specs.Views.{NamedView, DeskView, IsDesk, Turns}

@@ -12,6 +12,13 @@ impl<L: LinkStore> Bench<L> {
         self.history.len() as u32
     }
 
+    /// The number of standing events. It takes no memory.
+    pub fn standing_count(&self) -> usize
+        ensures { result ≡ length self.now.events }
+    {
+        self.set.events().len()
+    }
+
     /// Whether the history has a line with this number, and it is this call with this reply. It takes no memory.
     pub fn line_is(&self, number: u32, call: &Call, reply: Reply) -> bool
         ensures { IsTrue result ↔ (slice_get self.now.lines number ≡ Some (record { call = call.now; reply = reply })) }

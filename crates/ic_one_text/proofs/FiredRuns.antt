@@ -8,7 +8,7 @@ use Rattle.ic_name.specs.declared.lines.Reply.TheVariants.{Fired, Deep, Full}
 use Rattle.ic_theory.specs.Starts.{Start, IsProper}
 use Rattle.ic_theory.specs.Active.{IsActive}
 use Rattle.ic_theory.specs.Machine.{State, events, Answers}
-use Rattle.ic_answer.specs.Reducing.{IsLeastActive, AreFiredInTurn, none, more, MeetsLimit, history_full, deep, full}
+use Rattle.ic_reduce.specs.Reducing.{IsLeastActive, AreFiredInTurn, none, more, MeetsLimit, history_full, deep, full}
 use Rattle.ic_one_text.specs.States.{IsReached, AreSame}
 use Rattle.ic_one_text.proofs.OneEvent.{least_active-alike, least_active_once}
 use Rattle.ic_one_text.proofs.OneStep.{moved, reached_next, one_step}
@@ -79,7 +79,7 @@ module _ (s : Start) (ok : IsProper s) where
 
   -- an active pair is there
   pub limit_active : {st next : State} → MeetsLimit s st next → (e : Event) × IsActive s (events st) e
-  limit_active (history_full a e) = (_, a)
+  limit_active (history_full a e) = (_, a.active)
   limit_active (deep l few a) = (_, l.active)
   limit_active (full l few a) = (_, l.active)
 

@@ -16,7 +16,7 @@ use Rattle.ic_theory.proofs.Normal.{active-alike}
 use Rattle.ic_theory.proofs.Ranks.{same_set}
 use Rattle.ic_theory.proofs.Replies.{one_lead}
 use Rattle.ic_cause.proofs.OneFuture.{one_event}
-use Rattle.ic_answer.specs.Reducing.{IsLeastActive}
+use Rattle.ic_reduce.specs.Reducing.{IsLeastActive}
 use Rattle.ic_one_text.specs.States.{AreSame}
 use Rattle.ic_one_text.proofs.SortedLists.{neither_greater}
 

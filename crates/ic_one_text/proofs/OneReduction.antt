@@ -7,7 +7,7 @@ use Rattle.ic_theory.specs.Active.{IsActive}
 use Rattle.ic_theory.specs.Starts.{Start, IsProper}
 use Rattle.ic_theory.specs.Machine.{State, events}
 use Rattle.ic_theory.proofs.Normal.{active-alike}
-use Rattle.ic_answer.specs.Reducing.{IsNormal, AreFiredInTurn, MeetsLimit}
+use Rattle.ic_reduce.specs.Reducing.{IsNormal, AreFiredInTurn, MeetsLimit}
 use Rattle.ic_one_text.specs.States.{IsReached, AreSame}
 use Rattle.ic_answer.specs.Texts.{reduced_text}
 use Rattle.ic_one_text.proofs.FiredRuns.{Tries, Compare, level, shorter, longer, compare, reached_fired, limit_stops, limit_active, limit_once}

@@ -20,7 +20,7 @@ use Rattle.ic_command.specs.declared.command.Command.TheVariants.{Nothing, Net, 
 use Rattle.ic_answer.specs.declared.refused.Refused.TheVariants as refused
 use Rattle.ic_answer.specs.Replies.{IsNamed, NoneIsNamed, IsPresent, NoneIsPresent, Replies}
 use Rattle.ic_answer.specs.Replies as told
-use Rattle.ic_answer.specs.Reducing.{IsNormal, AreFiredInTurn, MeetsLimit}
+use Rattle.ic_reduce.specs.Reducing.{IsNormal, AreFiredInTurn, MeetsLimit}
 use Rattle.ic_answer.specs.Standing.{AreActive, AreJournal, HasRank, AreCauses}
 use Rattle.ic_answer.specs.Texts.{pair_line, active_text, why_text, unwound_text, undone_all_text, reduced_text, refusal_text}
 use Rattle.ic_answer.specs.Unwinding.{RestsOn, IsAnyEvent, AreLastFirst, DontFit, events_of, AreUndoneInTurn}

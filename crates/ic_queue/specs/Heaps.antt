@@ -1,5 +1,7 @@
 -- How the entries of a queue are kept: in a heap, the least one on top.
-use Rattle.std.specs.Prelude.{List, map}
+use Rattle.std.specs.Prelude.{ℕ, ◌-◌, List, map}
+use Rattle.std.specs.BinaryHeap.{heap_len, heap_capacity}
+use Rattle.std.specs.declared.collections.binary_heap.BinaryHeap.{BinaryHeap}
 use Rattle.std.specs.declared.cmp.Ordering.{Ordering}
 use Rattle.std.specs.declared.cmp.Reverse.{Reverse}
 use Rattle.std.specs.Ordering.{ordering_then}
@@ -22,3 +24,7 @@ entry_of r = record { name = r.0.name; id = r.0.id }
 -- the entries of a heap
 abbrev pub entries_in : List (Reverse Lead) → List Entry
 entries_in rs = map entry_of rs
+
+-- for how many further entries a heap has room
+abbrev pub room_in : {X Z : Type 0} → BinaryHeap X Z → ℕ
+room_in h = heap_capacity h - heap_len h

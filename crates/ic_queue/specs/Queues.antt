@@ -27,11 +27,6 @@ pub record IsLeast (entries : List Entry) (x : Entry) : Type 0 where
   pub no_lesser_name : (y : Entry) → IsIn y entries → name_cmp y.name x.name ≢ Less
   pub no_lesser_id : (y : Entry) → IsIn y entries → y.name ≡ x.name → id_cmp y.id x.id ≢ Less
 
--- the least entry has this id
-pub record IsLeastId (entries : List Entry) (agent : AgentId) : Type 0 where
-  pub name : Name
-  pub least : IsLeast entries (record { name = name; id = agent })
-
 -- the least entry has this id, and the new entries are the others
 pub record TakesLeast (old : List Entry) (agent : AgentId) (new : List Entry) : Type 0 where
   pub name : Name

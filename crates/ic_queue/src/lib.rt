@@ -4,7 +4,7 @@
 pub mod laws;
 pub mod queue;
 
-pub use queue::LeadQueue;
+pub use queue::{Front, LeadQueue};
 
 #[cfg(test)]
 mod tests;

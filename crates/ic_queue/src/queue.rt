@@ -1,6 +1,6 @@
 ghost use Rattle.std.specs.Prelude.{◌≡◌, ◌+◌, ◌<◌, ◌≤◌, ◌∷◌, ◌==◌, [], length, IfSome, IfNone, OnSome, OnOk, OnErr};
 ghost use Rattle.ic_path.specs.Orders.{Alike};
-ghost use Rattle.ic_queue.specs.Queues.{IsLeastId, TakesLeast};
+ghost use Rattle.ic_queue.specs.Queues.{IsLeast, TakesLeast};
 
 use ic_name::{AgentId, AgentName};
 use std::alloc::{AllocError, Global};
@@ -24,16 +24,22 @@ struct Lead {
     id: AgentId,
 }
 
+/// The entry at the front of a queue, to be read.
+#[derive(Clone, Copy)]
+pub struct Front<'a> {
+    pub name: &'a AgentName,
+    pub id: AgentId,
+}
+
 impl Model for LeadQueue {
-    ghost use Rattle.std.specs.Prelude.{◌-◌};
     ghost use Rattle.ic_queue.specs.Queues.{QueueView};
 
     ghost Value = { QueueView };
 
-    ghost use Rattle.std.specs.BinaryHeap.{heap_items, heap_len, heap_capacity, IsHeap};
-    ghost use Rattle.ic_queue.specs.Heaps.{entries_in, kept_cmp};
+    ghost use Rattle.std.specs.BinaryHeap.{heap_items, IsHeap};
+    ghost use Rattle.ic_queue.specs.Heaps.{entries_in, room_in, kept_cmp};
 
-    ghost view = { λ q. record { entries = entries_in (heap_items q.leads); room = heap_capacity q.leads - heap_len q.leads } };
+    ghost view = { λ q. record { entries = entries_in (heap_items q.leads); room = room_in q.leads } };
 
     ghost invariant = { λ q. IsHeap kept_cmp (heap_items q.leads) };
 }
@@ -90,17 +96,20 @@ impl LeadQueue {
         self.leads.push(Reverse(Lead { name, id })).unwrap();
     }
 
-    /// The id of the agent with the least name, and of several ids of that name the least, in constant time; `None`
+    /// The entry with the least name, and of several of that name the one with the least id, in constant time; `None`
     /// where there are no entries. It takes no memory.
-    pub fn least(&self) -> Option<AgentId>
-        ensures least { IfSome result (λ agent. IsLeastId self.now.entries agent) }
+    pub fn least(&self) -> Option<Front<'_>>
+        ensures least { IfSome result (λ front. IsLeast self.now.entries (record { name = front.name.now; id = front.id })) }
         ensures none { IfNone result (self.now.entries ≡ []) }
     {
         let lead = &self.leads.peek()?.0;
-        Some(lead.id)
+        Some(Front {
+            name: &lead.name,
+            id: lead.id,
+        })
     }
 
-    /// The entry that `least` speaks of goes, in time that grows as the logarithm of the number of entries; `None`
+    /// The entry that `least` gives goes, in time that grows as the logarithm of the number of entries; `None`
     /// where there are none, and then nothing changes. It takes no memory.
     pub fn take_least(&mut self) -> Option<AgentId>
         ensures taken { IfSome result (λ agent. TakesLeast self.old.entries agent self.new.entries) }

@@ -21,7 +21,7 @@ fn put(queue: &mut LeadQueue, name: AgentName, slot: u32) -> Result<(), Fail> {
 
 /// The slot of the entry that goes, which is to be the one that `least` gave.
 fn taken(queue: &mut LeadQueue) -> Result<u32, Fail> {
-    let least = queue.least().ok_or("a least entry")?;
+    let least = queue.least().ok_or("a least entry")?.id;
     let taken = queue.take_least().ok_or("an entry")?;
     if taken != least {
         return Err("the entry that `least` gave".into());
@@ -75,7 +75,9 @@ fn room_is_used_and_given_back(rt: HostRuntime) -> Result<(), Fail> {
     put(&mut queue, name(&rt, b"8")?, 0)?;
     put(&mut queue, name(&rt, b"6")?, 1)?;
     assert!(rt; queue.room().checked_add(2) == Some(room));
-    assert!(rt; queue.least() == Some(AgentId { slot: 1, serial: 0 }));
+    let front = queue.least().ok_or("a front")?;
+    assert!(rt; front.name.is(&name(&rt, b"6")?));
+    assert!(rt; front.id == AgentId { slot: 1, serial: 0 });
     assert_eq!(rt; taken(&mut queue)?, 1);
     assert!(rt; queue.room().checked_add(1) == Some(room));
     queue.reserve(room)?;

@@ -2,11 +2,13 @@
 use Rattle.std.proofs.Common.{◌≡◌, ◌≢◌, ℕ, Bool, true, false, cond, List, ◌∷◌, Option, Some, None, refl, sym, ap, subst, ◌∙◌}
 use Rattle.std.specs.Prelude.{option_map, is_some, IsSome, IfSome, IfNone}
 use Rattle.std.specs.Ordering.{nat_cmp}
+use Rattle.std.specs.declared.cmp.Ordering.TheVariants.{Equal}
 use Rattle.std.specs.BTreeMap.{is_at}
 use Rattle.ic_path.specs.Orders.{IsIn, Alike}
 use Rattle.ic_name.specs.Names.{Name, name_cmp}
 use Rattle.ic_name.specs.Events.{Event, Pair, pair}
 use Rattle.ic_name.specs.declared.ids.EventId.{EventId}
+use Rattle.ic_name.proofs.NameOrder.{name_tied}
 use Rattle.ic_roster.specs.declared.standing.StandingRecord.{StandingRecord}
 use Rattle.ic_roster.specs.Rosters.{Stander, HaveOwnLines, IsNewEvent}
 use Rattle.ic_roster.specs.Slots.{slot_at, HoldsOneMore}
@@ -158,6 +160,11 @@ lead_tabled : (slots : List (Option StandingRecord)) (lines : List (ℕ × ℕ))
     → slot_of_lead leads n ≡ Some s.key
 lead_tabled slots lines leads t n x s e = (t.led n s.key).1 (lead_shown slots x s ∙ ap Some e)
 
+-- the table has the slot of a record under its lead
+pub kept_lead : (slots : List (Option StandingRecord)) (lines : List (ℕ × ℕ)) (leads : List (Name × ℕ)) → IsTabled slots lines leads → (k : ℕ) (r : StandingRecord) → slot_at slots k ≡ Some r
+    → slot_of_lead leads r.event.lead ≡ Some k
+kept_lead slots lines leads t k r h = (t.led r.event.lead k).1 (ap (option_map lead_of) h)
+
 -- where the table lacks a lead, no event has it
 pub lead_absent : (slots : List (Option StandingRecord)) (lines : List (ℕ × ℕ)) (leads : List (Name × ℕ)) → IsTabled slots lines leads → (n : Name) → slot_of_lead leads n ≡ None
     → (x : Stander) → IsIn x (standers_in slots) → x.event.lead ≢ n
@@ -255,3 +262,16 @@ event_gone old new id r more x i e =
     let n : Some k.kept ≡ Some r = sym k.holds ∙ more.filled in
     let m : k.kept ≡ r = cc in
     subst (λ y. Alike (standers_in old) (y ∷ standers_in new)) (sym (k.shows ∙ ap (λ v. stander_at (id.slot, v)) m)) (shown_emptied stander_at old new id.slot r more)
+
+-- the key that goes with a value is the one at which the order of names is tied
+pub key_gone : (o : Option (Name × ℕ)) (n : Name) (k : ℕ) → option_map (λ (p : Name × ℕ). p.1) o ≡ Some k → IfSome o (λ p. name_cmp n p.0 ≡ Equal) → option_map (λ (p : Name × ℕ). p.0) o ≡ Some n
+key_gone None n k value tied = absurd cc
+key_gone (Some p) n k value tied = ap Some (sym (name_tied n p.0 tied))
+
+-- the lead of the event of an id is that of the record in its slot
+pub id_lead : (slots : List (Option StandingRecord)) (id : EventId) (r : StandingRecord) → slot_at slots id.slot ≡ Some r → (x : Stander) → IsIn x (standers_in slots) → x.id ≡ id → r.event.lead ≡ x.event.lead
+id_lead slots id r h x i e =
+    let k = record_of slots id x i e in
+    let both : Some k.kept ≡ Some r = sym k.holds ∙ h in
+    let one : k.kept ≡ r = cc in
+    sym (ap lead_of one) ∙ ap (λ (y : Stander). y.event.lead) (sym k.shows)

@@ -1,4 +1,4 @@
-ghost use Rattle.std.specs.Prelude.{◌≡◌, ◌≢◌, ◌∷◌, [], length, map, IfSome, IfNone, IfOk, OnErr};
+ghost use Rattle.std.specs.Prelude.{◌≡◌, ◌≢◌, ◌∷◌, [], Some, None, length, map, IfSome, IfNone, IfOk, OnErr};
 ghost use Rattle.ic_path.specs.Orders.{Alike, IsIn};
 ghost use Rattle.ic_name.specs.Events.{pair};
 ghost use Rattle.ic_roster.specs.Rosters.{Stander, HaveOwnLines, IsNewEvent};
@@ -178,16 +178,21 @@ impl Standing {
         Ok(EventId { slot, line })
     }
 
-    /// The event under the id goes, if it stands. It takes no memory.
-    pub fn remove(&mut self, id: EventId)
+    /// The event under the id goes, if it stands, and the name of its lead is handed out; `None` where none stands under
+    /// the id. It takes no memory.
+    pub fn remove(&mut self, id: EventId) -> Option<AgentName>
         ensures gone { (x : Stander) → IsIn x self.old → x.id ≡ id → Alike self.old (x ∷ self.new) }
+        ensures lead { (x : Stander) → IsIn x self.old → x.id ≡ id → result ≡ Some x.event.lead }
         ensures unchanged { ((x : Stander) → IsIn x self.old → x.id ≢ id) → self.new ≡ self.old }
+        ensures none { ((x : Stander) → IsIn x self.old → x.id ≢ id) → result ≡ None }
     {
         if self.get(id).is_none() {
-            return;
+            return None;
         }
         let record = self.records.remove(id.slot as usize);
         self.lines.remove(&id.line);
-        self.leads.remove(record.event.lead());
+        self.leads
+            .remove_entry(record.event.lead())
+            .map(|(lead, _)| lead)
     }
 }

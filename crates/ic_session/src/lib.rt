@@ -13,6 +13,8 @@ mod bench_tests;
 #[cfg(test)]
 mod example_tests;
 #[cfg(test)]
+mod full_tests;
+#[cfg(test)]
 mod mark_tests;
 #[cfg(test)]
 mod order_tests;

@@ -15,6 +15,7 @@ pub mod AddedInTurn
 pub mod EnteredInTurn
 pub mod NamedInTurn
 pub mod ByPlace
+pub mod TakenElements
 pub mod SlimSets
 pub mod StartLinks
 pub mod EmptySets
@@ -37,13 +38,13 @@ pub mod ActivePairs
 pub mod EventPairs
 pub mod FarTouched
 pub mod NewlyActive
-pub mod FallingPairs
-pub mod LeadingPairs
+pub mod LedPairs
 pub mod ReachedAgents
-pub mod KeptPairs
+pub mod NewLeads
 pub mod GrownSets
 pub mod PairsAdmitted
 pub mod PairsLeft
+pub mod QueuedLeads
 pub mod PlacedOrders
 pub mod OrderedIds
 pub mod RankedEvents

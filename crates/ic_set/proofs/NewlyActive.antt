@@ -1,5 +1,5 @@
 -- Which pairs are active once an event is fired.
-use Rattle.std.proofs.Common.{◌≡◌, ◌≢◌, ℕ, zero, suc, ◌≤◌, Bool, true, false, List, ◌∷◌, ◌⊎◌, inl, inr, Option, Some, refl, sym, ap, arith, subst, ◌∙◌}
+use Rattle.std.proofs.Common.{◌≡◌, ◌≢◌, ℕ, zero, suc, ◌≤◌, Bool, true, false, List, ◌∷◌, ◌⊎◌, inl, inr, Some, refl, sym, ap, arith, subst, ◌∙◌}
 use Rattle.std.specs.Prelude.{leb, if◌then◌else◌}
 use Rattle.std.proofs.lemmas.Bool.{le-leb}
 use Rattle.ic_name.specs.Names.{Name}
@@ -35,10 +35,7 @@ use Rattle.ic_shown.proofs.Elements.{in_behind, in-append_cases}
 use Rattle.ic_set.specs.Queues.{IsNextTo}
 use Rattle.ic_set.proofs.FarTouched.{far_same, touched}
 
--- the number of a port, and the name of its agent
-first_port : {m n : Name} {j : ℕ} → ◌≡◌ {A = Option Port} (Some (Of m j)) (Some (Of n 0)) → j ≡ 0
-first_port e = cc
-
+-- the name of the agent of a port
 port_name : {m n : Name} {i j : ℕ} → ◌≡◌ {A = Port} (Of m i) (Of n j) → m ≡ n
 port_name e = cc
 
@@ -134,14 +131,6 @@ module _ (s : Start) (ok : IsProper s) (e : Event) (es : List Event) (f : IsFire
           let later = in_included born_agents (start_agents s) (includes_more e (includes_self es)) o.1 in
           let kind : o.0 ≡ g.other_kind = same_kind s ok (e ∷ es) (fired_apart s (fired f a)) g.other refl refl later h.present.other in
           record { present = record { lead = j; other = subst (λ k. IsIn (g.other, k) (agents s es)) kind o.1; ordered = h.present.ordered }; wire = w }
-
--- an agent next to a pair leads none that is active
-pub next_leads_none : (s : Start) → IsProper s → (es : List Event) → IsSound s es → (e g : Event) → IsNextTo s es e g.lead → IsActive s es g → ⊥
-next_leads_none s ok es sound e g (m, j, whose, aux, w) h =
-    let o = sound_order s ok es sound in
-    let one = wire_partner s ok o.0 o.2 (Of g.lead 0) (Of m j) (wire_alike s g.lead m 0 j o.1 w) in
-    let two = wire_partner s ok o.0 o.2 (Of g.lead 0) (Of g.other 0) (wire_alike s g.lead g.other 0 0 o.1 h.wire) in
-    aux (first_port (sym one ∙ two))
 
 module _ (s : Start) (ok : IsProper s) (e : Event) (all es : List Event) (sound : IsSound s es) (a : IsActive s es e) (more : Alike all (e ∷ es)) where
   -- the same in any order: what stays active

@@ -1,49 +1,49 @@
--- Active pairs as a set keeps them, the one with the greatest lead first.
-use Rattle.std.specs.Prelude.{◌≡◌, ◌≢◌, ℕ, ◌+◌, ◌≤◌, List, [], ◌∷◌, length, ◌⊎◌}
-use Rattle.std.specs.declared.cmp.Ordering.TheVariants.{Less}
-use Rattle.ic_name.specs.Names.{Name, name_cmp}
+-- The queue of the leads of a set's active pairs, and the agents that may lead new ones.
+use Rattle.std.specs.Prelude.{◌≡◌, ◌≢◌, ℕ, ◌≤◌, List, length, ◌⊎◌}
+use Rattle.ic_name.specs.Names.{Name}
 use Rattle.ic_name.specs.Events.{Event}
 use Rattle.ic_name.specs.declared.ids.AgentId.{AgentId}
+use Rattle.ic_name.specs.declared.kinds.Kind.{Kind}
 use Rattle.ic_name.specs.declared.ports.Port.TheVariants.{Of}
 use Rattle.ic_path.specs.Orders.{IsIn}
+use Rattle.ic_theory.specs.Born.{born_agents}
 use Rattle.ic_theory.specs.Wires.{IsWire}
 use Rattle.ic_theory.specs.Starts.{Start}
+use Rattle.ic_queue.specs.Queues.{Entry, IsLeast}
 use Rattle.ic_roster.specs.Rosters.{Member}
 use Rattle.ic_set.specs.declared.pairs.ActivePair.{ActivePair}
 use Rattle.ic_set.specs.Pairs.{IsPairOf}
 use Rattle.ic_set.specs.Views.{SetView, standing}
 
--- the name comes before that of the pair's lead
-abbrev pub IsUnder : List Member → Name → ActivePair → Type 0
-IsUnder ms n p = (m : Member) → IsIn m ms → m.id ≡ p.lead → name_cmp n m.name ≡ Less
+-- the entry of a pair's lead
+abbrev pub lead_of : Event → ActivePair → Entry
+lead_of e p = record { name = e.lead; id = p.lead }
 
--- the lead of the second pair comes before that of the first
-abbrev pub IsAbove : List Member → ActivePair → ActivePair → Type 0
-IsAbove ms p q = (m : Member) → IsIn m ms → m.id ≡ q.lead → IsUnder ms m.name p
+-- the agent of the entry leads an active pair
+abbrev pub Leads : SetView → Entry → Type 0
+Leads v x = (e : Event) × (p : ActivePair) × IsPairOf v e p × (e.lead ≡ x.name) × (p.lead ≡ x.id)
 
--- the leads' names fall
-abbrev pub AreFalling : List Member → List ActivePair → Type 0
-AreFalling ms [] = Unit {0}
-AreFalling ms (p ∷ ps) = ((q : ActivePair) → IsIn q ps → IsAbove ms p q) × AreFalling ms ps
+-- each lead of an active pair has an entry
+abbrev pub HasLeads : SetView → List Entry → Type 0
+HasLeads v entries = (e : Event) (p : ActivePair) → IsPairOf v e p → IsIn (lead_of e p) entries
 
--- the leads are there
-abbrev pub AreLed : List Member → List ActivePair → Type 0
-AreLed ms ps = (p : ActivePair) → IsIn p ps → (m : Member) × IsIn m ms × (m.id ≡ p.lead)
+-- the agent of the least entry leads an active pair
+abbrev pub FrontLeads : SetView → List Entry → Type 0
+FrontLeads v entries = (x : Entry) → IsLeast entries x → Leads v x
 
--- some of the active pairs, by lead
-pub record AreSome (v : SetView) (ps : List ActivePair) : Type 0 where
-  pub pairs : (p : ActivePair) → IsIn p ps → (e : Event) × IsPairOf v e p
-  pub falling : AreFalling v.agents ps
-
--- all of them, and with them each event has its place
-pub record KeepsPairs (v : SetView) (ps : List ActivePair) (capacity : ℕ) : Type 0 where
-  pub some : AreSome v ps
-  pub each : (e : Event) (p : ActivePair) → IsPairOf v e p → IsIn p ps
-  pub room : length ps + length v.events ≤ capacity
+-- the leads have their entries, the front is one of them, and there is room for an entry more for each event
+pub record KeepsQueue (v : SetView) (entries : List Entry) (space : ℕ) : Type 0 where
+  pub each : HasLeads v entries
+  pub front : FrontLeads v entries
+  pub room : length v.events ≤ space
 
 -- a wire leads from the agent's principal port to an auxiliary port of one of the event's agents
 abbrev pub IsNextTo : Start → List Event → Event → Name → Type 0
 IsNextTo s es e n = (m : Name) × (j : ℕ) × ((m ≡ e.lead) ⊎ (m ≡ e.other)) × (j ≢ 0) × IsWire s es (Of n 0) (Of m j)
+
+-- the agent may lead a new pair once the event is fired: it is one of its children, or next to its pair
+abbrev pub MayLead : SetView → Event → Name → Type 0
+MayLead v e n = ((k : Kind) × IsIn (n, k) (born_agents e)) ⊎ IsNextTo v.start (standing v) e n
 
 -- a wire leads from the port to the principal port of the agent under the id
 abbrev pub Reaches : SetView → Name → ℕ → AgentId → Type 0

@@ -120,7 +120,11 @@ impl<L: LinkStore> BareSet<L> {
 }
 
 /// The children of an event, by digit.
-fn children_for(alloc: Global, event: &Event, kinds: &[Kind]) -> Result<Vec<NewAgent>, AllocError>
+pub(crate) fn children_for(
+    alloc: Global,
+    event: &Event,
+    kinds: &[Kind],
+) -> Result<Vec<NewAgent>, AllocError>
     requires kinds { kinds.now ≡ born_kinds event.now.lead_kind event.now.other_kind }
     requires shallow { ¬ (IsDeep event.now) }
     ensures { IfOk result (λ children. agents_in children.items ≡ born_agents event.now) }

@@ -60,15 +60,14 @@ impl<L: LinkStore> StandingSet<L> {
         ensures absent { IfNone result ((e : AnEvent) → IsActive self.now.start (standing self.now) e → ⊥) }
     {
         self.lawful();
-        self.pairs.last().copied()
+        self.bare.pair_with(self.queue.least()?.id)
     }
 
     /// All active pairs, by lead.
     pub fn active(&self) -> Result<Vec<ActivePair>, AllocError>
         ensures { IfOk result (λ pairs. AreActivePairs self.now pairs.items) }
     {
-        self.lawful();
-        self.pairs.iter().rev().copied().collect(self.bare.alloc)
+        self.bare.active()
     }
 
     /// The standing events that an event of this active pair has as direct causes.

@@ -11,7 +11,7 @@ use ic_start::Start;
 use std::alloc::{AllocError, Global};
 use std::marker::Model;
 
-/// A standing set without its list of active pairs: its events, and the agents that they leave, each under its id, the
+/// A standing set without its queue of leads: its events, and the agents that they leave, each under its id, the
 /// links in a store, and the direct causes of each event.
 #[derive(Drop)]
 pub struct BareSet<L: LinkStore> {

@@ -7,15 +7,13 @@ ghost use Rattle.ic_set.specs.Changes.{Admits, IsSame, TakesOut};
 ghost use Rattle.ic_set.specs.Pairs.{IsPairOf};
 ghost use Rattle.ic_set.specs.Removal.{Stands, IsFree};
 
+use crate::leads::MAX_NEW_LEADS;
 use crate::pairs::ActivePair;
-use crate::queue::{put, put_all, take, take_all};
+use crate::queue::{drop_stale, put, put_all};
 use crate::set::StandingSet;
 use ic_link::LinkStore;
 use ic_name::{Event, EventId};
 use std::alloc::AllocError;
-
-/// At most so many pairs come with an event: one for each of its children, and one for each auxiliary port of its agents.
-const MAX_NEW_PAIRS: usize = 8;
 
 impl<L: LinkStore> StandingSet<L> {
     /// One event more, which is active, under an id with this line, which no standing event has: with it its children
@@ -35,16 +33,13 @@ impl<L: LinkStore> StandingSet<L> {
         ensures unchanged { OnErr result (IsSame self.old self.new) }
     {
         self.bare.lawful();
-        let beside = self.bare.beside(pair);
-        self.pairs
-            .reserve(self.bare.events().len() + 1 + MAX_NEW_PAIRS)?;
+        let names = self.bare.new_leads(event, pair)?;
+        self.queue
+            .reserve(self.bare.events().len() + 1 + MAX_NEW_LEADS)?;
         let id = self.bare.admit(event, pair, line)?;
         self.bare.lawful();
-        take(&mut self.pairs, self.bare.agents(), pair.lead);
-        put_all(&mut self.pairs, &self.bare, &beside);
-        if let Some(entry) = self.bare.events().get(id) {
-            put_all(&mut self.pairs, &self.bare, entry.born);
-        }
+        put_all(&mut self.queue, &self.bare, names);
+        drop_stale(&mut self.queue, &self.bare);
         Ok(id)
     }
 
@@ -55,20 +50,11 @@ impl<L: LinkStore> StandingSet<L> {
         ensures { TakesOut self.old id self.new }
     {
         self.bare.lawful();
-        let Some(entry) = self.bare.events().get(id) else {
+        let Some(lead) = self.bare.take_out(id) else {
             return;
         };
-        let Some(lead) = self.bare.agents().find(entry.event.lead()) else {
-            return;
-        };
-        let Some(other) = self.bare.agents().find(entry.event.other()) else {
-            return;
-        };
-        let pair = ActivePair { lead, other };
-        take_all(&mut self.pairs, self.bare.agents(), entry.born);
-        self.bare.take_out(id);
         self.bare.lawful();
-        take_all(&mut self.pairs, self.bare.agents(), &self.bare.beside(pair));
-        put(&mut self.pairs, self.bare.agents(), pair);
+        put(&mut self.queue, &self.bare, lead);
+        drop_stale(&mut self.queue, &self.bare);
     }
 }

@@ -8,6 +8,7 @@ pub mod changes;
 mod entering;
 mod joining;
 pub mod kinds;
+mod leads;
 pub mod nets;
 pub mod orders;
 pub mod pairs;

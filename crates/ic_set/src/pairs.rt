@@ -1,4 +1,4 @@
-ghost use Rattle.std.specs.Prelude.{◌≡◌, ◌≢◌, ◌⊎◌, ◌↔◌, IsTrue, IfSome, IfNone};
+ghost use Rattle.std.specs.Prelude.{◌≡◌, ◌≢◌, ◌⊎◌, ◌↔◌, IsTrue, IfSome, IfNone, IfOk};
 ghost use Rattle.ic_name.specs.declared.ids.AgentId.{AgentId as AnAgentId};
 ghost use Rattle.ic_name.specs.declared.ids.Spot.TheVariants.{Agent};
 ghost use Rattle.ic_name.specs.Events.{Event as AnEvent};
@@ -10,7 +10,7 @@ ghost use Rattle.ic_theory.specs.Active.{IsActive};
 ghost use Rattle.ic_theory.specs.Sets.{consumed_times};
 ghost use Rattle.ic_theory.specs.Wires.{IsWire};
 ghost use Rattle.ic_roster.specs.Rosters.{Member as AMember};
-ghost use Rattle.ic_set.specs.Pairs.{AreJoined, IsPairOf};
+ghost use Rattle.ic_set.specs.Pairs.{AreJoined, IsPairOf, AreActivePairs};
 ghost use Rattle.ic_set.specs.Queues.{Reaches, AreBeside};
 ghost use Rattle.ic_set.specs.Views.{standing};
 
@@ -18,6 +18,7 @@ use crate::bare::BareSet;
 use ic_link::{Far, LinkStore};
 use ic_name::{AgentId, AgentName, Event, Kind, Spot};
 use ic_roster::AgentEntry;
+use std::alloc::AllocError;
 use std::cmp::Ordering;
 
 /// An active pair: the ids of its two agents, of which the lead has the lesser name.
@@ -81,6 +82,23 @@ impl<L: LinkStore> BareSet<L> {
                 other: agent,
             }),
         }
+    }
+
+    /// All active pairs, by lead.
+    pub fn active(&self) -> Result<Vec<ActivePair>, AllocError>
+        ensures { IfOk result (λ pairs. AreActivePairs self.now pairs.items) }
+    {
+        self.lawful();
+        let mut pairs = Vec::new(self.alloc);
+        for agent in &self.agents.in_order(self.alloc)? {
+            let Some(pair) = self.pair_with(*agent) else {
+                continue;
+            };
+            if pair.lead == *agent {
+                pairs.push(pair)?;
+            }
+        }
+        Ok(pairs)
     }
 
     /// The agents whose principal ports wires lead to from the auxiliary ports of this pair's agents, in place of each that

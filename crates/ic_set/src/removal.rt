@@ -1,4 +1,4 @@
-ghost use Rattle.std.specs.Prelude.{◌≡◌, IfSome, IfNone};
+ghost use Rattle.std.specs.Prelude.{◌≡◌, Some, IfSome, IfNone};
 ghost use Rattle.ic_name.specs.declared.ids.EventId.{EventId as AnEventId};
 ghost use Rattle.ic_path.specs.Orders.{IsIn};
 ghost use Rattle.ic_roster.specs.Rosters.{Stander};
@@ -9,7 +9,7 @@ use crate::bare::BareSet;
 use crate::entering::remove_all;
 use ic_cause::canonical_cmp;
 use ic_link::LinkStore;
-use ic_name::EventId;
+use ic_name::{AgentName, EventId};
 use ic_roster::Standing;
 
 impl<L: LinkStore> BareSet<L> {
@@ -23,19 +23,21 @@ impl<L: LinkStore> BareSet<L> {
         least_of(&self.events, self.dependents.dependents(id))
     }
 
-    /// A standing event goes on which nothing depends: with it its children go, and its links. It takes no memory.
-    pub fn take_out(&mut self, id: EventId)
+    /// A standing event goes on which nothing depends: with it its children go, and its links. The name of its lead is
+    /// handed out. It takes no memory.
+    pub fn take_out(&mut self, id: EventId) -> Option<AgentName>
         requires standing { Stands self.old id }
         requires free { IsFree self.old id }
-        ensures { TakesOut self.old id self.new }
+        ensures out { TakesOut self.old id self.new }
+        ensures lead { (x : Stander) → IsIn x self.old.events → x.id ≡ id → result ≡ Some x.event.lead }
     {
         let Some(entry) = self.events.get(id) else {
-            return;
+            return None;
         };
         remove_all(&mut self.agents, entry.born);
         self.store.take_of(id);
         self.dependents.remove(id);
-        self.events.remove(id);
+        self.events.remove(id)
     }
 }
 

@@ -3,33 +3,33 @@ ghost use Rattle.ic_set.specs.Sets.{IsStandingSet};
 ghost use Rattle.ic_set.specs.Changes.{IsOver};
 
 use crate::bare::BareSet;
-use crate::pairs::ActivePair;
-use crate::queue::put_all;
+use crate::leads::names_of;
+use crate::queue::{drop_stale, put_all};
 use ic_link::LinkStore;
+use ic_queue::LeadQueue;
 use ic_roster::{Agents, Standing};
 use ic_start::Start;
 use std::alloc::{AllocError, Global};
 use std::marker::Model;
 
 /// The standing set of a bench over a start: its events, and the agents, the links and the causes that they leave, with
-/// its active pairs, by lead, the least last. There is room for one pair more for each event, which is active again
-/// once it goes.
+/// a queue of the leads of its active pairs. There is room for one lead more for each event, whose pair is active again
+/// once it goes. An entry of an agent that leads no pair any more goes when it comes to the front.
 #[derive(Drop)]
 pub struct StandingSet<L: LinkStore> {
     pub(crate) bare: BareSet<L>,
-    pub(crate) pairs: Vec<ActivePair>,
+    pub(crate) queue: LeadQueue,
 }
 
 impl<L: LinkStore> Model for StandingSet<L> {
-    ghost use Rattle.std.specs.Prelude.{vec_capacity};
-    ghost use Rattle.ic_set.specs.Queues.{KeepsPairs};
+    ghost use Rattle.ic_set.specs.Queues.{KeepsQueue};
     ghost use Rattle.ic_set.specs.Views.{SetView};
 
     ghost Value = { SetView };
 
     ghost view = { λ a. a.bare };
 
-    ghost invariant = { λ a. KeepsPairs a.bare a.pairs.items (vec_capacity a.pairs) };
+    ghost invariant = { λ a. KeepsQueue a.bare a.queue.entries a.queue.room };
 }
 
 impl<L: LinkStore> StandingSet<L> {
@@ -39,11 +39,13 @@ impl<L: LinkStore> StandingSet<L> {
     {
         let bare = BareSet::over(alloc, start)?;
         bare.lawful();
-        let mut leads = bare.agents().in_order(alloc)?;
-        leads.reverse();
-        let mut pairs = Vec::with_capacity(alloc, leads.len())?;
-        put_all(&mut pairs, &bare, &leads);
-        Ok(StandingSet { bare, pairs })
+        let ids = bare.agents().in_order(alloc)?;
+        let names = names_of(alloc, bare.agents(), &ids)?;
+        let mut queue = LeadQueue::new(alloc);
+        queue.reserve(names.len())?;
+        put_all(&mut queue, &bare, names);
+        drop_stale(&mut queue, &bare);
+        Ok(StandingSet { bare, queue })
     }
 
     /// What holds of every standing set, for whoever has to show it.

@@ -4,14 +4,14 @@ use Rattle.ic_journal.specs.Views.{BenchView}
 use Rattle.ic_name.specs.declared.lines.Line.{Line}
 use Rattle.ic_shared.specs.declared.receipts.Receipt.{Receipt}
 use Rattle.ic_shared.specs.Openings.{OpeningView}
-use Rattle.ic_shared.specs.Settles.{Settles, WrongAt}
+use Rattle.ic_shared.specs.Settles.{Settles, WrongAt, lengths}
 use Rattle.ic_shared.specs.Agrees.{Agrees, IsFalseAt, other_receipts}
 
 pub agrees : (opening : OpeningView) (passes seen : List (List Receipt)) (bench : BenchView) (lines : List Line) (base number : ℕ)
     → seen ≡ passes → length passes ≡ opening.passes → bench.start ≡ opening.start → lines ≡ opening.lines → base ≡ length lines
-    → bench.lines ≡ lines ++ drop (length lines) bench.lines → number ≡ length bench.lines
+    → bench.lines ≡ lines ++ drop (length lines) bench.lines → number ≡ length bench.lines → number ≡ base + lengths passes
     → Settles base (drop base bench.lines) seen → Agrees opening passes bench (number - base)
-agrees opening passes seen bench lines base number same count start is based parts all h =
+agrees opening passes seen bench lines base number same count start is based parts all sum h =
     let base_is : base ≡ length opening.lines = based ∙ ap length is in
     let whole : length bench.lines ≡ length lines + length (drop (length lines) bench.lines) = ap length parts ∙ length-append lines (drop (length lines) bench.lines) in
     let len : length lines ≡ length opening.lines = ap length is in record {
@@ -19,6 +19,7 @@ agrees opening passes seen bench lines base number same count start is based par
       start = start;
       opened = parts ∙ ap (λ (xs : List Line). xs ++ drop (length xs) bench.lines) is;
       added = omega arith;
+      counted = omega arith;
       settled = subst (λ (z : ℕ × List (List Receipt)). Settles z.0 (drop z.0 bench.lines) z.1) (λ i. (base_is i, same i)) h;
     }
 

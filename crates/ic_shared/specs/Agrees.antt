@@ -11,6 +11,7 @@ pub record Agrees (opening : OpeningView) (passes : List (List Receipt)) (bench 
   pub start : bench.start ≡ opening.start
   pub opened : bench.lines ≡ opening.lines ++ drop (length opening.lines) bench.lines
   pub added : length bench.lines ≡ length opening.lines + lines
+  pub counted : lines ≡ lengths passes
   pub settled : Settles (length opening.lines) (drop (length opening.lines) bench.lines) passes
 
 -- what is false at the number

@@ -192,3 +192,56 @@ fn side_by_side_with_rows(rt: HostRuntime) -> Result<(), Fail> {
     }
     Ok(())
 }
+
+/// What a table answers of three names, and of its rings.
+#[derive(Clone, Copy, PartialEq, Eq)]
+struct Seen {
+    degrees: [u8; 3],
+    fars: [Far; 3],
+    rings: u64,
+}
+
+impl Seen {
+    fn of(table: &PortTable, names: [u32; 3]) -> Seen {
+        let [a, b, c] = names;
+        let (a, b, c) = (Spot::Name(a), Spot::Name(b), Spot::Name(c));
+        Seen {
+            degrees: [table.degree(a), table.degree(b), table.degree(c)],
+            fars: [table.far(a), table.far(b), table.far(c)],
+            rings: table.rings(),
+        }
+    }
+}
+
+/// Whether memory is wanting for a link that finds room.
+fn is_refused(table: &mut PortTable, link: Link) -> Result<bool, Fail> {
+    if table.has_id(link.id) || !has_room(table, &link) {
+        return Err("room for the link".into());
+    }
+    Ok(table.add(link).is_err())
+}
+
+/// Puts in a link between two names. Where memory is wanting, the table answers as before, and takes it the next time.
+fn put_at_last(rt: &impl Abort, table: &mut PortTable, k: u32, a: u32, b: u32) -> Result<(), Fail> {
+    let added = link(k, 0, a, b);
+    let before = Seen::of(table, [0, a, b]);
+    if is_refused(table, added)? {
+        assert!(rt; !table.has_id(added.id));
+        assert!(rt; Seen::of(table, [0, a, b]) == before);
+        put(table, added)?;
+    }
+    assert!(rt; table.has_id(added.id));
+    Ok(())
+}
+
+#[test]
+fn a_refused_growth_leaves_the_list(rt: HostRuntime) -> Result<(), Fail> {
+    let mut table = PortTable::empty(rt.alloc());
+    for k in 0..100 {
+        put_at_last(&rt, &mut table, k, k, k + 1)?;
+        assert!(rt; table.far(Spot::Name(0)) == Far::End(Spot::Name(k + 1)));
+    }
+    put_at_last(&rt, &mut table, 100, 100, 0)?;
+    assert_eq!(rt; table.rings(), 1);
+    Ok(())
+}

@@ -7,7 +7,8 @@ use Rattle.ic_answer.specs.declared.refused.Refused.TheVariants as refused
 use Rattle.ic_answer.specs.Texts.{refusal_text}
 use Rattle.ic_answer.specs.Turns.{Turns}
 use Rattle.ic_answer.proofs.TurnSteps.{told, told_same, tells_memory, stays_for_memory}
-use Rattle.ic_answer.proofs.FiringReplies.{lead_unknown, other_unknown, proposed_found, fault_known, fires, fires_not_active, fires_deep, fires_full, tells_no_line}
+use Rattle.ic_reduce.proofs.BenchSteps.{fault_known}
+use Rattle.ic_answer.proofs.FiringReplies.{lead_unknown, other_unknown, proposed_found, fires, fires_not_active, fires_deep, fires_full, tells_no_line}
 use Rattle.ic_answer.proofs.changing.fire.Goals as goal
 
 pub returns-in_default : goal.returns-in_default

@@ -1,6 +1,6 @@
 use Rattle.std.proofs.Common.{ℕ, Vec, Global, codes, sym, ap, ◌∙◌}
-use Rattle.ic_answer.specs.Reduced.{end_text}
-use Rattle.ic_answer.proofs.FiredInTurn.{reduced_parts}
+use Rattle.ic_answer.specs.Ends.{end_text}
+use Rattle.ic_answer.proofs.ReducingReplies.{reduced_parts}
 use Rattle.ic_answer.proofs.reducing.end_text.Goals as goal
 
 pub returns-in_ok-format-in-Normal : goal.returns-in_ok-format-in-Normal

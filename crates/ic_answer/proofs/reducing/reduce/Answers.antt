@@ -1,4 +1,4 @@
-use Rattle.ic_answer.proofs.FiredInTurn.{reduces}
+use Rattle.ic_answer.proofs.ReducingReplies.{reduces}
 use Rattle.ic_answer.proofs.reducing.reduce.Goals as goal
 
 pub returns : goal.returns

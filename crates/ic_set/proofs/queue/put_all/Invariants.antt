@@ -1,17 +1,17 @@
-use Rattle.std.proofs.Common.{◌+◌, ◌≤◌, take, vec_len, vec_capacity}
+use Rattle.std.proofs.Common.{◌≡◌, ◌+◌, ◌≤◌, ◌++◌, length, vec_len}
 use Rattle.ic_name.specs.Events.{Event}
 use Rattle.ic_path.specs.Orders.{IsIn}
+use Rattle.ic_queue.specs.Queues.{Entry}
 use Rattle.ic_set.specs.declared.pairs.ActivePair.{ActivePair}
 use Rattle.ic_set.specs.Pairs.{IsPairOf}
-use Rattle.ic_set.specs.Queues.{AreSome}
+use Rattle.ic_set.specs.Queues.{lead_of}
 use Rattle.ic_set.proofs.queue.put_all.Given as goal
 
--- the pairs of before, and those that the agents so far lead
-abbrev pub invariant-loop-lead : goal.invariant-loop-lead
-invariant-loop-lead g l = record {
-  some : AreSome l.set l.pairs.items;
-  stay : (p : ActivePair) → IsIn p l.fn.pairs.items → IsIn p l.pairs.items;
-  led : (e : Event) (p : ActivePair) → IsPairOf l.set e p → IsIn p.lead (take l.lead-index l.leads) → IsIn p l.pairs.items;
-  len : vec_len l.pairs ≤ vec_len l.fn.pairs + l.lead-index;
-  capacity : vec_capacity l.fn.pairs ≤ vec_capacity l.pairs;
+-- the entries of before, and those of the names so far
+abbrev pub invariant-loop-name : goal.invariant-loop-name
+invariant-loop-name g l = record {
+  whole : l.yielded ++ l.name-iterator.rest.items ≡ l.fn.names.items;
+  stay : (x : Entry) → IsIn x l.fn.queue.entries → IsIn x l.queue.entries;
+  led : (e : Event) (p : ActivePair) → IsPairOf l.set e p → IsIn e.lead l.yielded → IsIn (lead_of e p) l.queue.entries;
+  room : l.fn.queue.room + length l.name-iterator.rest.items ≤ l.queue.room + vec_len l.fn.names;
 }

@@ -1,4 +1,5 @@
-use Rattle.std.proofs.Common.{length, refl, sym, ap, ◌∙◌}
+use Rattle.std.proofs.Common.{◌≡◌, ◌+◌, length, refl, sym, ap, ◌∙◌, arith}
+use Rattle.ic_shared.specs.Settles.{lengths}
 use Rattle.ic_shared.proofs.Agreeing.{agrees, false_at, put_back}
 use Rattle.ic_shared.proofs.settling.settle.Goals as goal
 
@@ -7,6 +8,11 @@ returns-in-Ok-clause-ok g c =
     let v = c.opening.view_is in
     let len = sym (ap length c.as_mut_slice.ensures.value) ∙ c.as_mut_slice.ensures.len in
     let items = ap (λ o. o.lines) v in
+    let total = c.audit.ensures.total in
+    let none = c.opening.invariant.1 in
+    let same = ap lengths c.as_mut_slice.ensures.value in
+    let kept = c.into_locked-bench.result.counted in
+    let number = c.lines-number.ensures in
     agrees c.args.opening c.args.passes.items c.as_slice-2.result.now c.into_locked-bench.result.bench c.as_slice.result.now c.into_locked-bench.result.base c.lines-number.result
     (c.as_slice-2.ensures.value ∙ put_back c.audit.new.passes c.args.passes.items c.args.passes.len (c.audit.ensures.passes ∙ c.as_mut_slice.ensures.value) len)
     (len ∙ sym c.len.ensures ∙ c.if-len-count.false ∙ ap (λ o. o.passes) v)
@@ -15,6 +21,7 @@ returns-in-Ok-clause-ok g c =
     (c.if-base-len.false ∙ c.len-2.ensures ∙ sym c.as_slice.ensures.len)
     c.in-None.ensures.none
     c.lines-number.ensures
+    (omega arith)
     c.in-Ok.ensures.ok
 
 pub returns-clause-err : goal.returns-clause-err

@@ -7,4 +7,4 @@ returns-clause-least c =
     let top = c.in_ok-lead.field-0.now in
     let there = front_there top _ (search rules) c.in_ok-lead.ensures.lookup in
     let bound = c.in_ok-lead.ensures.greatest c.self.invariant in
-    rw (← c.self.view_is) record { name = top.0.name; least = least_top top _ there bound }
+    rw (← c.self.view_is) (least_top top _ there bound)

@@ -23,9 +23,12 @@ invariant_of-self g c =
     let there = c.in-Some.ensures.found in
     kept_left v _ _ c.self.invariant _ there free _ _ _ _ (c.remove-2.ensures.gone _ there refl) c.remove_all.ensures c.take_of.ensures c.remove.ensures
 
-pub returns : goal.returns
-returns g c =
+pub returns-clause-out : goal.returns-clause-out
+returns-clause-out g c =
     let v : SetView = record { start = c.self.inside.start; agents = c.self.inside.agents; events = c.self.inside.events } in
     let free : IsFree v c.args.id = rw (← c.self.view_is) at c.requires.free in
     let there = c.in-Some.ensures.found in
     rw (← c.self.view_is) (takes_out v _ _ c.self.invariant _ there free _ _ _ _ (c.remove-2.ensures.gone _ there refl) c.remove_all.ensures c.take_of.ensures c.remove.ensures)
+
+pub returns-clause-lead : goal.returns-clause-lead
+returns-clause-lead g c = rw (← c.self.view_is) c.remove-2.ensures.lead

@@ -1,17 +1,16 @@
-use Rattle.std.proofs.Common.{◌-◌, length, ap, ◌∙◌}
-use Rattle.std.specs.List.{slice_get}
+use Rattle.ic_roster.proofs.StandingFacts.{if_none}
 use Rattle.ic_set.specs.Sets.{IsStandingSet}
-use Rattle.ic_set.proofs.KeptPairs.{last_found}
+use Rattle.ic_set.proofs.QueuedLeads.{found_least, none_led}
 use Rattle.ic_set.proofs.set.StandingSet.least_active.Goals as goal
 
-pub returns-clause-found : goal.returns-clause-found
-returns-clause-found g c =
+pub returns-in_err-least-clause-absent : goal.returns-in_err-least-clause-absent
+returns-in_err-least-clause-absent g c =
     let set : IsStandingSet c.self.inside.bare = rw c.self.view_is c.lawful.ensures in
-    let is = c.copied.ensures ∙ c.last.ensures.value ∙ ap (λ ps. slice_get ps (length ps - 1)) c.deref.ensures.value in
-    rw (← c.self.view_is) (last_found c.self.inside.bare set c.self.inside.pairs.items _ c.self.invariant c.copied.result is).0
+    rw (← c.self.view_is) (if_none _ _ (none_led c.self.inside.bare set c.self.inside.queue.entries c.in_err-least.ensures.none c.self.invariant.each))
 
-pub returns-clause-absent : goal.returns-clause-absent
-returns-clause-absent g c =
+pub returns : goal.returns
+returns g c =
     let set : IsStandingSet c.self.inside.bare = rw c.self.view_is c.lawful.ensures in
-    let is = c.copied.ensures ∙ c.last.ensures.value ∙ ap (λ ps. slice_get ps (length ps - 1)) c.deref.ensures.value in
-    rw (← c.self.view_is) (last_found c.self.inside.bare set c.self.inside.pairs.items _ c.self.invariant c.copied.result is).1
+    let i = c.self.invariant in
+    let r = found_least c.self.inside.bare set c.self.inside.queue.entries _ i.each i.front c.in_ok-least.ensures.least c.pair_with.result c.pair_with.ensures.found c.pair_with.ensures.absent in
+    rw (← c.self.view_is) record { found = r.0; absent = r.1 }

@@ -1,0 +1,34 @@
+-- Benches and the states that they are at, over one call.
+use Rattle.std.proofs.Common.{◌≡◌, ◌<◌, Result, Err, ap, arith, subst, ◌∙◌}
+use Rattle.ic_name.specs.Events.{Event}
+use Rattle.ic_name.specs.declared.ids.EventId.{EventId}
+use Rattle.ic_name.specs.declared.limits.TheConstants.{MAX_LINES}
+use Rattle.ic_name.specs.declared.lines.Call.{Call}
+use Rattle.ic_name.specs.declared.lines.Reply.{Reply}
+use Rattle.ic_path.proofs.Alikes.{alike_back, alike_then, alike-map}
+use Rattle.ic_theory.specs.Machine.{State}
+use Rattle.ic_theory.proofs.Machines.{history_length}
+use Rattle.ic_journal.specs.Views.{BenchView}
+use Rattle.ic_journal.specs.Benches.{fired_in, IsAt, IsBench}
+use Rattle.ic_journal.specs.Calls.{Steps, Stays, Fires}
+use Rattle.ic_journal.specs.declared.faults.FireFault.{FireFault}
+use Rattle.ic_journal.proofs.Answering.{length-noted}
+
+-- a bench that stays is at the same states
+pub still_at : (old new : BenchView) → Stays old new → (st : State) → IsAt old st → IsAt new st
+still_at old new stays st at = record {
+  history = rw (stays.same.start, stays.lines) at.history;
+  standing = alike_then (alike_back (alike-map fired_in stays.same.events)) at.standing;
+}
+
+-- a step is made only where the history has room
+pub line_left : (old new : BenchView) (call : Call) (answer : Reply) → IsBench new → Steps old call answer new → (st : State) → IsAt old st → st.lines < MAX_LINES
+line_left old new call answer bench steps st at =
+    let count = history_length at.history in
+    let more = length-noted old.lines _ steps.lines in
+    let short = bench.running.short in
+    omega (arith, count, more, short)
+
+-- what firing does, where the fault is known
+pub fault_known : (old new : BenchView) (e : Event) (result : Result EventId FireFault) (f known : FireFault) → result ≡ Err f → f ≡ known → Fires old e result new → Fires old e (Err known) new
+fault_known old new e result f known is same fires = subst (λ (r : Result EventId FireFault). Fires old e r new) (is ∙ ap (λ (g : FireFault). Err g) same) fires

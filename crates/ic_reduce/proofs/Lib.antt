@@ -1,0 +1,4 @@
+pub mod BenchSteps
+pub mod Continuing
+pub mod FiredInTurn
+pub mod LeastFired

@@ -1,0 +1,3 @@
+pub mod Reducing
+pub mod Continuing
+pub mod Reduced

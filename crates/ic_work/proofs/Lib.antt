@@ -1,0 +1,10 @@
+pub mod ReceiptLines
+pub mod SameStates
+pub mod HistoryParts
+pub mod FiringRuns
+pub mod Extending
+pub mod WorkersFired
+pub mod WholeSweeps
+pub mod Passes
+pub mod Crews
+pub mod Unused

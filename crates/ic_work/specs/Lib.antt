@@ -1,0 +1,4 @@
+pub mod Workers
+pub mod Firings
+pub mod Sweeps
+pub mod FiredByWorkers

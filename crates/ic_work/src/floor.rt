@@ -1,0 +1,17 @@
+use crossbeam_deque::Stealer;
+use ic_claim::Claims;
+use ic_journal::ActivePair;
+use ic_reduce::Gate;
+use ic_shared::Shared;
+use std::sync::ledger::Ledger;
+
+/// What all workers of a sweep share.
+#[derive(Drop)]
+pub(crate) struct Floor<'a, B: Ledger, G: Gate> {
+    pub shared: &'a Shared<B>,
+    pub claims: &'a Claims,
+    pub gate: &'a G,
+    /// The hints of all workers, each of whom steals from the others.
+    pub hints: &'a [Stealer<ActivePair>],
+    pub budget: u32,
+}

@@ -1,0 +1,4 @@
+mod benches;
+mod gates;
+mod random_nets;
+mod sweeps;
