@@ -11,6 +11,7 @@ mod unwinding;
 mod why;
 
 pub use answer::{Answer, carry_out};
+pub use reducing::end_text;
 pub use refused::Refused;
 
 #[cfg(test)]

@@ -22,8 +22,8 @@ pub(crate) fn reduce<L: LinkStore>(
     Ok(Answer::Text(end_text(alloc, fired, end)?))
 }
 
-/// What is told of it.
-fn end_text(alloc: Global, fired: u32, end: End) -> Result<Vec<u8>, AllocError>
+/// What is told of a reduction that fired so many events and ended so.
+pub fn end_text(alloc: Global, fired: u32, end: End) -> Result<Vec<u8>, AllocError>
     ensures { IfOk result (λ text. text.items ≡ end_text fired end) }
 {
     match end {

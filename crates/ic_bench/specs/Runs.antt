@@ -5,9 +5,9 @@ use Rattle.clap.specs.Words.{Text}
 use Rattle.clap.specs.declared.error.kind.ErrorKind.{ErrorKind}
 use Rattle.clap.specs.declared.error.kind.ErrorKind.TheVariants.{DisplayHelp, DisplayVersion, OutOfMemory}
 use Rattle.ic_lines.specs.Faults.{AppendsFront}
-use Rattle.ic_lines.specs.declared.piece.IoFault.{IoFault}
-use Rattle.ic_lines.specs.declared.piece.IoFault.TheVariants.{Write, Memory}
 use Rattle.ic_session.specs.Sessions.{IsBegun, Writes}
+use Rattle.ic_session.specs.declared.fault.Fault.{Fault}
+use Rattle.ic_session.specs.declared.fault.Fault.TheVariants.{Write, Memory}
 use Rattle.ic_session.specs.declared.session.Status.{Status}
 use Rattle.ic_bench.specs.CommandLine.{Choose, IsFaultOf}
 use Rattle.ic_bench.specs.Statuses.{fault_line, fault_status, session_status}
@@ -18,13 +18,13 @@ pub record Held : Type 0 where
   pub before : Option (List ℕ)
   pub after : Option (List ℕ)
 
--- A session over this input ends in a status: it wrote its text, or it broke off in a fault and said so. A writer that
+-- A session of so many workers over this input ends in a status: it wrote its text, or it broke off in a fault and said so. A writer that
 -- fails holds a front of what it was given.
-pub data RunsSession (budget : ℕ) (input : Option (List ℕ)) (output errors : Held) : ℕ → Type 0 where
-  ended : (status : Status) → IfSome input (λ bytes. Writes budget bytes status output.before output.after) → errors.after ≡ errors.before
-      → RunsSession budget input output errors (session_status status)
-  broken : (fault : IoFault) → IfSome input (λ bytes. (text : List ℕ) × IsBegun budget bytes text × Appends output.before output.after text)
-      → AppendsFront errors.before errors.after (fault_line fault) → RunsSession budget input output errors (fault_status fault)
+pub data RunsSession (workers budget : ℕ) (input : Option (List ℕ)) (output errors : Held) : ℕ → Type 0 where
+  ended : (status : Status) → IfSome input (λ bytes. Writes workers budget bytes status output.before output.after) → errors.after ≡ errors.before
+      → RunsSession workers budget input output errors (session_status status)
+  broken : (fault : Fault) → IfSome input (λ bytes. (text : List ℕ) × IsBegun workers budget bytes text × Appends output.before output.after text)
+      → AppendsFront errors.before errors.after (fault_line fault) → RunsSession workers budget input output errors (fault_status fault)
 
 -- the command line is wrong, and doesn't ask for a text
 abbrev pub IsMistake : ErrorKind → Type 0
@@ -41,5 +41,5 @@ pub data Explains (kind : ErrorKind) (output errors : Held) : ℕ → Type 0 whe
 
 -- A run ends in a status: the words have no fault and choose a session, or they have one that is explained.
 pub data Runs (words : List Text) (input : Option (List ℕ)) (output errors : Held) (status : ℕ) : Type 0 where
-  session : (options : Options) → Choose words options → RunsSession options.budget input output errors status → Runs words input output errors status
+  session : (options : Options) → Choose words options → RunsSession options.workers options.budget input output errors status → Runs words input output errors status
   explained : (kind : ErrorKind) → IsFaultOf words kind → Explains kind output errors status → Runs words input output errors status

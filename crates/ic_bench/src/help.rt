@@ -18,7 +18,7 @@ Commands:
   undo A B     undo the event of A and B, if no other rests on it
   why A B      tell the rank and the direct causes of an event
   unwind A B   undo an event and all that rests on it
-  reduce N     fire up to N active pairs, each time the one with the least name
+  reduce N     fire up to N active pairs, each time the one with the least name; in any order with several workers
   mark NAME    note which events stand
   back NAME    go back to the events that were noted
   journal      list the events that stand
@@ -43,4 +43,5 @@ Exit status:
   1    reading or writing failed
   2    the net was refused, and its first fault named
   3    there was no memory
+  4    workers disagree with the history
   64   the command line is wrong";

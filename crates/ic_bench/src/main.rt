@@ -20,6 +20,7 @@ fn main(rt: HostRuntime) -> ExitCode {
             let mut reader = rt.reader();
             let mut writer = io::writer(&rt);
             run_program(
+                &rt,
                 rt.alloc(),
                 words.as_slice(),
                 &mut reader,

@@ -17,7 +17,7 @@ pub const MAX_BUDGET: u32 = 1_048_576;
 /// What the command line chooses.
 #[derive(Clone, Copy, Debug, PartialEq, Eq)]
 pub struct Options {
-    /// The worker threads. A session has one today.
+    /// The workers of a `reduce`.
     pub workers: u8,
     /// The events that a `reduce` may fire.
     pub budget: u32,
@@ -60,7 +60,7 @@ fn workers_argument<'a>(alloc: Global) -> Arg<'a>
         .value_name("N")
         .value_parser(value_parser!(u8).range(1..=i64::from(MAX_WORKERS)))
         .action(ArgAction::Set)
-        .help("worker threads, 1 to 64; a session has one today [default: 1]")
+        .help("workers of a reduce, each on a thread of its own, 1 to 64 [default: 1]")
 }
 
 /// The option that says how much a `reduce` may fire.

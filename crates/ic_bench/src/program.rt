@@ -1,4 +1,4 @@
-ghost use Rattle.std.specs.Prelude.{◌≡◌, ◌≢◌, ℕ, List, IfSome, map};
+ghost use Rattle.std.specs.Prelude.{◌≡◌, ◌≢◌, ◌<◌, ◌≤◌, ℕ, List, IfSome, map};
 ghost use Rattle.std.specs.Io.KnownBytes.{Appends};
 ghost use Rattle.std.specs.IoError.{error_kind};
 ghost use Rattle.std.specs.declared.io.ErrorKind.TheVariants as io_kinds;
@@ -14,16 +14,19 @@ use crate::statuses::{
 };
 use clap::Error;
 use clap::error::ErrorKind;
-use ic_lines::{IoFault, write_reply};
-use ic_session::run_session;
+use ic_lines::write_reply;
+use ic_session::{Fault, run_session};
 use std::alloc::Global;
 use std::convert::AsStr;
 use std::io;
 use std::io::{Read, Write};
+use std::sync::Wait;
+use std::thread::Threads;
 
 /// Runs the program on the words of a command line, and answers its exit status. What is said of a fault goes to
 /// `errors`; where that fails too, the status stays.
-pub fn run_program<S: AsStr, R: Read, W: Write, E: Write>(
+pub fn run_program<S: AsStr, R: Read, W: Write, E: Write, T: Threads + Wait + Sync>(
+    threads: &T,
     alloc: Global,
     words: &[S],
     reader: &mut R,
@@ -35,22 +38,31 @@ pub fn run_program<S: AsStr, R: Read, W: Write, E: Write>(
     ensures unwritten { result ≡ USAGE → W.contents writer.new ≡ W.contents writer.old }
 {
     match read_options(alloc, words) {
-        Ok(options) => run(alloc, options, reader, writer, errors),
+        Ok(options) => run(threads, alloc, options, reader, writer, errors),
         Err(error) => explain(alloc, error, writer, errors),
     }
 }
 
 /// Runs a session.
-fn run<R: Read, W: Write, E: Write>(
+fn run<R: Read, W: Write, E: Write, T: Threads + Wait + Sync>(
+    threads: &T,
     alloc: Global,
     options: Options,
     reader: &mut R,
     writer: &mut W,
     errors: &mut E,
 ) -> u8
-    ensures { RunsSession options.budget (R.remaining reader.old) (record { before = W.contents writer.old; after = W.contents writer.new }) (record { before = E.contents errors.old; after = E.contents errors.new }) result }
+    requires { (0 < options.workers) × (options.workers ≤ 64) }
+    ensures { RunsSession options.workers options.budget (R.remaining reader.old) (record { before = W.contents writer.old; after = W.contents writer.new }) (record { before = E.contents errors.old; after = E.contents errors.new }) result }
 {
-    match run_session(alloc, reader, writer, options.budget) {
+    match run_session(
+        threads,
+        alloc,
+        reader,
+        writer,
+        options.workers,
+        options.budget,
+    ) {
         Ok(status) => session_status(status),
         Err(fault) => fail(fault, errors),
     }
@@ -61,10 +73,10 @@ fn explain<W: Write, E: Write>(alloc: Global, error: Error, writer: &mut W, erro
     ensures { Explains (kind_of error) (record { before = W.contents writer.old; after = W.contents writer.new }) (record { before = E.contents errors.old; after = E.contents errors.new }) result }
 {
     if error.kind() == ErrorKind::OutOfMemory {
-        return fail(IoFault::Memory, errors);
+        return fail(Fault::Memory, errors);
     }
     let Ok(text) = format!(in alloc; "{error}") else {
-        return fail(IoFault::Memory, errors);
+        return fail(Fault::Memory, errors);
     };
     if error.use_stderr() {
         let _ = write_reply(errors, text.as_bytes());
@@ -72,12 +84,12 @@ fn explain<W: Write, E: Write>(alloc: Global, error: Error, writer: &mut W, erro
     }
     match write_reply(writer, text.as_bytes()) {
         Ok(()) => ENDED,
-        Err(fault) => fail(fault, errors),
+        Err(fault) => fail(Fault::from(fault), errors),
     }
 }
 
 /// Says what failed, and answers its status.
-fn fail<E: Write>(fault: IoFault, errors: &mut E) -> u8
+fn fail<E: Write>(fault: Fault, errors: &mut E) -> u8
     ensures status { result ≡ fault_status fault }
     ensures said { AppendsFront (E.contents errors.old) (E.contents errors.new) (fault_line fault) }
 {
@@ -91,7 +103,7 @@ pub fn refuse_words<E: Write>(error: &io::Error, errors: &mut E) -> u8
     ensures other { error_kind error.now ≢ io_kinds.OutOfMemory → result ≡ USAGE }
 {
     if error.kind() == io::ErrorKind::OutOfMemory {
-        return fail(IoFault::Memory, errors);
+        return fail(Fault::Memory, errors);
     }
     let _ = write_reply(
         errors,

@@ -1,8 +1,7 @@
 ghost use Rattle.std.specs.Prelude.{◌≡◌};
 ghost use Rattle.ic_bench.specs.Statuses.{fault_line, fault_status, session_status};
 
-use ic_lines::IoFault;
-use ic_session::Status;
+use ic_session::{Fault, Status};
 
 /// The session ended, or the help was written.
 pub const ENDED: u8 = 0;
@@ -15,6 +14,9 @@ pub const NET_REFUSED: u8 = 2;
 
 /// There was no memory.
 pub const NO_MEMORY: u8 = 3;
+
+/// What workers say that they did isn't what the history says.
+pub const UNSETTLED: u8 = 4;
 
 /// The command line was refused.
 pub const USAGE: u8 = 64;
@@ -30,22 +32,24 @@ pub fn session_status(status: Status) -> u8
 }
 
 /// The exit status of a fault.
-pub fn fault_status(fault: IoFault) -> u8
+pub fn fault_status(fault: Fault) -> u8
     ensures { result ≡ fault_status fault }
 {
     match fault {
-        IoFault::Read | IoFault::Write => BROKEN,
-        IoFault::Memory => NO_MEMORY,
+        Fault::Read | Fault::Write => BROKEN,
+        Fault::Memory => NO_MEMORY,
+        Fault::Settle => UNSETTLED,
     }
 }
 
 /// What is said of a fault.
-pub fn fault_line(fault: IoFault) -> &'static str
+pub fn fault_line(fault: Fault) -> &'static str
     ensures { result.now ≡ fault_line fault }
 {
     match fault {
-        IoFault::Read => "icbench: read failed\n",
-        IoFault::Write => "icbench: write failed\n",
-        IoFault::Memory => "icbench: no memory\n",
+        Fault::Read => "icbench: read failed\n",
+        Fault::Write => "icbench: write failed\n",
+        Fault::Memory => "icbench: no memory\n",
+        Fault::Settle => "icbench: settle failed\n",
     }
 }

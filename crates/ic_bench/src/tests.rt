@@ -1,6 +1,9 @@
 use crate::program::{refuse_words, run_program};
+use std::alloc::Global;
 use std::io::{ErrorKind, Read, Write};
+use std::sync::Wait;
 use std::test::Fail;
+use std::thread::Threads;
 use std::{io, str};
 
 /// A reader that fails at once.
@@ -29,8 +32,9 @@ impl Write for Full {
 
 /// Whether the program, run on these words and this input, ends in this status and has then written these bytes to
 /// standard output and standard error.
-fn runs(
-    rt: &HostRuntime,
+fn runs<T: Threads + Wait + Sync>(
+    threads: &T,
+    alloc: Global,
     words: &[&str],
     input: &[u8],
     status: u8,
@@ -38,9 +42,9 @@ fn runs(
     errors: &[u8],
 ) -> bool {
     let mut reader = input;
-    let mut written = Vec::new(rt.alloc());
-    let mut said = Vec::new(rt.alloc());
-    let ended = run_program(rt.alloc(), words, &mut reader, &mut written, &mut said);
+    let mut written = Vec::new(alloc);
+    let mut said = Vec::new(alloc);
+    let ended = run_program(threads, alloc, words, &mut reader, &mut written, &mut said);
     ended == status && written.as_slice() == output && said.as_slice() == errors
 }
 
@@ -48,18 +52,29 @@ fn runs(
 fn a_session_with_no_options(rt: HostRuntime) {
     let input = b"G(x,a) = D(x,b);\n---\nactive\nfire 0 1\nwhy 0 1\nreduce 3\n";
     let output = b"active 1\n0 1\nfired 0 1\nwhy 0 1 rank 0 causes 0\nreduced 3 budget\n";
-    assert!(rt; runs(&rt, &["icbench"], input, 0, output, b""));
-    assert!(rt; runs(&rt, &["icbench", "--workers", "64"], input, 0, output, b""));
+    assert!(rt; runs(&rt, rt.alloc(), &["icbench"], input, 0, output, b""));
+    assert!(rt;
+        runs(
+            &rt,
+            rt.alloc(),
+            &["icbench", "--workers", "64"],
+            input,
+            0,
+            output,
+            b""
+        )
+    );
 }
 
 #[test]
 fn the_budget_caps_a_reduction(rt: HostRuntime) {
     let input = b"G(x,a) = D(x,b);\n---\nreduce 3\n";
     let one = ["icbench", "--budget", "1"];
-    assert!(rt; runs(&rt, &one, input, 0, b"reduced 1 budget\n", b""));
+    assert!(rt; runs(&rt, rt.alloc(), &one, input, 0, b"reduced 1 budget\n", b""));
     assert!(rt;
         runs(
             &rt,
+            rt.alloc(),
             &["icbench", "--budget=0"],
             input,
             0,
@@ -68,7 +83,7 @@ fn the_budget_caps_a_reduction(rt: HostRuntime) {
         )
     );
     let most = ["icbench", "--budget=1048576", "--workers=1"];
-    assert!(rt; runs(&rt, &most, input, 0, b"reduced 3 budget\n", b""));
+    assert!(rt; runs(&rt, rt.alloc(), &most, input, 0, b"reduced 3 budget\n", b""));
 }
 
 #[test]
@@ -76,6 +91,7 @@ fn a_net_that_is_refused(rt: HostRuntime) {
     assert!(rt;
         runs(
             &rt,
+            rt.alloc(),
             &["icbench"],
             b"G(a,b) = !;",
             2,
@@ -86,24 +102,44 @@ fn a_net_that_is_refused(rt: HostRuntime) {
 }
 
 /// Whether a command line is refused, with this on standard error.
-fn refuses(rt: &HostRuntime, words: &[&str], errors: &[u8]) -> bool {
-    runs(rt, words, b"E = E;\n---\nreduce 1\n", 64, b"", errors)
+fn refuses<T: Threads + Wait + Sync>(
+    threads: &T,
+    alloc: Global,
+    words: &[&str],
+    errors: &[u8],
+) -> bool {
+    runs(
+        threads,
+        alloc,
+        words,
+        b"E = E;\n---\nreduce 1\n",
+        64,
+        b"",
+        errors,
+    )
 }
 
 #[test]
 fn command_lines_that_are_refused(rt: HostRuntime) {
     let no_workers =
         b"error: invalid value '0' for '--workers <N>': 0 is not in 1..=64\n\nFor more information, try '--help'.\n";
-    assert!(rt; refuses(&rt, &["icbench", "--workers", "0"], no_workers));
+    assert!(rt; refuses(&rt, rt.alloc(), &["icbench", "--workers", "0"], no_workers));
     let many_workers =
         b"error: invalid value '65' for '--workers <N>': 65 is not in 1..=64\n\nFor more information, try '--help'.\n";
-    assert!(rt; refuses(&rt, &["icbench", "--workers", "65"], many_workers));
+    assert!(rt;
+        refuses(
+            &rt,
+            rt.alloc(),
+            &["icbench", "--workers", "65"],
+            many_workers
+        )
+    );
     let much =
         b"error: invalid value '1048577' for '--budget <N>': 1048577 is not in 0..=1048576\n\nFor more information, try '--help'.\n";
-    assert!(rt; refuses(&rt, &["icbench", "--budget", "1048577"], much));
+    assert!(rt; refuses(&rt, rt.alloc(), &["icbench", "--budget", "1048577"], much));
     let word =
         b"error: unexpected argument 'net' found\n\nUsage: icbench [OPTIONS]\n\nFor more information, try '--help'.\n";
-    assert!(rt; refuses(&rt, &["icbench", "net"], word));
+    assert!(rt; refuses(&rt, rt.alloc(), &["icbench", "net"], word));
 }
 
 #[test]
@@ -112,7 +148,7 @@ fn the_help_names_each_command(rt: HostRuntime) -> Result<(), Fail> {
     let mut help = Vec::new(rt.alloc());
     let mut said = Vec::new(rt.alloc());
     let words = ["icbench", "--help"];
-    let status = run_program(rt.alloc(), &words, &mut reader, &mut help, &mut said);
+    let status = run_program(&rt, rt.alloc(), &words, &mut reader, &mut help, &mut said);
     assert!(rt; status == 0 && said.is_empty());
     let text = str::from_utf8(help.as_slice())?;
     let names = [
@@ -141,11 +177,11 @@ fn readers_and_writers_that_fail(rt: HostRuntime) {
     let mut output = Vec::new(rt.alloc());
     let mut said = Vec::new(rt.alloc());
     let words = ["icbench"];
-    assert!(rt; run_program(rt.alloc(), &words, &mut Broken, &mut output, &mut said) == 1);
+    assert!(rt; run_program(&rt, rt.alloc(), &words, &mut Broken, &mut output, &mut said) == 1);
     assert!(rt; output.is_empty() && said.as_slice() == b"icbench: read failed\n".as_slice());
     said.clear();
     let mut reader = b"---\nnet\n".as_slice();
-    assert!(rt; run_program(rt.alloc(), &words, &mut reader, &mut Full, &mut said) == 1);
+    assert!(rt; run_program(&rt, rt.alloc(), &words, &mut reader, &mut Full, &mut said) == 1);
     assert!(rt; said.as_slice() == b"icbench: write failed\n".as_slice());
 }
 
@@ -153,10 +189,10 @@ fn readers_and_writers_that_fail(rt: HostRuntime) {
 fn a_standard_error_that_fails_changes_no_status(rt: HostRuntime) {
     let mut reader = b"---\nnet\n".as_slice();
     let words = ["icbench", "--help"];
-    assert!(rt; run_program(rt.alloc(), &words, &mut reader, &mut Full, &mut Full) == 1);
+    assert!(rt; run_program(&rt, rt.alloc(), &words, &mut reader, &mut Full, &mut Full) == 1);
     let mut output = Vec::new(rt.alloc());
     let wrong = ["icbench", "--workers"];
-    assert!(rt; run_program(rt.alloc(), &wrong, &mut reader, &mut output, &mut Full) == 64);
+    assert!(rt; run_program(&rt, rt.alloc(), &wrong, &mut reader, &mut output, &mut Full) == 64);
 }
 
 #[test]

@@ -4,3 +4,4 @@ pub mod WaysBack
 pub mod BackReplies
 pub mod Marks
 pub mod DeskTurns
+pub mod Sweeping

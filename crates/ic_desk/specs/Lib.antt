@@ -3,3 +3,4 @@ pub mod Backs
 pub mod Replies
 pub mod Views
 pub mod Places
+pub mod ManyWorkers

@@ -1,20 +1,30 @@
-ghost use Rattle.std.specs.Prelude.{◌≡◌, IfOk, MatchResult};
+ghost use Rattle.std.specs.Prelude.{◌≡◌, ◌<◌, ◌≤◌, IfOk, MatchResult};
 ghost use Rattle.ic_answer.specs.Texts.{answer_text};
+ghost use Rattle.ic_command.specs.declared.command.Command.TheVariants.{Reduce};
 ghost use Rattle.ic_command.specs.declared.request.Request.TheVariants as request;
+ghost use Rattle.ic_desk.specs.ManyWorkers.{TurnsWith};
 ghost use Rattle.ic_desk.specs.Views.{IsOver, Turns};
 
+use crate::fault::DeskFault;
 use crate::going_back::go_back;
 use crate::marking::mark_under;
 use crate::named_mark::NamedMark;
-use ic_answer::{Answer, carry_out};
+use ic_answer::{Answer, carry_out, end_text};
 use ic_command::{Command, Request};
-use ic_journal::{Bench, LinkStore};
+use ic_journal::{Bench, LinkStore, Store};
+use ic_reduce::{End, NoGate};
 use ic_start::Start;
+use ic_work::{SweepFault, sweep};
 use std::alloc::{AllocError, Global};
 use std::marker::Model;
+use std::sync::Wait;
+use std::thread::Threads;
 
 /// The marks of a desk, at most.
 pub const MAX_MARKS: usize = 256;
+
+/// The events that a sweep may fire, at most.
+pub const MAX_SWEPT: u32 = 1_048_576;
 
 /// A bench, and marks of what stood on it, to which it can go back, over a store of links.
 #[derive(Drop)]
@@ -61,6 +71,64 @@ impl<L: LinkStore> Desk<L> {
             ),
             Request::Mark(name) => Ok(mark_under(alloc, &self.bench, &mut self.marks, name)),
             Request::Back(name) => go_back(alloc, &mut self.bench, &self.marks, &name),
+        }
+    }
+}
+
+impl Desk<Store> {
+    /// Answers a request as `carry_out` does, but that a `reduce` by two workers or more, of 64 at most, is a sweep; the
+    /// desk comes back with the answer.
+    ///
+    /// `DeskFault::Memory` where there is no memory for the answer to what has changed the desk, and `DeskFault::Settle`
+    /// where the workers' receipts aren't what the history says; the desk is gone then.
+    pub fn carry_out_with<T: Threads + Wait + Sync>(
+        mut self,
+        threads: &T,
+        alloc: Global,
+        workers: u32,
+        request: Request,
+    ) -> Result<(Desk<Store>, Answer), DeskFault>
+        requires { (0 < workers) × (workers ≤ 64) }
+        ensures { IfOk result (λ r. TurnsWith workers self request (answer_text r.1) r.0) }
+    {
+        match request {
+            Request::Bench(Command::Reduce(most)) if 1 < workers && 0 < most && most <= MAX_SWEPT =>
+                { self.sweep(threads, alloc, workers, most) }
+            other => {
+                let answer = self.carry_out(alloc, other)?;
+                Ok((self, answer))
+            }
+        }
+    }
+
+    /// Reduces the net by a sweep of so many workers, 2 to 64 of them, of at most so many events, 1 to 1,048,576; the marks
+    /// stay. Where there is no memory for a sweep, the answer says so, and nothing has changed.
+    ///
+    /// `DeskFault::Memory` where there is no memory to tell how many events were fired, and `DeskFault::Settle` where
+    /// the workers' receipts aren't what the history says.
+    pub fn sweep<T: Threads + Wait + Sync>(
+        self,
+        threads: &T,
+        alloc: Global,
+        workers: u32,
+        most: u32,
+    ) -> Result<(Desk<Store>, Answer), DeskFault>
+        requires workers { (1 < workers) × (workers ≤ 64) }
+        requires most { (0 < most) × (most ≤ 1048576) }
+        ensures { IfOk result (λ r. TurnsWith workers self (request.Bench (Reduce most)) (answer_text r.1) r.0) }
+    {
+        let Desk { bench, marks } = self;
+        match sweep(threads, alloc, bench, workers, most, &NoGate) {
+            Ok(swept) => {
+                let text = end_text(alloc, swept.fired, swept.end)?;
+                let bench = swept.bench;
+                Ok((Desk { bench, marks }, Answer::Text(text)))
+            }
+            Err(SweepFault::Memory(bench)) => {
+                let text = end_text(alloc, 0, End::Memory)?;
+                Ok((Desk { bench, marks }, Answer::Text(text)))
+            }
+            Err(SweepFault::Settle(_)) => Err(DeskFault::Settle),
         }
     }
 }

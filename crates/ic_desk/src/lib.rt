@@ -2,12 +2,14 @@
 #![tactic(auto)]
 
 pub mod desk;
+pub mod fault;
 mod going_back;
 mod marking;
 mod named_mark;
 mod texts;
 
 pub use desk::{Desk, MAX_MARKS};
+pub use fault::DeskFault;
 
 #[cfg(test)]
 mod tests;

@@ -2,7 +2,10 @@ use crate::desk::Desk;
 use ic_command::request_of;
 use ic_journal::Store;
 use ic_text::read_net;
+use std::alloc::Global;
+use std::sync::Wait;
 use std::test::Fail;
+use std::thread::Threads;
 
 /// A desk over the net `G(x,a) = D(x,b);`.
 fn desk(rt: &HostRuntime) -> Result<Desk<Store>, Fail> {
@@ -91,5 +94,44 @@ fn refuses_more(rt: &HostRuntime, desk: &mut Desk<Store>) -> Result<bool, Fail> 
 fn marks_are_limited(rt: HostRuntime) -> Result<(), Fail> {
     let mut desk = desk(&rt)?;
     assert!(rt; refuses_more(&rt, &mut desk)?);
+    Ok(())
+}
+
+/// Lines that reduce a net of two agents, from which four events come, and go back, with what is answered to each.
+const REDUCED: [(&[u8], &[u8]); 4] = [
+    (b"mark m", b"marked m 0\n"),
+    (b"reduce 0", b"reduced 0 budget\n"),
+    (b"reduce 100", b"reduced 4 normal\n"),
+    (b"back m", b"back m undone 4 fired 0\n"),
+];
+
+/// Whether a desk with so many workers answers these lines so.
+fn reduces<T: Threads + Wait + Sync>(
+    threads: &T,
+    alloc: Global,
+    workers: u32,
+) -> Result<bool, Fail> {
+    if workers == 0 || workers > 64 {
+        return Err("1 to 64 workers".into());
+    }
+    let mut desk: Desk<Store> = Desk::over(alloc, read_net(alloc, b"G(E,a) = D(b,E);\n")?)?;
+    for (line, text) in REDUCED {
+        let request = request_of(alloc, line)?;
+        let Ok((after, answer)) = desk.carry_out_with(threads, alloc, workers, request) else {
+            return Err("an answer".into());
+        };
+        if answer.bytes() != text {
+            return Ok(false);
+        }
+        desk = after;
+    }
+    Ok(true)
+}
+
+#[test]
+fn workers_reduce_a_desk(rt: HostRuntime) -> Result<(), Fail> {
+    for workers in [1, 2, 8] {
+        assert!(rt; reduces(&rt, rt.alloc(), workers)?);
+    }
     Ok(())
 }

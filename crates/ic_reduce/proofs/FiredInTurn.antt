@@ -26,14 +26,14 @@ then_none {s} {n} {st} {next = next} h k = let same : n + 0 ≡ n = omega arith 
 -- so many were fired by now
 pub record HasFired (old : BenchView) (n : ℕ) (new : BenchView) : Type 0 where
   pub start : new.start ≡ old.start
-  pub continues : Continues old new
+  pub continues : Continues old n new
   pub fired : (st : State) → IsAt old st → (next : State) × AreFiredInTurn old.start n st next × IsAt new next
 
 -- one more is fired
 pub fired_more : (old mid new : BenchView) (n : ℕ) → HasFired old n mid → FiresLeast mid new → HasFired old (n + 1) new
 fired_more old mid new n h k = record {
   start = rw h.start at k.start;
-  continues = then_continues old mid new h.continues k.continues;
+  continues = then_continues old mid new n 1 h.continues k.continues;
   fired = λ st at. (
       let one = h.fired st at in
       let two = k.fired one.0 one.2 in
@@ -53,7 +53,7 @@ pub reduced_more : (old mid new : BenchView) (most n : ℕ) (end : End) → n < 
     → Reduces mid 1 0 end new → Reduces old most n end new
 reduced_more old mid new most n end few h k = record {
   start = rw h.start at k.start;
-  continues = then_continues old mid new h.continues k.continues;
+  continues = (let same : n + 0 ≡ n = omega arith in subst (λ c. Continues old c new) same (then_continues old mid new n 0 h.continues k.continues));
   reduced = λ st at. (
       let one = h.fired st at in
       let two = k.reduced one.0 one.2 in

@@ -148,24 +148,28 @@ pub all_fired : (old new : BenchView) (most n : ℕ) (p : ActivePair) → n ≡ 
     → IsLeastPair (set_of new) p → Reduces old most most Budget new
 all_fired old new most n p same h l = record {
   start = h.start;
-  continues = h.continues;
+  continues = all.continues;
   reduced = λ st at. (
-      let f = subst (λ k. HasFired old k new) same h in
-      let r = f.fired st at in
+      let r = all.fired st at in
       let active = (least_at new p l r.0 r.2).active in
       (r.0, (r.1, refl, (l.event, subst (λ s. IsActive s (events r.0) l.event) h.start active)), r.2)
       );
 }
+  where
+    all : HasFired old most new
+    all = subst (λ k. HasFired old k new) same h
 
 -- and then no pair is active
 pub all_fired_normal : (old new : BenchView) (most n : ℕ) → n ≡ most → HasFired old n new
     → ((e : Event) → IsActive new.start (standing (set_of new)) e → ⊥) → Reduces old most most Normal new
 all_fired_normal old new most n same h idle = record {
   start = h.start;
-  continues = h.continues;
+  continues = all.continues;
   reduced = λ st at. (
-      let f = subst (λ k. HasFired old k new) same h in
-      let r = f.fired st at in
+      let r = all.fired st at in
       (r.0, (r.1, omega arith, λ e a. normal_at new idle r.0 r.2 e (subst (λ s. IsActive s (events r.0) e) (sym h.start) a)), r.2)
       );
 }
+  where
+    all : HasFired old most new
+    all = subst (λ k. HasFired old k new) same h

@@ -21,13 +21,13 @@ IsReduced s st most n Memory next = AreFiredInTurn s n st next × (n < most)
 -- the same of a bench, whatever state it shows; each call is one to fire an event
 pub record Reduces (old : BenchView) (most n : ℕ) (end : End) (new : BenchView) : Type 0 where
   pub start : new.start ≡ old.start
-  pub continues : Continues old new
+  pub continues : Continues old n new
   pub reduced : (st : State) → IsAt old st → (next : State) × IsReduced old.start st most n end next × IsAt new next
 
 -- the active pair with the least lead was fired
 pub record FiresLeast (old new : BenchView) : Type 0 where
   pub start : new.start ≡ old.start
-  pub continues : Continues old new
+  pub continues : Continues old 1 new
   pub fired : (st : State) → IsAt old st → (next : State) × AreFiredInTurn old.start 1 st next × IsAt new next
 
 -- an event was fired, or none was, and this is why

@@ -16,87 +16,87 @@ use Rattle.ic_command.specs.declared.request.Request.{Request}
 use Rattle.ic_session.specs.InputLines.{lines}
 use Rattle.ic_command.specs.Requests.{within}
 use Rattle.ic_desk.specs.Desks.{State, initial}
-use Rattle.ic_desk.specs.Replies.{Replies}
-use Rattle.ic_desk.specs.Views.{DeskView, IsDeskAt, IsOver, Turns, note_of}
+use Rattle.ic_desk.specs.ManyWorkers.{RepliesWith, TurnsWith}
+use Rattle.ic_desk.specs.Views.{DeskView, IsDeskAt, IsOver, note_of}
 use Rattle.ic_session.specs.NextRequest.{TakesRequest}
 use Rattle.ic_session.specs.Sessions.{AreAnswers, AreBegun}
 use Rattle.ic_session.proofs.AnswerSteps.{Leads, leads_none, leads_more, leads_all, leads_begun, leads_first}
 
 -- what was answered so far leaves the desk in some state, and the lines of what is left unanswered; where the input is
 -- known
-abbrev pub HasAnswered : Start → ℕ → State → DeskView → Option (List ℕ) → Option (List ℕ) → Option (List ℕ) → Option (List ℕ) → Type 0
-HasAnswered s budget st v None now before after = Unit {0}
-HasAnswered s budget st v (Some xs) None before after = ⊥
-HasAnswered s budget st v (Some xs) (Some ys) before after =
-    (cur : State) × IsDeskAt v cur × (text : List ℕ) × Appends before after text × Leads s budget st cur (lines xs) (lines ys) text
+abbrev pub HasAnswered : Start → ℕ → ℕ → State → DeskView → Option (List ℕ) → Option (List ℕ) → Option (List ℕ) → Option (List ℕ) → Type 0
+HasAnswered s workers budget st v None now before after = Unit {0}
+HasAnswered s workers budget st v (Some xs) None before after = ⊥
+HasAnswered s workers budget st v (Some xs) (Some ys) before after =
+    (cur : State) × IsDeskAt v cur × (text : List ℕ) × Appends before after text × Leads s workers budget st cur (lines xs) (lines ys) text
 
 -- nothing was answered
-pub answered_none : (s : Start) (budget : ℕ) (st : State) (v : DeskView) (old before : Option (List ℕ)) → IsDeskAt v st
-    → HasAnswered s budget st v old old before before
-answered_none s budget st v None before a = tt
-answered_none s budget st v (Some xs) before a = (st, a, [], Appends-nil before, leads_none s budget st (lines xs))
+pub answered_none : (s : Start) (workers budget : ℕ) (st : State) (v : DeskView) (old before : Option (List ℕ)) → IsDeskAt v st
+    → HasAnswered s workers budget st v old old before before
+answered_none s workers budget st v None before a = tt
+answered_none s workers budget st v (Some xs) before a = (st, a, [], Appends-nil before, leads_none s workers budget st (lines xs))
 
 -- one command more was answered
-pub answered_more : (s : Start) (budget : ℕ) (st : State) (v w : DeskView) (old now next before then after : Option (List ℕ)) (o : Option Request) (c : Request) (text : List ℕ)
-    → v.bench.start ≡ s → HasAnswered s budget st v old now before then → o ≡ Some c → IfSome now (λ ys. TakesRequest o ys next) → Turns v (within budget c) text w → Appends then after text → HasAnswered s budget st w old next before after
-answered_more s budget st v w None now next before then after o c text i h e t r a = tt
-answered_more s budget st v w (Some xs) None next before then after o c text i h e t r a = absurd h
-answered_more s budget st v w (Some xs) (Some ys) next before then after o c text i h e t r a =
+pub answered_more : (s : Start) (workers budget : ℕ) (st : State) (v w : DeskView) (old now next before then after : Option (List ℕ)) (o : Option Request) (c : Request) (text : List ℕ)
+    → v.bench.start ≡ s → HasAnswered s workers budget st v old now before then → o ≡ Some c → IfSome now (λ ys. TakesRequest o ys next) → TurnsWith workers v (within budget c) text w → Appends then after text → HasAnswered s workers budget st w old next before after
+answered_more s workers budget st v w None now next before then after o c text i h e t r a = tt
+answered_more s workers budget st v w (Some xs) None next before then after o c text i h e t r a = absurd h
+answered_more s workers budget st v w (Some xs) (Some ys) next before then after o c text i h e t r a =
     let t' : TakesRequest (Some c) ys next = subst (λ p. TakesRequest p ys next) e t in
     let turn = r.replies h.0 h.1 in
-    let reply = subst (λ z. Replies z h.0 (within budget c) text turn.0) i turn.1 in
+    let reply = subst (λ z. RepliesWith workers z h.0 (within budget c) text turn.0) i turn.1 in
     rw t'.1 (
       turn.0,
       turn.2,
       h.2 ++ text,
       Appends-trans before then after h.2 text h.3 a,
-      leads_more s budget st h.0 turn.0 (lines xs) (lines ys) (lines (behind_line ys)) h.2 text h.4 (leads_first s budget h.0 turn.0 ys c text t'.0 reply),
+      leads_more s workers budget st h.0 turn.0 (lines xs) (lines ys) (lines (behind_line ys)) h.2 text h.4 (leads_first s workers budget h.0 turn.0 ys c text t'.0 reply),
     )
 
 -- all were answered
-pub answered_all : (s : Start) (budget : ℕ) (st : State) (v : DeskView) (old now next before after : Option (List ℕ)) (o : Option Request)
-    → HasAnswered s budget st v old now before after → o ≡ None → IfSome now (λ ys. TakesRequest o ys next) → IfSome old (λ xs. (text : List ℕ) × AreAnswers s budget st (lines xs) text × Appends before after text)
-answered_all s budget st v None now next before after o h e t = tt
-answered_all s budget st v (Some xs) None next before after o h e t = absurd h
-answered_all s budget st v (Some xs) (Some ys) next before after o h e t =
+pub answered_all : (s : Start) (workers budget : ℕ) (st : State) (v : DeskView) (old now next before after : Option (List ℕ)) (o : Option Request)
+    → HasAnswered s workers budget st v old now before after → o ≡ None → IfSome now (λ ys. TakesRequest o ys next) → IfSome old (λ xs. (text : List ℕ) × AreAnswers s workers budget st (lines xs) text × Appends before after text)
+answered_all s workers budget st v None now next before after o h e t = tt
+answered_all s workers budget st v (Some xs) None next before after o h e t = absurd h
+answered_all s workers budget st v (Some xs) (Some ys) next before after o h e t =
     let t' : ys ≡ [] = subst (λ p. TakesRequest p ys next) e t in
-    (h.2, leads_all s budget st h.0 (lines xs) h.2 (subst (λ zs. Leads s budget st h.0 (lines xs) (lines zs) h.2) t' h.4), h.3)
+    (h.2, leads_all s workers budget st h.0 (lines xs) h.2 (subst (λ zs. Leads s workers budget st h.0 (lines xs) (lines zs) h.2) t' h.4), h.3)
 
 -- the lines that are left could not be read: no more was written
-pub answered_begun : (s : Start) (budget : ℕ) (st : State) (v : DeskView) (old now before after : Option (List ℕ))
-    → HasAnswered s budget st v old now before after
-    → IfSome old (λ xs. (text : List ℕ) × AreBegun s budget st (lines xs) text × Appends before after text)
-answered_begun s budget st v None now before after h = tt
-answered_begun s budget st v (Some xs) None before after h = absurd h
-answered_begun s budget st v (Some xs) (Some ys) before after h = (h.2, leads_begun s budget st h.0 (lines xs) (lines ys) h.2 h.2 [] h.4 (sym (append-nil h.2)), h.3)
+pub answered_begun : (s : Start) (workers budget : ℕ) (st : State) (v : DeskView) (old now before after : Option (List ℕ))
+    → HasAnswered s workers budget st v old now before after
+    → IfSome old (λ xs. (text : List ℕ) × AreBegun s workers budget st (lines xs) text × Appends before after text)
+answered_begun s workers budget st v None now before after h = tt
+answered_begun s workers budget st v (Some xs) None before after h = absurd h
+answered_begun s workers budget st v (Some xs) (Some ys) before after h = (h.2, leads_begun s workers budget st h.0 (lines xs) (lines ys) h.2 h.2 [] h.4 (sym (append-nil h.2)), h.3)
 
 -- of the answer to one command more, a front was written
-pub answered_front : (s : Start) (budget : ℕ) (st : State) (v w : DeskView) (old now next before then after : Option (List ℕ)) (o : Option Request) (c : Request) (text : List ℕ)
-    → v.bench.start ≡ s → HasAnswered s budget st v old now before then → o ≡ Some c → IfSome now (λ ys. TakesRequest o ys next) → Turns v (within budget c) text w → AppendsFront then after text
-    → IfSome old (λ xs. (text : List ℕ) × AreBegun s budget st (lines xs) text × Appends before after text)
-answered_front s budget st v w None now next before then after o c text i h e t r a = tt
-answered_front s budget st v w (Some xs) None next before then after o c text i h e t r a = absurd h
-answered_front s budget st v w (Some xs) (Some ys) next before then after o c text i h e t r a =
+pub answered_front : (s : Start) (workers budget : ℕ) (st : State) (v w : DeskView) (old now next before then after : Option (List ℕ)) (o : Option Request) (c : Request) (text : List ℕ)
+    → v.bench.start ≡ s → HasAnswered s workers budget st v old now before then → o ≡ Some c → IfSome now (λ ys. TakesRequest o ys next) → TurnsWith workers v (within budget c) text w → AppendsFront then after text
+    → IfSome old (λ xs. (text : List ℕ) × AreBegun s workers budget st (lines xs) text × Appends before after text)
+answered_front s workers budget st v w None now next before then after o c text i h e t r a = tt
+answered_front s workers budget st v w (Some xs) None next before then after o c text i h e t r a = absurd h
+answered_front s workers budget st v w (Some xs) (Some ys) next before then after o c text i h e t r a =
     let t' : TakesRequest (Some c) ys next = subst (λ p. TakesRequest p ys next) e t in
     let turn = r.replies h.0 h.1 in
-    let reply = subst (λ z. Replies z h.0 (within budget c) text turn.0) i turn.1 in
-    let led = leads_more s budget st h.0 turn.0 (lines xs) (lines ys) (lines (behind_line ys)) h.2 text h.4 (leads_first s budget h.0 turn.0 ys c text t'.0 reply) in
+    let reply = subst (λ z. RepliesWith workers z h.0 (within budget c) text turn.0) i turn.1 in
+    let led = leads_more s workers budget st h.0 turn.0 (lines xs) (lines ys) (lines (behind_line ys)) h.2 text h.4 (leads_first s workers budget h.0 turn.0 ys c text t'.0 reply) in
     let parts = ap (λ zs. h.2 ++ zs) a.parts ∙ sym (append_assoc h.2 a.front a.behind) in
-    (h.2 ++ a.front, leads_begun s budget st turn.0 (lines xs) (lines (behind_line ys)) (h.2 ++ text) (h.2 ++ a.front) a.behind led parts, Appends-trans before then after h.2 a.front h.3 a.appended)
+    (h.2 ++ a.front, leads_begun s workers budget st turn.0 (lines xs) (lines (behind_line ys)) (h.2 ++ text) (h.2 ++ a.front) a.behind led parts, Appends-trans before then after h.2 a.front h.3 a.appended)
 
 -- whatever state the desk was in
-pub all_begun : (budget : ℕ) (old : Option (List ℕ)) (v : DeskView) (before after : Option (List ℕ))
-    → ((st : State) → IsDeskAt v st → IfSome old (λ xs. (text : List ℕ) × AreBegun v.bench.start budget st (lines xs) text × Appends before after text))
-    → IfSome old (λ xs. (st : State) → IsDeskAt v st → (text : List ℕ) × AreBegun v.bench.start budget st (lines xs) text × Appends before after text)
-all_begun budget None v before after h = tt
-all_begun budget (Some xs) v before after h = h
+pub all_begun : (workers budget : ℕ) (old : Option (List ℕ)) (v : DeskView) (before after : Option (List ℕ))
+    → ((st : State) → IsDeskAt v st → IfSome old (λ xs. (text : List ℕ) × AreBegun v.bench.start workers budget st (lines xs) text × Appends before after text))
+    → IfSome old (λ xs. (st : State) → IsDeskAt v st → (text : List ℕ) × AreBegun v.bench.start workers budget st (lines xs) text × Appends before after text)
+all_begun workers budget None v before after h = tt
+all_begun workers budget (Some xs) v before after h = h
 
 -- whatever state the desk was in
-pub all_answered : (budget : ℕ) (old : Option (List ℕ)) (v : DeskView) (before after : Option (List ℕ))
-    → ((st : State) → IsDeskAt v st → IfSome old (λ xs. (text : List ℕ) × AreAnswers v.bench.start budget st (lines xs) text × Appends before after text))
-    → IfSome old (λ xs. (st : State) → IsDeskAt v st → (text : List ℕ) × AreAnswers v.bench.start budget st (lines xs) text × Appends before after text)
-all_answered budget None v before after h = tt
-all_answered budget (Some xs) v before after h = h
+pub all_answered : (workers budget : ℕ) (old : Option (List ℕ)) (v : DeskView) (before after : Option (List ℕ))
+    → ((st : State) → IsDeskAt v st → IfSome old (λ xs. (text : List ℕ) × AreAnswers v.bench.start workers budget st (lines xs) text × Appends before after text))
+    → IfSome old (λ xs. (st : State) → IsDeskAt v st → (text : List ℕ) × AreAnswers v.bench.start workers budget st (lines xs) text × Appends before after text)
+all_answered workers budget None v before after h = tt
+all_answered workers budget (Some xs) v before after h = h
 
 -- a bench on which no call has been made
 opened_at : (s : Start) (v : BenchView) → Opens s v → IsAt v machine.initial
@@ -110,19 +110,19 @@ over_at : (s : Start) (v : DeskView) → IsOver s v → IsDeskAt v initial
 over_at s v o = record { bench = opened_at s v.bench o.bench; marks = subst (λ l. Alike (map note_of l) []) (sym o.marks) Orders.none }
 
 -- the answers of a desk of which nothing was asked
-pub opened_answers : (now : Option (List ℕ)) (s : Start) (budget : ℕ) (v : DeskView) (before after : Option (List ℕ))
+pub opened_answers : (now : Option (List ℕ)) (s : Start) (workers budget : ℕ) (v : DeskView) (before after : Option (List ℕ))
     → IsOver s v
-    → IfSome now (λ ys. (st : State) → IsDeskAt v st → (text : List ℕ) × AreAnswers v.bench.start budget st (lines ys) text × Appends before after text)
-    → IfSome now (λ ys. (text : List ℕ) × AreAnswers s budget initial (lines ys) text × Appends before after text)
-opened_answers None s budget v before after o h = tt
-opened_answers (Some ys) s budget v before after o h =
+    → IfSome now (λ ys. (st : State) → IsDeskAt v st → (text : List ℕ) × AreAnswers v.bench.start workers budget st (lines ys) text × Appends before after text)
+    → IfSome now (λ ys. (text : List ℕ) × AreAnswers s workers budget initial (lines ys) text × Appends before after text)
+opened_answers None s workers budget v before after o h = tt
+opened_answers (Some ys) s workers budget v before after o h =
     let a = h initial (over_at s v o) in
-    (a.0, subst (λ z. AreAnswers z budget initial (lines ys) a.0) o.bench.start a.1, a.2)
+    (a.0, subst (λ z. AreAnswers z workers budget initial (lines ys) a.0) o.bench.start a.1, a.2)
 
 -- what a desk began of which nothing was asked
-pub opened_begun : (now : Option (List ℕ)) (s : Start) (budget : ℕ) (v : DeskView) (before after : Option (List ℕ))
+pub opened_begun : (now : Option (List ℕ)) (s : Start) (workers budget : ℕ) (v : DeskView) (before after : Option (List ℕ))
     → IsOver s v
-    → IfSome now (λ ys. (st : State) → IsDeskAt v st → (text : List ℕ) × AreBegun v.bench.start budget st (lines ys) text × Appends before after text)
-    → IfSome now (λ ys. (text : List ℕ) × AreBegun s budget initial (lines ys) text × Appends before after text)
-opened_begun None s budget v before after o h = tt
-opened_begun (Some ys) s budget v before after o h = let a = h initial (over_at s v o) in (a.0, subst (λ z. AreBegun z budget initial (lines ys) a.0) o.bench.start a.1, a.2)
+    → IfSome now (λ ys. (st : State) → IsDeskAt v st → (text : List ℕ) × AreBegun v.bench.start workers budget st (lines ys) text × Appends before after text)
+    → IfSome now (λ ys. (text : List ℕ) × AreBegun s workers budget initial (lines ys) text × Appends before after text)
+opened_begun None s workers budget v before after o h = tt
+opened_begun (Some ys) s workers budget v before after o h = let a = h initial (over_at s v o) in (a.0, subst (λ z. AreBegun z workers budget initial (lines ys) a.0) o.bench.start a.1, a.2)

@@ -3,3 +3,4 @@ pub mod NetInput
 pub mod NextRequest
 pub mod Refusals
 pub mod Sessions
+pub mod Faults

@@ -9,26 +9,26 @@ use Rattle.ic_command.specs.declared.request.Request.{Request}
 use Rattle.ic_command.specs.Requests.{IsRequest, within}
 use Rattle.ic_session.specs.InputLines.{TextLine, lines, net_part, command_lines}
 use Rattle.ic_desk.specs.Desks.{State, initial}
-use Rattle.ic_desk.specs.Replies.{Replies}
+use Rattle.ic_desk.specs.ManyWorkers.{RepliesWith}
 use Rattle.ic_session.specs.Refusals.{refusal_line}
 use Rattle.ic_session.specs.declared.session.Status.{Status}
 use Rattle.ic_session.specs.declared.session.Status.TheVariants.{Ended, NetRefused}
 
--- the answers to lines, each from the state that those before it leave, in a session that fires at most so many events
--- at once
-pub data AreAnswers (s : Start) (budget : ℕ) : State → List TextLine → List ℕ → Type 0 where
-  none : {st : State} → AreAnswers s budget st [] []
+-- the answers to lines, each from the state that those before it leave, in a session of so many workers that fires at
+-- most so many events at once
+pub data AreAnswers (s : Start) (workers budget : ℕ) : State → List TextLine → List ℕ → Type 0 where
+  none : {st : State} → AreAnswers s workers budget st [] []
   more : {st next : State} {line : TextLine} {ls : List TextLine} {r : Request} {reply behind : List ℕ}
-      → IsRequest line.bytes r → Replies s st (within budget r) reply next → AreAnswers s budget next ls behind
-      → AreAnswers s budget st (line ∷ ls) (reply ++ behind)
+      → IsRequest line.bytes r → RepliesWith workers s st (within budget r) reply next → AreAnswers s workers budget next ls behind
+      → AreAnswers s workers budget st (line ∷ ls) (reply ++ behind)
 
 -- The net text denotes a start and has no fault, and the text answers the commands over a bench on which no call has
 -- been made, and of which nothing is marked.
-pub record AnswersCommands (budget : ℕ) (input text : List ℕ) : Type 0 where
+pub record AnswersCommands (workers budget : ℕ) (input text : List ℕ) : Type 0 where
   pub start : Start
   pub denoted : Denotes (net_part (lines input)) start
   pub faultless : (f : Refusal) → Stands (net_part (lines input)) f → ⊥
-  pub answers : AreAnswers start budget initial (command_lines (lines input)) text
+  pub answers : AreAnswers start workers budget initial (command_lines (lines input)) text
 
 -- The text names the first fault of the net text.
 pub record NamesFault (input text : List ℕ) : Type 0 where
@@ -36,29 +36,29 @@ pub record NamesFault (input text : List ℕ) : Type 0 where
   pub first : IsFirstFault (net_part (lines input)) fault
   pub named : text ≡ refusal_line fault
 
--- the text of a session of this budget with this input that ends so
-abbrev pub IsSessionText : ℕ → List ℕ → Status → List ℕ → Type 0
-IsSessionText budget input Ended text = AnswersCommands budget input text
-IsSessionText budget input NetRefused text = NamesFault input text
+-- the text of a session of so many workers and this budget with this input that ends so
+abbrev pub IsSessionText : ℕ → ℕ → List ℕ → Status → List ℕ → Type 0
+IsSessionText workers budget input Ended text = AnswersCommands workers budget input text
+IsSessionText workers budget input NetRefused text = NamesFault input text
 
 -- it was written
-abbrev pub Writes : ℕ → List ℕ → Status → Option (List ℕ) → Option (List ℕ) → Type 0
-Writes budget input status old new = (text : List ℕ) × IsSessionText budget input status text × Appends old new text
+abbrev pub Writes : ℕ → ℕ → List ℕ → Status → Option (List ℕ) → Option (List ℕ) → Type 0
+Writes workers budget input status old new = (text : List ℕ) × IsSessionText workers budget input status text × Appends old new text
 
 -- a front of the answers to the first of these lines
-pub record AreBegun (s : Start) (budget : ℕ) (st : State) (ls : List TextLine) (text : List ℕ) : Type 0 where
+pub record AreBegun (s : Start) (workers budget : ℕ) (st : State) (ls : List TextLine) (text : List ℕ) : Type 0 where
   pub answered : List TextLine
   pub others : List TextLine
   pub whole : List ℕ
   pub behind : List ℕ
   pub parts : ls ≡ answered ++ others
-  pub answers : AreAnswers s budget st answered whole
+  pub answers : AreAnswers s workers budget st answered whole
   pub front : whole ≡ text ++ behind
 
 -- What a session that ends in a fault has written: nothing, a front of the line that names the first fault of the net
 -- text, or a front of the answers to its first commands.
-pub data IsBegun (budget : ℕ) (input : List ℕ) : List ℕ → Type 0 where
-  nothing : IsBegun budget input []
-  naming : {text : List ℕ} (behind : List ℕ) → NamesFault input (text ++ behind) → IsBegun budget input text
+pub data IsBegun (workers budget : ℕ) (input : List ℕ) : List ℕ → Type 0 where
+  nothing : IsBegun workers budget input []
+  naming : {text : List ℕ} (behind : List ℕ) → NamesFault input (text ++ behind) → IsBegun workers budget input text
   answering : {s : Start} {text : List ℕ} → Denotes (net_part (lines input)) s → ((f : Refusal) → Stands (net_part (lines input)) f → ⊥)
-      → AreBegun s budget initial (command_lines (lines input)) text → IsBegun budget input text
+      → AreBegun s workers budget initial (command_lines (lines input)) text → IsBegun workers budget input text

@@ -17,7 +17,7 @@ fn a_bench_takes_as_many_agents_as_it_may(rt: HostRuntime) -> Result<(), Fail> {
     input.extend_from_slice(b"---\nreduce 65503\nreduce 1\nfire 0 1\n")?;
     let mut reader = input.as_slice();
     let mut writer = Vec::new(rt.alloc());
-    let ended = run_session(rt.alloc(), &mut reader, &mut writer, 1_048_576);
+    let ended = run_session(&rt, rt.alloc(), &mut reader, &mut writer, 1, 1_048_576);
     assert!(rt; ended == Ok(Status::Ended));
     assert_eq!(rt;
         writer.as_slice(),

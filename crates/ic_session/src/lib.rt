@@ -1,12 +1,14 @@
 // A session: a net as text, then commands, each of which is answered.
 #![tactic(auto)]
 
+pub mod fault;
 pub mod laws;
 pub mod net_input;
 pub mod refusal;
 pub mod session;
 
-pub use session::{Status, run_session, run_session_over};
+pub use fault::Fault;
+pub use session::{Status, run_session};
 
 #[cfg(test)]
 mod bench_tests;
@@ -26,3 +28,5 @@ mod step_tests;
 mod store_tests;
 #[cfg(test)]
 mod tests;
+#[cfg(test)]
+mod worker_tests;

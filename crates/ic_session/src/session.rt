@@ -2,27 +2,31 @@ ghost use Rattle.std.specs.Prelude.{◌≡◌, ◌≢◌, ◌<◌, ◌≤◌, �
 ghost use Rattle.std.specs.Io.KnownBytes.{Appends};
 ghost use Rattle.ic_lines.specs.Left.{left, work};
 ghost use Rattle.ic_lines.specs.Faults.{AppendsFront, IsReadFault};
-ghost use Rattle.ic_lines.specs.declared.piece.IoFault.TheVariants.{Read};
+ghost use Rattle.ic_lines.specs.declared.piece.IoFault.TheVariants as io_fault;
 ghost use Rattle.ic_session.specs.InputLines.{lines};
 ghost use Rattle.ic_desk.specs.Desks.{State};
 ghost use Rattle.ic_desk.specs.Views.{IsDeskAt};
 ghost use Rattle.ic_session.specs.Refusals.{refusal_line};
 ghost use Rattle.ic_session.specs.NextRequest.{TakesRequest};
 ghost use Rattle.ic_session.specs.Sessions.{AreAnswers, AreBegun, IsBegun, Writes};
+ghost use Rattle.ic_session.specs.declared.fault.Fault.TheVariants.{Read};
 ghost use Rattle.ic_session.specs.declared.session.Status.TheVariants.{NetRefused};
 
+use crate::fault::Fault;
 use crate::net_input::{NetInput, read_net_text};
 use crate::refusal::refusal_line;
 use ic_command::{Command, MAX_COMMAND, Request, request_of};
 use ic_desk::Desk;
 use ic_grammar::Refusal;
-use ic_journal::{LinkStore, Store};
+use ic_journal::Store;
 use ic_lines::{Input, IoFault, Piece, write_reply};
 use ic_text::{TextFault, read_net};
 use std::alloc::Global;
 use std::io::{Read, Write};
+use std::sync::Wait;
+use std::thread::Threads;
 
-/// The calls of `read` that a session makes, at most; after so many, it ends with `IoFault::Read`.
+/// The calls of `read` that a session makes, at most; after so many, it ends with `Fault::Read`.
 pub const MAX_READS: u32 = 1_073_741_824;
 
 /// How a session ended.
@@ -35,34 +39,22 @@ pub enum Status {
 }
 
 /// Runs a session: reads a net as text and commands, and writes an answer to each command. A `reduce` fires no more than
-/// the budget, whatever it asks for.
+/// the budget, whatever it asks for; with two workers or more, of 64 at most, it is a sweep by so many.
 ///
-/// `IoFault::Read` where the reader fails or `MAX_READS` calls were made, `IoFault::Write` where the writer fails, and
-/// `IoFault::Memory` where there is no memory. What was written by then is a front of what a session may write.
-pub fn run_session<R: Read, W: Write>(
+/// `Fault::Read` where the reader fails or `MAX_READS` calls were made, `Fault::Write` where the writer fails,
+/// `Fault::Memory` where there is no memory, and `Fault::Settle` where the workers of a sweep say that they did what the
+/// history doesn't say. What was written by then is a front of what a session may write.
+pub fn run_session<R: Read, W: Write, T: Threads + Wait + Sync>(
+    threads: &T,
     alloc: Global,
     reader: &mut R,
     writer: &mut W,
+    workers: u8,
     budget: u32,
-) -> Result<Status, IoFault>
-    ensures written { IfOk result (λ status. IfSome (R.remaining reader.old) (λ input. Writes budget input status (W.contents writer.old) (W.contents writer.new))) }
-    ensures begun { OnErr result (IfSome (R.remaining reader.old) (λ input. (text : List ℕ) × IsBegun budget input text × Appends (W.contents writer.old) (W.contents writer.new) text)) }
-{
-    run_session_over::<Store, R, W>(alloc, reader, writer, budget)
-}
-
-/// Runs a session over a store of links, as `run_session` does over the fast one: what is written is the same.
-///
-/// `IoFault::Read` where the reader fails or `MAX_READS` calls were made, `IoFault::Write` where the writer fails, and
-/// `IoFault::Memory` where there is no memory. What was written by then is a front of what a session may write.
-pub fn run_session_over<L: LinkStore, R: Read, W: Write>(
-    alloc: Global,
-    reader: &mut R,
-    writer: &mut W,
-    budget: u32,
-) -> Result<Status, IoFault>
-    ensures written { IfOk result (λ status. IfSome (R.remaining reader.old) (λ input. Writes budget input status (W.contents writer.old) (W.contents writer.new))) }
-    ensures begun { OnErr result (IfSome (R.remaining reader.old) (λ input. (text : List ℕ) × IsBegun budget input text × Appends (W.contents writer.old) (W.contents writer.new) text)) }
+) -> Result<Status, Fault>
+    requires { (0 < workers) × (workers ≤ 64) }
+    ensures written { IfOk result (λ status. IfSome (R.remaining reader.old) (λ input. Writes workers budget input status (W.contents writer.old) (W.contents writer.new))) }
+    ensures begun { OnErr result (IfSome (R.remaining reader.old) (λ input. (text : List ℕ) × IsBegun workers budget input text × Appends (W.contents writer.old) (W.contents writer.new) text)) }
 {
     let mut input = Input::new(alloc, MAX_READS)?;
     let text = match read_net_text(alloc, &mut input, reader)? {
@@ -71,16 +63,18 @@ pub fn run_session_over<L: LinkStore, R: Read, W: Write>(
     };
     let start = match read_net(alloc, &text) {
         Ok(start) => start,
-        Err(TextFault::Memory) => return Err(IoFault::Memory),
+        Err(TextFault::Memory) => return Err(Fault::Memory),
         Err(TextFault::Refused(refusal)) => return refuse(alloc, refusal, writer),
     };
-    let mut desk: Desk<L> = Desk::over(alloc, start)?;
-    answer_all(alloc, &mut desk, &mut input, reader, writer, budget)?;
+    let desk: Desk<Store> = Desk::over(alloc, start)?;
+    answer_all(
+        threads, alloc, desk, &mut input, reader, writer, workers, budget,
+    )?;
     Ok(Status::Ended)
 }
 
 /// Names the fault of a net text.
-fn refuse<W: Write>(alloc: Global, refusal: Refusal, writer: &mut W) -> Result<Status, IoFault>
+fn refuse<W: Write>(alloc: Global, refusal: Refusal, writer: &mut W) -> Result<Status, Fault>
     ensures named { IfOk result (λ status. (status ≡ NetRefused) × Appends (W.contents writer.old) (W.contents writer.new) (refusal_line refusal)) }
     ensures front { OnErr result (AppendsFront (W.contents writer.old) (W.contents writer.new) (refusal_line refusal)) }
     ensures fault { IfErr result (λ fault. fault ≢ Read) }
@@ -91,26 +85,36 @@ fn refuse<W: Write>(alloc: Global, refusal: Refusal, writer: &mut W) -> Result<S
 }
 
 /// Answers the lines that are left.
-fn answer_all<L: LinkStore, R: Read, W: Write>(
+fn answer_all<R: Read, W: Write, T: Threads + Wait + Sync>(
+    threads: &T,
     alloc: Global,
-    desk: &mut Desk<L>,
+    mut desk: Desk<Store>,
     input: &mut Input,
     reader: &mut R,
     writer: &mut W,
+    workers: u8,
     budget: u32,
-) -> Result<(), IoFault>
-    ensures answered { OnOk result (IfSome (left input.old (R.remaining reader.old)) (λ bytes. (st : State) → IsDeskAt desk.old st →
-        (text : List ℕ) × AreAnswers desk.old.bench.start budget st (lines bytes) text × Appends (W.contents writer.old) (W.contents writer.new) text)) }
-    ensures begun { OnErr result (IfSome (left input.old (R.remaining reader.old)) (λ bytes. (st : State) → IsDeskAt desk.old st →
-        (text : List ℕ) × AreBegun desk.old.bench.start budget st (lines bytes) text × Appends (W.contents writer.old) (W.contents writer.new) text)) }
-    ensures fault { IfErr result (λ fault. fault ≡ Read → IsReadFault input.old.reads input.new.reads Read) }
+) -> Result<(), Fault>
+    requires { (0 < workers) × (workers ≤ 64) }
+    ensures answered { OnOk result (IfSome (left input.old (R.remaining reader.old)) (λ bytes. (st : State) → IsDeskAt desk st →
+        (text : List ℕ) × AreAnswers desk.bench.start workers budget st (lines bytes) text × Appends (W.contents writer.old) (W.contents writer.new) text)) }
+    ensures begun { OnErr result (IfSome (left input.old (R.remaining reader.old)) (λ bytes. (st : State) → IsDeskAt desk st →
+        (text : List ℕ) × AreBegun desk.bench.start workers budget st (lines bytes) text × Appends (W.contents writer.old) (W.contents writer.new) text)) }
+    ensures fault { IfErr result (λ fault. fault ≡ Read → IsReadFault input.old.reads input.new.reads io_fault.Read) }
 {
     let mut line = Vec::new(alloc);
     loop {
         match next_request(alloc, input, reader, &mut line)? {
             Some(request) => {
-                let reply = desk.carry_out(alloc, request.within(budget))?;
-                write_reply(writer, reply.bytes())?;
+                let asked = request.within(budget);
+                let (after, answer) = desk.carry_out_with(
+                    threads,
+                    alloc,
+                    u32::from(workers),
+                    asked,
+                )?;
+                desk = after;
+                write_reply(writer, answer.bytes())?;
             }
             None => return Ok(()),
         }

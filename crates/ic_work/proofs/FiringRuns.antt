@@ -12,7 +12,7 @@ use Rattle.ic_path.proofs.Picks.{in_first, in_more, pick_behind}
 use Rattle.ic_theory.specs.Starts.{Start}
 use Rattle.ic_theory.specs.Machine.{State, events, Answers}
 use Rattle.ic_theory.specs.Machine as machine
-use Rattle.ic_reduce.specs.Continuing.{IsFire}
+use Rattle.ic_reduce.specs.Continuing.{IsFire, fired_by, fired_lines}
 use Rattle.ic_reduce.specs.Reducing.{AreFiredInTurn}
 use Rattle.ic_reduce.specs.Reducing as turn
 use Rattle.ic_work.specs.Firings.{AreFirings, none, fired, refused}
@@ -28,6 +28,11 @@ pub record Adds (n : ℕ) (st next : State) : Type 0 where
 -- no event more
 adds_none : (st : State) → Adds 0 st st
 adds_none st = record { fresh = []; count = refl; events = alike_self (events st) }
+
+-- an answer that isn't Fired counts for no event
+no_event : (r : Reply) → r ≢ reply.Fired → fired_by r ≡ 0
+no_event reply.Fired n = absurd (n refl)
+no_event r n = refl
 
 module _ {s : Start} where
   -- a firing that says so adds its event
@@ -55,6 +60,12 @@ module _ {s : Start} where
   pub turns_add : {n : ℕ} {st next : State} → AreFiredInTurn s n st next → Adds n st next
   turns_add (turn.none {st = st}) = adds_none st
   turns_add (turn.more least few a h) = fired_adds a (turns_add h)
+
+  -- as many events are fired as lines say Fired
+  pub count_fired : {lines : List Line} {n : ℕ} {st next : State} → AreFirings s lines n st next → fired_lines lines ≡ n
+  count_fired none = refl
+  count_fired (fired few a h) = let ih = count_fired h in omega arith
+  count_fired (refused {r = r} few n a h) = let ih = count_fired h in let e = no_event r n in omega arith
 
   -- no more events are fired than there are lines
   pub few_fired : {lines : List Line} {n : ℕ} {st next : State} → AreFirings s lines n st next → n ≤ length lines

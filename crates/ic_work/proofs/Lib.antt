@@ -3,6 +3,7 @@ pub mod SameStates
 pub mod HistoryParts
 pub mod FiringRuns
 pub mod Extending
+pub mod FiredByWorkers
 pub mod WorkersFired
 pub mod WholeSweeps
 pub mod Passes

@@ -20,7 +20,7 @@ use Rattle.ic_reduce.specs.Reduced.{IsReduced, Reduces}
 use Rattle.ic_reduce.specs.Reducing.{AreFiredInTurn, IsLeastActive}
 use Rattle.ic_reduce.specs.Reducing as turn
 use Rattle.ic_reduce.proofs.Continuing.{then_continues}
-use Rattle.ic_work.specs.FiredByWorkers.{FiredByWorkers}
+use Rattle.ic_work.proofs.FiredByWorkers.{FiredByWorkers}
 use Rattle.ic_work.specs.Sweeps.{MeetsLimit, Ends, Sweeps}
 use Rattle.ic_work.proofs.Extending.{extends, then_extends}
 use Rattle.ic_work.proofs.FiringRuns.{Adds, turns_add}
@@ -73,22 +73,22 @@ pub sweeps : (old mid new : BenchView) (budget by_workers left by_one : ℕ) (en
 sweeps old mid new budget by_workers left by_one end bench bench' fired shared rest = record {
   start = rest.start ∙ fired.start;
   extends = then_extends old mid new by_workers by_one fired.extends (extends mid new bench.running.at last.2 (reduced_adds mid.start bench.running.state last.0 left by_one end last.1));
-  continues = then_continues old mid new fired.continues rest.continues;
+  continues = then_continues old mid new by_workers by_one fired.continues rest.continues;
   within = (let few = reduced_few mid.start bench.running.state last.0 left by_one end last.1 in omega arith);
   ends = ends;
   whole = λ is es sound. normal_part new.start bench'.set.proper sound bench'.set.sound (subst (λ x. Ends new budget (by_workers + by_one) x) is ends);
   swept = λ st at. (
       let one = fired.fired st at in
-      let two = rest.reduced one.1 one.3 in (
+      let two = rest.reduced one.0 one.2 in (
         two.0,
         record {
-          lines = one.0;
+          lines = fired.continues.added;
           by_workers = by_workers;
           left = left;
           by_one = by_one;
-          mid = one.1;
-          firings = one.2;
-          rest = subst (λ s. IsReduced s one.1 left by_one end two.0) fired.start two.1;
+          mid = one.0;
+          firings = one.1;
+          rest = subst (λ s. IsReduced s one.0 left by_one end two.0) fired.start two.1;
           shared_out = shared;
           together = refl;
         },

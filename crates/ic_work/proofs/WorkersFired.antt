@@ -16,12 +16,12 @@ use Rattle.ic_shared.specs.declared.receipts.Receipt.{Receipt}
 use Rattle.ic_shared.specs.Agrees.{Agrees}
 use Rattle.ic_shared.specs.Openings.{OpeningView, opened}
 use Rattle.ic_shared.specs.Settles.{lengths}
-use Rattle.ic_work.specs.FiredByWorkers.{FiredByWorkers}
+use Rattle.ic_work.proofs.FiredByWorkers.{FiredByWorkers}
 use Rattle.ic_work.specs.Firings.{AreFirings}
 use Rattle.ic_work.specs.Sweeps.{Extends}
 use Rattle.ic_work.specs.Workers.{AreFires, IsFirst}
 use Rattle.ic_work.proofs.Extending.{extends, extends_count}
-use Rattle.ic_work.proofs.FiringRuns.{firings_add, few_fired, are_firings}
+use Rattle.ic_work.proofs.FiringRuns.{firings_add, few_fired, count_fired, are_firings}
 use Rattle.ic_work.proofs.HistoryParts.{same_history, history_parts, history_on, carried, one_state}
 use Rattle.ic_work.proofs.ReceiptLines.{lines_fire}
 use Rattle.ic_work.proofs.SameStates.{AreSame}
@@ -58,7 +58,12 @@ pub workers_fired : (old new : BenchView) (budget n lines : ℕ) (passes : List 
     → FiredByWorkers old budget (length new.events - length old.events) new
 workers_fired old new budget n lines passes bench bench' agrees all few = record {
   start = agrees.start;
-  continues = record { added = added; lines = agrees.opened; fires = fires };
+  continues = record {
+    added = added;
+    lines = agrees.opened;
+    fires = fires;
+    count = (let at = bench.running.at in count_fired (from bench.running.state at).firings ∙ counted bench.running.state at);
+  };
   extends = (let x = from bench.running.state bench.running.at in subst (λ c. Extends old c new) (counted _ bench.running.at) (extends_from _ bench.running.at));
   within = (
       let at = bench.running.at in
@@ -69,7 +74,7 @@ workers_fired old new budget n lines passes bench bench' agrees all few = record
       let b = agrees.counted in
       let l : length new.lines ≡ length old.lines + length added = ap length agrees.opened ∙ length-append old.lines added in
       omega arith);
-  fired = λ st at. (let x = from st at in (added, x.next, subst (λ c. AreFirings old.start added c st x.next) (counted st at) x.firings, x.at));
+  fired = λ st at. (let x = from st at in (x.next, subst (λ c. AreFirings old.start added c st x.next) (counted st at) x.firings, x.at));
 }
   where
     added : List Line

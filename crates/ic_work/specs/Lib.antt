@@ -1,4 +1,3 @@
 pub mod Workers
 pub mod Firings
 pub mod Sweeps
-pub mod FiredByWorkers

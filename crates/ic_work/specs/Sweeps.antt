@@ -64,7 +64,7 @@ HasAll v = (es : List Event) → IsSound v.start es → Includes (standing (set_
 pub record Sweeps (old : BenchView) (budget fired : ℕ) (end : End) (new : BenchView) : Type 0 where
   pub start : new.start ≡ old.start
   pub extends : Extends old fired new
-  pub continues : Continues old new
+  pub continues : Continues old fired new
   pub within : fired ≤ budget
   pub ends : Ends new budget fired end
   pub whole : end ≡ Normal → HasAll new

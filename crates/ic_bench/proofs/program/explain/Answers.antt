@@ -2,7 +2,7 @@ use Rattle.std.proofs.Common.{◌≡◌, ◌≢◌, rules, refl}
 use Rattle.clap.specs.Words.{kind_of}
 use Rattle.clap.specs.declared.error.kind.ErrorKind.TheVariants.{OutOfMemory}
 use Rattle.ic_lines.specs.Faults.{AppendsFront}
-use Rattle.ic_lines.specs.declared.piece.IoFault.TheVariants.{Write}
+use Rattle.ic_session.specs.declared.fault.Fault.TheVariants.{Write}
 use Rattle.ic_bench.specs.Runs.{IsMistake}
 use Rattle.ic_bench.specs.Runs.Explains.{helped, unheard, wanting, refused}
 use Rattle.ic_bench.specs.Statuses.{fault_line, fault_status}

@@ -1,5 +1,5 @@
 use Rattle.std.proofs.Common.{◌≡◌, ◌-◌, length, sym, subst, arith}
-use Rattle.ic_work.specs.FiredByWorkers.{FiredByWorkers}
+use Rattle.ic_work.proofs.FiredByWorkers.{FiredByWorkers}
 use Rattle.ic_work.specs.Sweeps.{Sweeps}
 use Rattle.ic_work.proofs.Extending.{extends_count}
 use Rattle.ic_work.proofs.WholeSweeps.{sweeps}

@@ -1,0 +1,16 @@
+use std::alloc::AllocError;
+
+/// Why a request has no answer. The desk is gone then.
+#[derive(Clone, Copy, Debug, PartialEq, Eq)]
+pub enum DeskFault {
+    /// There is no memory for the answer to what has changed the desk.
+    Memory,
+    /// What the workers of a sweep say that they did isn't what the history says.
+    Settle,
+}
+
+impl From<AllocError> for DeskFault {
+    fn from(_error: AllocError) -> DeskFault {
+        DeskFault::Memory
+    }
+}
