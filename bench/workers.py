@@ -2,37 +2,46 @@
 """Times a reduction by one worker, by two and by four: python3 bench/workers.py [PROGRAM [KIND..]].
 
 Prints, for each kind of net and each number of workers, how many events are fired, the seconds that the reduction takes,
-and how much longer that is than with one worker. Seconds are those of a session less those of one that only reads the
-net, the least of five runs each.
+how much longer that is than with one worker, and which share of the workers' instructions is made under the lock of the
+bench. Seconds are those of a session less those of one that only reads the net, the least of five runs each. The share
+is counted by valgrind, with two workers, on a smaller net: it is that of the calls into the crates of the bench, so that
+what the compiler put into the worker's own code isn't in it.
 
-erasures, annihilations, commutations: independent pairs, from which no other comes
+erasures, annihilations: independent pairs, from which no other comes
+commutations: independent pairs, of whose children some are active then; just the first pairs' number is fired
 copies: independent nets of nine events, of which one makes the next active
 """
 
+import pathlib
+import re
+import shutil
 import subprocess
 import sys
+import tempfile
 import time
 
 from reduce import COPY, COPY_EVENTS, PROGRAM, erasers, self_wired
 
 RUNS = 5
 WORKERS = (1, 2, 4)
-PAIRS = 32_767
-COPIES = 5_000
 KINDS = {
-    "erasures": lambda: (erasers(PAIRS), PAIRS),
-    "annihilations": lambda: (self_wired(PAIRS, "G", "G"), PAIRS),
-    "commutations": lambda: (self_wired(PAIRS, "G", "D"), PAIRS),
-    "copies": lambda: (COPY * COPIES, len(COPY_EVENTS) * COPIES),
+    "erasures": (lambda pairs: (erasers(pairs), pairs), 32_767),
+    "annihilations": (lambda pairs: (self_wired(pairs, "G", "G"), pairs), 32_767),
+    "commutations": (lambda pairs: (self_wired(pairs, "G", "D"), pairs), 32_767),
+    "copies": (lambda count: (COPY * count, len(COPY_EVENTS) * count), 5_000),
 }
+# A net is so much smaller where instructions are counted.
+SMALLER = 16
+CALL = re.compile(r"^\s*([\d,]+) \([^)]*\)\s+([*>])\s+\S*?:(\S+)")
+UNDER_LOCK = re.compile(r"ic_(set|table|journal|cause|queue|roster)::|std_collections::btree")
 
 
 def run(command, text, want):
-    """Seconds of a session, which answers this."""
+    """Seconds of a session, whose answer begins so."""
     begun = time.perf_counter()
     ran = subprocess.run(command, input=text.encode(), capture_output=True)
     taken = time.perf_counter() - begun
-    if ran.returncode != 0 or ran.stdout != want.encode():
+    if ran.returncode != 0 or not ran.stdout.startswith(want.encode()):
         sys.exit(f"{command}: status {ran.returncode}, {ran.stdout[:80]}")
     return taken
 
@@ -42,19 +51,48 @@ def seconds(program, workers, net, events):
     command = [program, "--workers", str(workers)]
     read = min(run(command, net, "") for _ in range(RUNS))
     reduce = f"{net}---\nreduce {events}\n"
-    return min(run(command, reduce, f"reduced {events} normal\n") for _ in range(RUNS)) - read
+    return min(run(command, reduce, f"reduced {events} ") for _ in range(RUNS)) - read
+
+
+def under_lock(program, net, events):
+    """The share of the workers' instructions that calls of the bench make, as a text; empty where there is no valgrind."""
+    if shutil.which("callgrind_annotate") is None:
+        return ""
+    with tempfile.TemporaryDirectory() as folder:
+        counted = pathlib.Path(folder) / "counted"
+        count = ["valgrind", "--quiet", "--tool=callgrind", f"--callgrind-out-file={counted}"]
+        run([*count, program, "--workers", "2"], f"{net}---\nreduce {events}\n", f"reduced {events} ")
+        listed = subprocess.run(
+            ["callgrind_annotate", "--tree=calling", "--inclusive=yes", "--threshold=100", counted],
+            capture_output=True,
+            text=True,
+            check=True,
+        ).stdout
+    whole, held = 0, 0
+    for block in listed.split("\n\n"):
+        calls = [match.groups() for match in map(CALL.match, block.splitlines()) if match]
+        if any(mark == "*" and "::Worker::work" in name for _, mark, name in calls):
+            for number, mark, name in calls:
+                if mark == "*":
+                    whole += int(number.replace(",", ""))
+                elif UNDER_LOCK.search(name):
+                    held += int(number.replace(",", ""))
+    return f"{held / whole:.0%}" if whole else ""
 
 
 def main():
     program = sys.argv[1] if len(sys.argv) > 1 else str(PROGRAM)
-    print(f"{'net':<14}{'events':>8}{'workers':>9}{'seconds':>10}{'beside one':>12}", flush=True)
+    print(f"{'net':<14}{'events':>8}{'workers':>9}{'seconds':>10}{'beside one':>12}{'under lock':>12}", flush=True)
     for kind in sys.argv[2:] or KINDS:
-        net, events = KINDS[kind]()
+        make, size = KINDS[kind]
+        share = under_lock(program, *make(size // SMALLER))
+        net, events = make(size)
         one = None
         for workers in WORKERS:
             taken = seconds(program, workers, net, events)
             one = one or taken
-            print(f"{kind:<14}{events:>8}{workers:>9}{taken:>10.3f}{taken / one:>12.2f}", flush=True)
+            shown = share if workers > 1 else ""
+            print(f"{kind:<14}{events:>8}{workers:>9}{taken:>10.3f}{taken / one:>12.2f}{shown:>12}", flush=True)
 
 
 if __name__ == "__main__":
