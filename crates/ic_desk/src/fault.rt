@@ -1,3 +1,6 @@
+ghost use Rattle.std.specs.Prelude.{◌≡◌};
+ghost use Rattle.ic_desk.specs.declared.fault.DeskFault.TheVariants.{Memory};
+
 use std::alloc::AllocError;
 
 /// Why a request has no answer. The desk is gone then.
@@ -10,6 +13,8 @@ pub enum DeskFault {
 }
 
 impl From<AllocError> for DeskFault {
+    ghost from_gives = { λ _ f. f ≡ Memory };
+
     fn from(_error: AllocError) -> DeskFault {
         DeskFault::Memory
     }

@@ -1,5 +1,5 @@
 ghost use Rattle.std.specs.Prelude.{◌≡◌, ◌≢◌};
-ghost use Rattle.ic_session.specs.Faults.{fault_of};
+ghost use Rattle.ic_session.specs.Faults.{fault_of, fault_at_desk};
 ghost use Rattle.ic_session.specs.declared.fault.Fault.TheVariants as fault;
 
 use ic_desk::DeskFault;
@@ -40,7 +40,7 @@ impl From<AllocError> for Fault {
 }
 
 impl From<DeskFault> for Fault {
-    ghost from_gives = { λ _ f. f ≢ fault.Read };
+    ghost from_gives = { λ d f. (f ≡ fault_at_desk d) × (f ≢ fault.Read) };
 
     fn from(fault: DeskFault) -> Fault {
         match fault {
