@@ -2,6 +2,7 @@ pub mod SortedLists
 pub mod SameStates
 pub mod OneStep
 pub mod OneTelling
+pub mod OneNormalEnd
 pub mod OneEvent
 pub mod UndoneRuns
 pub mod FiredRuns

@@ -6,8 +6,6 @@ use Rattle.ic_theory.specs.Starts.{Start, IsProper}
 use Rattle.ic_theory.specs.Nets.{net_of, IsSameNet}
 use Rattle.ic_theory.specs.Listed.{ListedNet, IsListing, shown}
 use Rattle.ic_theory.specs.Machine.{Standing, State, events}
-use Rattle.ic_theory.proofs.AnyOrder.{net-alike}
-use Rattle.ic_net.proofs.OneListing.{one_listing}
 use Rattle.ic_print.specs.NetText.{net_text}
 use Rattle.ic_cause.specs.Journals.{Ranked, journal_text}
 use Rattle.ic_answer.specs.Replies.{IsNamed}
@@ -15,7 +13,7 @@ use Rattle.ic_answer.specs.Standing.{AreActive, AreJournal, HasRank, AreCauses}
 use Rattle.ic_one_text.specs.States.{IsReached, AreSame}
 use Rattle.ic_answer.specs.Texts.{active_text, why_text}
 use Rattle.ic_one_text.proofs.OneEvent.{standing_once}
-use Rattle.ic_one_text.proofs.OneTelling.{one_active, one_journal, one_rank, one_causes}
+use Rattle.ic_one_text.proofs.OneTelling.{one_listed, one_active, one_journal, one_rank, one_causes}
 use Rattle.ic_one_text.proofs.SameStates.{same_back, same_events, reached_kept}
 use Rattle.ic_one_text.proofs.Saying.{WhySays, no_event, why}
 
@@ -38,15 +36,7 @@ module _ (s : Start) (ok : IsProper s) {st tt : State} (h : IsReached s st) (k :
 
   -- the printed net
   pub one_net : (l m : ListedNet) → IsListing l → IsListing m → IsSameNet (shown l) (net_of s (events st)) → IsSameNet (shown m) (net_of s (events tt)) → net_text s.names l ≡ net_text s.names m
-  one_net l m a b e f =
-      let n = net-alike s ok (reached_kept s ok h).sound (same_events same) in
-      let one : IsSameNet (shown l) (shown m) = record {
-        kinds = λ x. e.kinds x ∙ n.kinds x ∙ sym (f.kinds x);
-        partners = λ p. e.partners p ∙ n.partners p ∙ sym (f.partners p);
-        rings = e.rings ∙ n.rings ∙ sym f.rings;
-        profile = e.profile ∙ n.profile ∙ sym f.profile;
-      } in
-      ap (net_text s.names) (one_listing l m a b one)
+  one_net l m a b e f = ap (net_text s.names) (one_listed s (same_events same) (reached_kept s ok h).sound ok l m a b e f)
 
   -- the active pairs
   pub one_active_text : (es fs : List Event) → AreActive s (events st) es → AreActive s (events tt) fs → active_text es ≡ active_text fs

@@ -7,10 +7,14 @@ use Rattle.ic_name.proofs.NameOrder.{name_cmp_total}
 use Rattle.ic_path.specs.Orders.{Alike, IsIn}
 use Rattle.ic_path.proofs.Alikes.{alike_back, alike_then, alike-in}
 use Rattle.ic_path.proofs.Picks.{in_first, in_more}
-use Rattle.ic_theory.specs.Starts.{Start}
+use Rattle.ic_theory.specs.Starts.{Start, IsProper}
+use Rattle.ic_theory.specs.Nets.{net_of, IsSameNet}
+use Rattle.ic_theory.specs.Listed.{ListedNet, IsListing, shown}
 use Rattle.ic_theory.specs.Sound.{IsSound}
+use Rattle.ic_theory.proofs.AnyOrder.{net-alike}
 use Rattle.ic_theory.proofs.Normal.{active-alike}
 use Rattle.ic_theory.proofs.Replies.{canonical_total}
+use Rattle.ic_net.proofs.OneListing.{one_listing}
 use Rattle.ic_cause.specs.Journals.{Ranked}
 use Rattle.ic_answer.specs.Standing.{AreCanonical, AreActive, AreJournal, HasRank, AreCauses}
 use Rattle.ic_answer.specs.Unwinding.{RestsOn, itself, through, AreLastFirst}
@@ -41,6 +45,17 @@ module _ (s : Start) {es fs : List Event} (a : Alike es fs) (sound : IsSound s e
   -- events in canonical order stand in one order
   pub canonical_same : (xs ys : List Event) → Alike xs ys → AreCanonical s es xs → AreCanonical s fs ys → xs ≡ ys
   canonical_same xs ys b h k = sorted_same (canonical_total sound.rank) xs ys b (h sound.rank sound.ranked) (k sound.rank (rank-alike s sound.rank a sound.ranked))
+
+  -- one listing of the net
+  pub one_listed : IsProper s → (l m : ListedNet) → IsListing l → IsListing m → IsSameNet (shown l) (net_of s es) → IsSameNet (shown m) (net_of s fs) → l ≡ m
+  one_listed ok l m b c e f =
+      let n = net-alike s ok sound a in
+      one_listing l m b c (record {
+        kinds = λ x. e.kinds x ∙ n.kinds x ∙ sym (f.kinds x);
+        partners = λ p. e.partners p ∙ n.partners p ∙ sym (f.partners p);
+        rings = e.rings ∙ n.rings ∙ sym f.rings;
+        profile = e.profile ∙ n.profile ∙ sym f.profile;
+      })
 
   -- one list of active pairs
   pub one_active : (xs ys : List Event) → AreActive s es xs → AreActive s fs ys → xs ≡ ys

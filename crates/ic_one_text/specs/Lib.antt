@@ -1,2 +1,3 @@
 pub mod Wants
 pub mod States
+pub mod NormalEnds
