@@ -2,7 +2,7 @@
 """Runs the sessions of this folder on the built program: python3 examples/check.py [PROGRAM].
 
 Each NAME.session has what it is answered beside it, in NAME.answer. Prints the names of those that are answered
-otherwise; the status is 1 if there are any.
+otherwise, and of those that `ic_rows`, which the gate runs, holds in another form; the status is 1 if there are any.
 """
 
 import pathlib
@@ -11,6 +11,13 @@ import sys
 
 HERE = pathlib.Path(__file__).resolve().parent
 PROGRAM = HERE.parent / "crates/ic_bench/out/ic_bench"
+ROWS = HERE.parent / "crates/ic_rows/data"
+
+
+def is_row(session, answer):
+    """Whether the worked sessions have this one, byte for byte."""
+    row = ROWS / f"example_{session.stem}.in"
+    return row.read_bytes() == session.read_bytes() and row.with_suffix(".out").read_bytes() == answer
 
 
 def main():
@@ -21,6 +28,9 @@ def main():
         answer = session.with_suffix(".answer").read_bytes()
         if done.returncode != 0 or done.stdout != answer:
             print(f"{session.name}: answered otherwise, status {done.returncode}")
+            wrong += 1
+        if not is_row(session, answer):
+            print(f"{session.name}: differs from crates/ic_rows/data")
             wrong += 1
     sys.exit(1 if wrong else 0)
 

@@ -13,6 +13,3 @@ mod why;
 pub use answer::{Answer, carry_out};
 pub use reducing::end_text;
 pub use refused::Refused;
-
-#[cfg(test)]
-mod tests;

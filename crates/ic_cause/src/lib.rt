@@ -14,6 +14,3 @@ pub use journal::{RankedEvent, journal_text};
 pub use laws::one_future;
 pub use makers::direct_causes;
 pub use order::{canonical_cmp, rank_of};
-
-#[cfg(test)]
-mod tests;

@@ -8,8 +8,6 @@ mod laws;
 mod limits;
 mod rule;
 mod seat;
-#[cfg(test)]
-mod tests;
 mod view;
 
 pub use claims::{Busy, Claims, Ticket};

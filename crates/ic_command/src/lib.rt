@@ -10,6 +10,3 @@ pub mod words;
 pub use command::{Command, MAX_COMMAND, command_of};
 pub use mark_name::MarkName;
 pub use request::{Request, request_of};
-
-#[cfg(test)]
-mod tests;

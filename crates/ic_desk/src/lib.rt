@@ -10,6 +10,3 @@ mod texts;
 
 pub use desk::{Desk, MAX_MARKS};
 pub use fault::DeskFault;
-
-#[cfg(test)]
-mod tests;

@@ -17,6 +17,3 @@ pub use ic_link::LinkStore;
 pub use ic_set::ActivePair;
 pub use ic_table::PortTable as Store;
 pub use proposal::Proposal;
-
-#[cfg(test)]
-mod tests;

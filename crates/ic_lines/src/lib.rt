@@ -9,6 +9,3 @@ pub mod piece;
 pub use input::Input;
 pub use output::write_reply;
 pub use piece::{IoFault, Piece};
-
-#[cfg(test)]
-mod tests;

@@ -10,6 +10,3 @@ pub use ends::{ends_at, is_of, one_if_same, other_end};
 pub use laws::{has_room, there_and_back};
 pub use rows::LinkRows;
 pub use store::{Far, LinkStore};
-
-#[cfg(test)]
-mod tests;

@@ -23,6 +23,3 @@ pub use lines::{Call, Line, Reply};
 pub use names::AgentName;
 pub use ports::Port;
 pub use rules::{Profile, RuleEnd};
-
-#[cfg(test)]
-mod tests;

@@ -23,6 +23,3 @@ pub use ic_start::{Born, Start, outcome};
 pub use net::Net;
 pub use replays::{ReplayFault, replay};
 pub use views::{AgentView, FreeView};
-
-#[cfg(test)]
-mod tests;

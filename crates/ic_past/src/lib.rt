@@ -9,6 +9,3 @@ pub mod past;
 
 pub use causal::is_causal_order;
 pub use past::Past;
-
-#[cfg(test)]
-mod tests;

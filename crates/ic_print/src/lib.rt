@@ -9,6 +9,3 @@ pub mod print;
 mod put;
 
 pub use print::print_net;
-
-#[cfg(test)]
-mod tests;

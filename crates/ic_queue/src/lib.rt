@@ -5,6 +5,3 @@ pub mod laws;
 pub mod queue;
 
 pub use queue::{Front, LeadQueue};
-
-#[cfg(test)]
-mod tests;

@@ -8,6 +8,3 @@ mod least;
 pub use end::End;
 pub use gate::{Gate, NoGate};
 pub use least::fire_least;
-
-#[cfg(test)]
-mod tests;

@@ -6,8 +6,3 @@ pub mod standing;
 
 pub use agents::{AgentEntry, Agents};
 pub use standing::{Standing, StandingEntry};
-
-#[cfg(test)]
-mod agents_tests;
-#[cfg(test)]
-mod standing_tests;

@@ -39,6 +39,3 @@ pub fn reread()
 pub fn same_bytes()
     ensures { (names : List (List ℕ)) (l m : ListedNet) (s : Start) → IsPrintable names l → Denotes (net_text names l) s → IsListing m → IsSameNet (shown m) (net_of s []) → net_text s.names m ≡ net_text names l }
 {}
-
-#[cfg(test)]
-mod tests;

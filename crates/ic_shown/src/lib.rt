@@ -50,6 +50,3 @@ pub fn fired()
 pub fn undone()
     ensures { (n less : Naming) (s : Start) (es rest : List Event) (ls left : List Link) (d : EventId) (e : Event) → IsSound s es → Shows n s es ls → n.has_event d ≡ true → n.event d ≡ e → Pick e es rest → Drops d ls left → Extends less n → ((l : Link) → IsIn l left → IsHeld less l) → Shows less s rest left }
 {}
-
-#[cfg(test)]
-mod tests;

@@ -7,6 +7,3 @@ pub mod start;
 
 pub use rule::{Born, outcome};
 pub use start::Start;
-
-#[cfg(test)]
-mod tests;

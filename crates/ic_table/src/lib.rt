@@ -7,6 +7,3 @@ pub mod table;
 mod walks;
 
 pub use table::PortTable;
-
-#[cfg(test)]
-mod tests;

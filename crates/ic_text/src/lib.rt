@@ -12,6 +12,3 @@ mod seen;
 pub use fault::TextFault;
 pub use ic_grammar::Refusal;
 pub use read::read_net;
-
-#[cfg(test)]
-mod tests;

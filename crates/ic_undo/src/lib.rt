@@ -17,6 +17,3 @@ pub use going_back::back;
 pub use marking::mark;
 pub use marks::Mark;
 pub use unwinding::{undo_all, unwind};
-
-#[cfg(test)]
-mod tests;

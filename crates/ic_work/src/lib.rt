@@ -16,6 +16,3 @@ mod worker;
 pub use ic_reduce::{End, Gate, NoGate};
 pub use sweeping::sweep;
 pub use swept::{SweepFault, Swept};
-
-#[cfg(test)]
-mod tests;

@@ -1,0 +1,187 @@
+#!/usr/bin/env python3
+"""Where the gate's time goes: processor seconds by crate and part, and the dearest functions and edits.
+
+    python3 bench/gate.py                      runs `rt ci` at the top of the repository, and says what each part took
+    python3 bench/gate.py --functions CRATE..  checks these crates with their tests from nothing, and says what each
+                                               function took (in a copy below /tmp; what lies in out/ stays)
+
+The parts of a crate are its proof, its tests (which prove the crate's own functions once more) and its edits, each of
+which is a check of the crate. What `rt ci` prints is written to standard output first. Its processes are looked at four
+times a second, so that each may lose a quarter of a second at its end; the sum in the last line is exact.
+"""
+
+import collections
+import os
+import pathlib
+import resource
+import shutil
+import subprocess
+import sys
+import tempfile
+import threading
+import time
+
+ROOT = pathlib.Path(__file__).resolve().parent.parent
+TICKS = os.sysconf("SC_CLK_TCK")
+PAUSE = 0.25
+MOST = 20
+PARTS = ("proof", "tests", "edits")
+# What an edit's check shows where no edit is applied: the last look over the crate.
+NO_EDIT = "(none)"
+
+
+def read_edit(path):
+    """The texts of an edit: for each file the pairs of an old and a new text."""
+    pairs, file, old = [], "", ""
+    for line in path.read_text(encoding="utf-8").splitlines():
+        if line.startswith("file: "):
+            file = line.removeprefix("file: ")
+        elif line.startswith("old: "):
+            old = line.removeprefix("old: ")
+        elif line.startswith("new:"):
+            pairs.append((file, old, line.removeprefix("new:").removeprefix(" ")))
+    return pairs
+
+
+def edited_texts(crate):
+    """For each edit of a crate, the first file that it changes and that file's text with the edit."""
+    texts = {}
+    for path in sorted((ROOT / "crates" / crate / "must-fail").glob("*.edit")):
+        pairs = read_edit(path)
+        file = pairs[0][0]
+        text = (ROOT / "crates" / crate / file).read_text(encoding="utf-8")
+        for at, old, new in pairs:
+            if at == file:
+                text = text.replace(old, new)
+        texts[path.stem] = (file, text)
+    return texts
+
+
+class Meter:
+    """Processor seconds of the checks that are running, by crate, part and edit."""
+
+    def __init__(self):
+        self.last = {}
+        self.edits = {}
+        self.ended = threading.Event()
+
+    def key_of(self, pid):
+        """The crate, the part and the edit of a process, if it is a check."""
+        words = pathlib.Path(f"/proc/{pid}/cmdline").read_bytes().decode(errors="replace").split("\0")
+        if os.path.basename(words[0]) != "rattle" or "--crate-name" not in words:
+            return None
+        crate = words[words.index("--crate-name") + 1]
+        folder = os.readlink(f"/proc/{pid}/cwd")
+        if os.path.basename(folder).startswith("rt-edit-"):
+            return crate, "edits", self.edit_in(crate, folder)
+        return crate, "tests" if "--test" in words else "proof", ""
+
+    def edit_in(self, crate, folder):
+        """The edit that was applied in a folder."""
+        if crate not in self.edits:
+            self.edits[crate] = edited_texts(crate)
+        for name, (file, text) in self.edits[crate].items():
+            if pathlib.Path(folder, file).read_text(encoding="utf-8") == text:
+                return name
+        return NO_EDIT
+
+    def look(self):
+        """Notes what each process has used so far."""
+        for pid in filter(str.isdigit, os.listdir("/proc")):
+            try:
+                fields = pathlib.Path(f"/proc/{pid}/stat").read_text(encoding="utf-8").rpartition(")")[2].split()
+                # (a number is given again to a later process)
+                process = pid, fields[19]
+                key = self.last[process][0] if process in self.last else self.key_of(pid)
+                if key is not None:
+                    self.last[process] = key, (int(fields[11]) + int(fields[12])) / TICKS
+            except (OSError, ValueError):
+                continue
+
+    def watch(self):
+        """Looks again and again until the end."""
+        while not self.ended.wait(PAUSE):
+            self.look()
+
+    def seconds(self):
+        """The sum for each crate, part and edit."""
+        sums = collections.Counter()
+        for key, used in self.last.values():
+            sums[key] += used
+        return sums
+
+
+def print_table(sums):
+    """Prints a row for each crate, the dearest first, and the dearest edits."""
+    parts = collections.Counter()
+    for (crate, part, _), used in sums.items():
+        parts[crate, part] += used
+    crates = sorted({crate for crate, _ in parts}, key=lambda it: -sum(parts[it, part] for part in PARTS))
+    print(f"\n{'crate':<18}" + "".join(f"{part:>8}" for part in (*PARTS, "all")))
+    for crate in crates:
+        row = [parts[crate, part] for part in PARTS]
+        print(f"{crate:<18}" + "".join(f"{it:>8.0f}" for it in (*row, sum(row))))
+    row = [sum(parts[crate, part] for crate in crates) for part in PARTS]
+    print(f"{'all':<18}" + "".join(f"{it:>8.0f}" for it in (*row, sum(row))))
+    edits = {(crate, edit): used for (crate, part, edit), used in sums.items() if part == "edits"}
+    print("\nthe dearest edits (the first of a crate proves the crate anew)")
+    for (crate, edit), used in sorted(edits.items(), key=lambda it: -it[1])[:MOST]:
+        print(f"{used:8.0f}  {crate}/{edit}")
+
+
+def measure_gate():
+    """Runs the gate, and prints what its parts took. Answers the gate's status."""
+    meter, begun = Meter(), time.time()
+    watching = threading.Thread(target=meter.watch)
+    watching.start()
+    try:
+        status = subprocess.run(["rt", "ci"], cwd=ROOT, check=False).returncode
+    finally:
+        meter.ended.set()
+        watching.join()
+    print_table(meter.seconds())
+    used = resource.getrusage(resource.RUSAGE_CHILDREN)
+    minutes, whole = (used.ru_utime + used.ru_stime) / 60, (time.time() - begun) / 60
+    print(f"\nrt ci: {whole:.1f} min, {minutes:.1f} min of processor time, status {status}")
+    return status
+
+
+def function_times(crate, folder):
+    """Checks a crate of a copy with its tests, from nothing, and answers the seconds of each function."""
+    times, last = [], time.time()
+    shutil.rmtree(folder / "crates" / crate / "out" / "incremental", ignore_errors=True)
+    words = ["rt", "check", "--test", "--jobs", "1"]
+    with subprocess.Popen(words, cwd=folder / "crates" / crate, stdout=subprocess.PIPE, text=True) as check:
+        for line in check.stdout:
+            if line.startswith("checked ") and " of " in line:
+                now = time.time()
+                times.append((now - last, line.split()[1].rstrip(",")))
+                last = now
+            elif line.startswith("logic="):
+                print(f"{crate}: {line.split()[0]}")
+    return times
+
+
+def measure_functions(crates):
+    """Prints the dearest functions of some crates."""
+    times = []
+    with tempfile.TemporaryDirectory(prefix="gate-") as room:
+        folder = pathlib.Path(room, "copy")
+        shutil.copytree(ROOT, folder, symlinks=True)
+        for crate in crates:
+            times += function_times(crate, folder)
+    for used, function in sorted(times, reverse=True)[:MOST]:
+        print(f"{used:8.1f}  {function}")
+    return 0
+
+
+def main():
+    if sys.argv[1:2] == ["--functions"] and sys.argv[2:]:
+        return measure_functions(sys.argv[2:])
+    if sys.argv[1:]:
+        sys.exit(__doc__)
+    return measure_gate()
+
+
+if __name__ == "__main__":
+    sys.exit(main())

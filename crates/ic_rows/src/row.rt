@@ -1,0 +1,76 @@
+ghost use Rattle.std.specs.Prelude.{◌<◌, ◌≤◌, IfSome};
+
+use ic_session::Status;
+
+/// The most workers of a session.
+const MAX_WORKERS: u8 = 64;
+
+/// The stores over which a session is answered.
+#[derive(Clone, Copy)]
+pub enum Stores {
+    /// The fast store alone.
+    Fast,
+    /// The fast store and the plain one.
+    Both,
+}
+
+/// A line of the index.
+#[derive(Drop)]
+pub struct Row<'a> {
+    /// The name of the session's files.
+    pub name: &'a str,
+    /// The workers of a `reduce`.
+    pub workers: u8,
+    /// The events that a `reduce` may fire.
+    pub budget: u32,
+    /// How the session ends.
+    pub status: Status,
+    /// The stores over which it is answered.
+    pub stores: Stores,
+    ghost in_range: { (0 < workers) × (workers ≤ 64) },
+}
+
+/// The row of a line: its columns are divided by tabs, and the one behind the stores says what the session shows.
+pub fn row_of(line: &str) -> Option<Row<'_>> {
+    let mut columns = line.split('\t');
+    let name = columns.next()?;
+    let workers = workers_of(columns.next()?.parse::<u8>().ok()?)?;
+    let budget = columns.next()?.parse::<u32>().ok()?;
+    let status = status_of(columns.next()?)?;
+    let stores = stores_of(columns.next()?)?;
+    Some(Row {
+        name,
+        workers,
+        budget,
+        status,
+        stores,
+    })
+}
+
+/// This number of workers, where it is one from 1 to 64.
+fn workers_of(number: u8) -> Option<u8>
+    ensures { IfSome result (λ workers. (0 < workers) × (workers ≤ 64)) }
+{
+    if number == 0 || number > MAX_WORKERS {
+        return None;
+    }
+    Some(number)
+}
+
+/// A status, by the number with which the program ends.
+fn status_of(column: &str) -> Option<Status> {
+    match column {
+        "0" => Some(Status::Ended),
+        "2" => Some(Status::NetRefused),
+        _ => None,
+    }
+}
+
+/// The stores of this name.
+fn stores_of(column: &str) -> Option<Stores> {
+    match column {
+        "fast" => Some(Stores::Fast),
+        "both" => Some(Stores::Both),
+        _ => None,
+    }
+}

@@ -1,0 +1,77 @@
+use crate::compare::{Difference, first_difference};
+use crate::plain::run_plain_session;
+use crate::row::{Row, Stores};
+use anyhow::{Context, Result};
+use ic_session::run_session;
+use std::alloc::Global;
+use std::fs;
+use std::rt::Files;
+use std::sync::Wait;
+use std::thread::Threads;
+
+/// Whether the session of a row is answered as is stored. A line is printed for each store over which it isn't.
+pub fn passes<R: Files + Print + AllocGlobal + Threads + Wait + Sync>(
+    rt: &R,
+    row: &Row<'_>,
+) -> Result<bool> {
+    let input = stored(rt, row.name, "in")?;
+    let wanted = stored(rt, row.name, "out")?;
+    let fast = is_same(
+        rt,
+        row.name,
+        "fast",
+        on_fast(rt, rt.alloc(), row, &input, &wanted),
+    )?;
+    let plain = match row.stores {
+        Stores::Fast => true,
+        Stores::Both => is_same(
+            rt,
+            row.name,
+            "plain",
+            on_plain(rt.alloc(), row, &input, &wanted),
+        )?,
+    };
+    Ok(fast && plain)
+}
+
+/// What stands in the session's file of this ending.
+fn stored<R: Files + AllocGlobal>(rt: &R, name: &str, ending: &str) -> Result<Vec<u8>> {
+    let path = format!(in rt.alloc(); "{name}.{ending}")?;
+    fs::read(rt, path.as_str()).context(format_args!("reading {path}"))
+}
+
+/// Whether nothing differs over a store; else a line tells what.
+fn is_same(rt: &impl Print, name: &str, store: &str, found: Option<Difference>) -> Result<bool> {
+    if let Some(difference) = found {
+        println!(rt; "{name}, {store} store: {difference}")?;
+    }
+    Ok(found.is_none())
+}
+
+/// What differs over the fast store.
+fn on_fast<T: Threads + Wait + Sync>(
+    threads: &T,
+    alloc: Global,
+    row: &Row<'_>,
+    input: &[u8],
+    wanted: &[u8],
+) -> Option<Difference> {
+    let mut reader = input;
+    let mut written = Vec::new(alloc);
+    let ended = run_session(
+        threads,
+        alloc,
+        &mut reader,
+        &mut written,
+        row.workers,
+        row.budget,
+    );
+    first_difference(ended, row.status, &written, wanted)
+}
+
+/// What differs over the plain store.
+fn on_plain(alloc: Global, row: &Row<'_>, input: &[u8], wanted: &[u8]) -> Option<Difference> {
+    let mut written = Vec::new(alloc);
+    let ended = run_plain_session(alloc, input, &mut written, row.budget);
+    first_difference(ended, row.status, &written, wanted)
+}

@@ -1,0 +1,19 @@
+// Tests of public calls: names, events and their causes, lines and commands.
+#![tactic(auto)]
+
+#[cfg(test)]
+mod agents;
+#[cfg(test)]
+mod causes;
+#[cfg(test)]
+mod commands;
+#[cfg(test)]
+mod events;
+#[cfg(test)]
+mod lines;
+#[cfg(test)]
+mod names;
+#[cfg(test)]
+mod queue;
+#[cfg(test)]
+mod standing;

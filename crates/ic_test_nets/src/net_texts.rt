@@ -1,0 +1,179 @@
+use crate::starts::{link, port};
+use ic_name::{Kind, Link, Profile, Spot};
+use ic_start::Start;
+use ic_text::{Refusal, TextFault, read_net};
+use std::alloc::{AllocError, Global};
+use std::test::Fail;
+
+/// What is wrong with a text.
+#[derive(Clone, Copy, Debug, PartialEq, Eq)]
+enum Verdict {
+    Read,
+    Memory,
+    Refused(u8, Option<usize>),
+}
+
+/// The number and the offset of what is wrong with a text, if anything is.
+fn judged(alloc: Global, text: &[u8]) -> Verdict {
+    match read_net(alloc, text) {
+        Ok(_) => Verdict::Read,
+        Err(TextFault::Refused(refusal)) => Verdict::Refused(refusal.number(), refusal.offset()),
+        Err(TextFault::Memory) => Verdict::Memory,
+    }
+}
+
+/// Texts that are no nets, with the number and the offset of what is wrong.
+const REFUSED: [(&[u8], u8, usize); 13] = [
+    (b"G(a,b) = !;", 2, 9),
+    (b"@straight;", 2, 0),
+    (b"# \xc3", 2, 2),
+    (b"G(a,b = E;", 3, 6),
+    (b"x = y", 3, 5),
+    (b"x = E; 5", 3, 7),
+    (b"aaaaaaaaaaaaaaaaaaaaaaaaaaaaaaaaa", 4, 0),
+    (b"E = a234567890123456789012345678901_2;", 4, 4),
+    (b"x = E; x = E; x = E;", 5, 14),
+    (b"x = x; x = y;", 5, 7),
+    (b"_0 = E;", 8, 0),
+    (b"_a = b; _c = d;", 8, 0),
+    (b"_a = x; _c = _a;", 8, 8),
+];
+
+#[test]
+fn a_text_is_refused_at_its_first_fault(rt: HostRuntime) {
+    for (text, number, offset) in &REFUSED {
+        assert_eq!(rt;
+            judged(rt.alloc(), text),
+            Verdict::Refused(*number, Some(*offset))
+        );
+    }
+}
+
+#[test]
+fn a_name_of_32_bytes_is_read(rt: HostRuntime) {
+    let text = b"a234567890123456789012345678901_ = E;";
+    assert_eq!(rt; judged(rt.alloc(), text), Verdict::Read);
+}
+
+#[test]
+fn symbols_stand_within_at_most_255_others(rt: HostRuntime) -> Result<(), Fail> {
+    let mut text = Vec::new(rt.alloc());
+    for _ in 0..256 {
+        text.extend_from_slice(b"G(")?;
+    }
+    assert_eq!(rt;
+        judged(rt.alloc(), text.as_slice()),
+        Verdict::Refused(3, Some(512))
+    );
+    text.push(b'E')?;
+    assert_eq!(rt;
+        judged(rt.alloc(), text.as_slice()),
+        Verdict::Refused(7, Some(512))
+    );
+    Ok(())
+}
+
+/// A text in which 1,024 names occur once.
+fn many_names(alloc: Global) -> Result<Vec<u8>, AllocError> {
+    let mut text = Vec::new(alloc);
+    for number in 0..512 {
+        let pair = format!(in alloc; "a{number} = b{number};\n")?;
+        text.extend_from_slice(pair.as_bytes())?;
+    }
+    Ok(text)
+}
+
+#[test]
+fn at_most_1024_names_occur_once(rt: HostRuntime) -> Result<(), Fail> {
+    let mut text = many_names(rt.alloc())?;
+    assert_eq!(rt; judged(rt.alloc(), text.as_slice()), Verdict::Read);
+    text.extend_from_slice(b"c = E;")?;
+    assert_eq!(rt;
+        judged(rt.alloc(), text.as_slice()),
+        Verdict::Refused(9, None)
+    );
+    Ok(())
+}
+
+#[test]
+fn too_long_a_text_is_refused_before_it_is_read(rt: HostRuntime) -> Result<(), Fail> {
+    let mut text = vec![in rt.alloc(); b' '; 1_048_576]?;
+    assert_eq!(rt; judged(rt.alloc(), text.as_slice()), Verdict::Read);
+    text.push(b'!')?;
+    assert_eq!(rt;
+        judged(rt.alloc(), text.as_slice()),
+        Verdict::Refused(1, None)
+    );
+    Ok(())
+}
+
+/// The start of a text with two agents that meet.
+fn two_that_meet(alloc: Global) -> Result<Start, TextFault> {
+    read_net(alloc, b"G(x,a) = D(E,x); # done")
+}
+
+#[test]
+fn two_agents_that_meet(rt: HostRuntime) -> Result<(), TextFault> {
+    let start = two_that_meet(rt.alloc())?;
+    assert_eq!(rt; start.agents(), 3);
+    assert_eq!(rt; start.kind(0), Some(Kind::Gamma));
+    assert_eq!(rt; start.kind(1), Some(Kind::Delta));
+    assert_eq!(rt; start.kind(2), Some(Kind::Eps));
+    assert_eq!(rt; start.kind(3), None);
+    Ok(())
+}
+
+/// The links of two agents that meet.
+fn links_of_two() -> [Link; 5] {
+    [
+        link(0, port(0, 1), Spot::Name(0)),
+        link(1, port(0, 2), Spot::Name(1)),
+        link(2, port(0, 0), port(1, 0)),
+        link(3, port(1, 1), port(2, 0)),
+        link(4, port(1, 2), Spot::Name(0)),
+    ]
+}
+
+/// Whether a start has these two names.
+fn has_names(start: &Start, first: &[u8], second: &[u8]) -> bool {
+    match start.names() {
+        [one, two] => one.as_slice() == first && two.as_slice() == second,
+        _ => false,
+    }
+}
+
+#[test]
+fn two_agents_that_meet_have_links(rt: HostRuntime) -> Result<(), TextFault> {
+    let start = two_that_meet(rt.alloc())?;
+    assert!(rt; start.links() == links_of_two().as_slice());
+    assert!(rt; has_names(&start, b"x", b"a"));
+    assert_eq!(rt; start.profile(), Profile::Classic);
+    Ok(())
+}
+
+/// The number of agents and of links of the start of a text.
+fn agents_and_links(alloc: Global, text: &[u8]) -> Option<(usize, usize)> {
+    let start = read_net(alloc, text).ok()?;
+    Some((start.agents(), start.links().len()))
+}
+
+#[test]
+fn a_ring_and_nothing(rt: HostRuntime) {
+    assert_eq!(rt; agents_and_links(rt.alloc(), b"_r = _r;"), Some((0, 1)));
+    assert_eq!(rt;
+        agents_and_links(rt.alloc(), b" \t\r\n# nothing"),
+        Some((0, 0))
+    );
+}
+
+#[test]
+fn a_refusal_says_what_is_wrong(rt: HostRuntime) -> Result<(), Fail> {
+    let thrice = format!(in rt.alloc(); "{}", TextFault::Refused(Refusal::Thrice(6)))?;
+    assert_eq!(rt;
+        thrice.as_str(),
+        "thrice: the name at byte 6 occurs for the third time; expected each name once or twice"
+    );
+    let memory = format!(in rt.alloc(); "{}", TextFault::Memory)?;
+    assert_eq!(rt; memory.as_str(), "out of memory");
+    Ok(())
+}

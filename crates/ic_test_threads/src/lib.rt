@@ -1,0 +1,19 @@
+// Tests of public calls: claims, benches that threads share, and sweeps.
+#![tactic(auto)]
+
+#[cfg(test)]
+mod benches;
+#[cfg(test)]
+mod claims;
+#[cfg(test)]
+mod gates;
+#[cfg(test)]
+mod missing;
+#[cfg(test)]
+mod random_nets;
+#[cfg(test)]
+mod settling;
+#[cfg(test)]
+mod stress;
+#[cfg(test)]
+mod sweeps;

@@ -1,4 +1,0 @@
-mod benches;
-mod gates;
-mod random_nets;
-mod sweeps;
