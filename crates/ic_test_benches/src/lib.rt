@@ -8,15 +8,11 @@ mod both_stores;
 #[cfg(test)]
 mod causal_orders;
 #[cfg(test)]
-mod desks;
-#[cfg(test)]
 mod events;
 #[cfg(test)]
 mod going_back;
 #[cfg(test)]
 mod histories;
-#[cfg(test)]
-mod laws;
 #[cfg(test)]
 mod numbers;
 #[cfg(test)]
@@ -33,8 +29,6 @@ mod random_nets;
 mod reductions;
 #[cfg(test)]
 mod replays;
-#[cfg(test)]
-mod session_faults;
 #[cfg(test)]
 mod steps;
 #[cfg(test)]

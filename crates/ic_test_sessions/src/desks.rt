@@ -1,25 +1,26 @@
-use crate::player::{Game, Player, wins};
 use ic_answer::{Refused, carry_out};
 use ic_command::{Command, request_of};
 use ic_desk::Desk;
-use ic_journal::Store;
+use ic_journal::{Bench, Store};
 use ic_text::read_net;
 use std::alloc::Global;
 use std::test::Fail;
 
-/// A bench answers so how many pairs are active.
-struct Active(&'static [u8]);
+/// Whether a bench answers so how many pairs are active.
+fn has_active(alloc: Global, bench: &mut Bench<Store>, text: &[u8]) -> Result<bool, Fail> {
+    let active = carry_out(alloc, bench, Command::Active)?;
+    Ok(active.bytes() == text)
+}
 
-impl Game for Active {
-    fn is_won(&self, alloc: Global, player: &mut Player) -> Result<bool, Fail> {
-        let active = carry_out(alloc, &mut player.bench, Command::Active)?;
-        Ok(active.bytes() == self.0)
-    }
+/// Whether one over the net of a text does.
+fn answers_active(alloc: Global, net: &[u8], text: &[u8]) -> Result<bool, Fail> {
+    let mut bench = Bench::over(alloc, read_net(alloc, net)?)?;
+    has_active(alloc, &mut bench, text)
 }
 
 #[test]
 fn a_command_is_carried_out(rt: HostRuntime) -> Result<(), Fail> {
-    assert!(rt; wins(rt.alloc(), b"x = x;\n", &Active(b"active 0\n"))?);
+    assert!(rt; answers_active(rt.alloc(), b"x = x;\n", b"active 0\n")?);
     Ok(())
 }
 

@@ -1,0 +1,9 @@
+// Tests of public calls: commands, desks with marks, the faults of a session, and laws.
+#![tactic(auto)]
+
+#[cfg(test)]
+mod desks;
+#[cfg(test)]
+mod faults;
+#[cfg(test)]
+mod laws;
