@@ -12,3 +12,4 @@ pub mod UndoneInTurn
 pub mod UnwoundEvents
 pub mod UnwindingReplies
 pub mod ReducingReplies
+pub mod NumberedLines

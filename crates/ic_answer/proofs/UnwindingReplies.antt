@@ -17,7 +17,6 @@ use Rattle.ic_roster.specs.Rosters.{Stander}
 use Rattle.ic_set.specs.Orders.{IsAny}
 use Rattle.ic_journal.specs.Views.{BenchView}
 use Rattle.ic_journal.specs.Benches.{IsAt, IsBench, fired_in}
-use Rattle.ic_journal.specs.Calls.{Stays}
 use Rattle.ic_undo.specs.Undone as bench
 use Rattle.ic_undo.specs.Unwinding as bench_faults
 use Rattle.ic_undo.specs.declared.faults.UnwindFault.{UnwindFault}
@@ -33,7 +32,6 @@ use Rattle.ic_answer.specs.Texts.{event_line, pair_line, unwound_text, undone_al
 use Rattle.ic_answer.specs.Turns.{Tells, Turns}
 use Rattle.ic_answer.specs.Unwinding.{RestsOn, AreUndoneInTurn, events_of}
 use Rattle.ic_answer.proofs.StandingCauses.{named_event, none_named}
-use Rattle.ic_reduce.proofs.BenchSteps.{still_at}
 use Rattle.ic_answer.proofs.UndoneInTurn.{EndsSo, undone_in_turn}
 use Rattle.ic_answer.proofs.UndoingReplies.{Stands}
 use Rattle.ic_answer.proofs.UnwoundEvents.{last_first_at, dont_fit_at, any_same, resting_same}
@@ -129,25 +127,25 @@ module _ (old new : BenchView) (ok : IsBench old) (lawful : IsBench new) where
 
   -- a line for each of the events that rest on one doesn't fit
   pub unwind_doesnt_fit : (d : EventId) (p : Pair) (x : Stander) → Stands old d p x
-      → bench_faults.DontFit old (bench.RestsOn old d.line) → Stays old new
+      → bench_faults.DontFit old (bench.RestsOn old d.line) → new ≡ old
       → Turns old (Unwind p) (refusal_text refused.HistoryFull) new
-  unwind_doesnt_fit d p x h full stays = record {
-    start = stays.same.start;
+  unwind_doesnt_fit d p x h full same = record {
+    start = ap (λ (v : BenchView). v.start) same;
     replies = λ st at. (
         let own = subst (λ (c : EventId). bench_faults.DontFit old (bench.RestsOn old c.line)) (sym h.under) full in
         let many = dont_fit_at old ok at (bench.RestsOn old x.id.line) (RestsOn old.start (events st) x.event) (resting_same old ok at x h.there) own in
-        (st, unwind_history_full (named_event old p at x h.there h.name) many.1 many.2, still_at old new stays st at)
+        (st, unwind_history_full (named_event old p at x h.there h.name) many.1 many.2, subst (λ (v : BenchView). IsAt v st) (sym same) at)
         );
   }
 
   -- nor one for each event
-  pub undo_all_doesnt_fit : bench_faults.DontFit old IsAny → Stays old new
+  pub undo_all_doesnt_fit : bench_faults.DontFit old IsAny → new ≡ old
       → Turns old UndoAll (refusal_text refused.HistoryFull) new
-  undo_all_doesnt_fit full stays = record {
-    start = stays.same.start;
+  undo_all_doesnt_fit full same = record {
+    start = ap (λ (v : BenchView). v.start) same;
     replies = λ st at. (
         let many = dont_fit_at old ok at IsAny (λ f. Unit {0}) (any_same old ok at) full in
-        (st, undo_all_history_full many.1 many.2, still_at old new stays st at)
+        (st, undo_all_history_full many.1 many.2, subst (λ (v : BenchView). IsAt v st) (sym same) at)
         );
   }
 

@@ -11,12 +11,12 @@ use Rattle.ic_theory.specs.Listed.{ListedNet, IsListing, shown}
 use Rattle.ic_theory.specs.Active.{IsActive, ArePresent}
 use Rattle.ic_theory.specs.Machine.{Standing, State, events, Answers}
 use Rattle.ic_print.specs.NetText.{net_text}
-use Rattle.ic_cause.specs.Journals.{Ranked, journal_text}
+use Rattle.ic_cause.specs.Journals.{Ranked, IsJournal, journal_text}
 use Rattle.ic_command.specs.declared.command.Command.{Command}
 use Rattle.ic_command.specs.declared.command.Command.TheVariants.{Nothing, Net, Active, Journal, Fire, Undo, Why, Unwind, UndoAll, Reduce, Malformed}
 use Rattle.ic_answer.specs.declared.refused.Refused.TheVariants as refused
 use Rattle.ic_answer.specs.Texts.{pair_line, active_text, why_text, unwound_text, undone_all_text, reduced_text, wanting_after, refusal_text}
-use Rattle.ic_answer.specs.Standing.{AreActive, AreJournal, HasRank, AreCauses}
+use Rattle.ic_answer.specs.Standing.{AreActive, HasRank, AreCauses}
 use Rattle.ic_answer.specs.Unwinding.{RestsOn, IsAnyEvent, AreLastFirst, DontFit, events_of, AreUndoneInTurn}
 use Rattle.ic_reduce.specs.Reducing.{IsNormal, AreFiredInTurn, MeetsLimit}
 
@@ -58,7 +58,7 @@ pub data Replies (s : Start) (st : State) : Command → List ℕ → State → T
   malformed : Replies s st Malformed (refusal_text refused.Command) st
   net : {l : ListedNet} → IsListing l → IsSameNet (shown l) (net_of s (events st)) → Replies s st Net (net_text s.names l) st
   active : {es : List Event} → AreActive s (events st) es → Replies s st Active (active_text es) st
-  journal : {xs : List Ranked} → AreJournal s (events st) xs → Replies s st Journal (journal_text xs) st
+  journal : {xs : List Ranked} → IsJournal s (events st) xs → Replies s st Journal (journal_text xs) st
   why : {p : Pair} {x : Standing} {r : ℕ} {cs : List Event} → IsNamed st p x → HasRank s (events st) x.event r → AreCauses s (events st) x.event cs
       → Replies s st (Why p) (why_text p r cs) st
   why_not_standing : {p : Pair} → NoneIsNamed st p → Replies s st (Why p) (refusal_text refused.NotStanding) st

@@ -3,6 +3,7 @@ use Rattle.std.specs.Prelude.{ℕ, List, [], ◌++◌, length, codes}
 use Rattle.std.specs.Fmt.{decimal}
 use Rattle.std.specs.List.{flat_map}
 use Rattle.ic_name.specs.NameTexts.{name_text}
+use Rattle.ic_name.specs.declared.numbers.TheConstants.{COMMAND, DEEP, FULL, HISTORY_FULL, MEMORY, NOT_ACTIVE, NOT_STANDING, NO_MARK, TOO_MANY_MARKS}
 use Rattle.ic_name.specs.Events.{Pair, Event, pair}
 use Rattle.ic_answer.specs.declared.answer.Answer.{Answer}
 use Rattle.ic_answer.specs.declared.answer.Answer.TheVariants as answers
@@ -56,6 +57,30 @@ refusal_text NotStanding = codes "refused 31 not standing\n"
 refusal_text Command = codes "refused 40 command\n"
 refusal_text NoMark = codes "refused 41 no mark\n"
 refusal_text TooManyMarks = codes "refused 42 too many marks\n"
+
+-- the number of a refusal
+abbrev pub refusal_number : Refused → ℕ
+refusal_number NotActive = NOT_ACTIVE
+refusal_number Deep = DEEP
+refusal_number Full = FULL
+refusal_number HistoryFull = HISTORY_FULL
+refusal_number Memory = MEMORY
+refusal_number NotStanding = NOT_STANDING
+refusal_number Command = COMMAND
+refusal_number NoMark = NO_MARK
+refusal_number TooManyMarks = TOO_MANY_MARKS
+
+-- what a refusal is, in words
+abbrev pub refusal_words : Refused → List ℕ
+refusal_words NotActive = codes "not active"
+refusal_words Deep = codes "deep"
+refusal_words Full = codes "full"
+refusal_words HistoryFull = codes "history full"
+refusal_words Memory = codes "memory"
+refusal_words NotStanding = codes "not standing"
+refusal_words Command = codes "command"
+refusal_words NoMark = codes "no mark"
+refusal_words TooManyMarks = codes "too many marks"
 
 -- what is written in answer
 abbrev pub answer_text : Answer → List ℕ

@@ -9,7 +9,7 @@ use Rattle.ic_path.specs.Rings.{HasEachOnce}
 use Rattle.ic_theory.specs.Starts.{Start}
 use Rattle.ic_theory.specs.Causes.{IsCause}
 use Rattle.ic_theory.specs.Machine.{Standing, State, Answers}
-use Rattle.ic_answer.specs.Standing.{AreCanonical}
+use Rattle.ic_cause.specs.Journals.{AreCanonical}
 
 -- an event rests on another one: it is that one, or a direct cause of it rests on that one
 pub data RestsOn (s : Start) (es : List Event) (e : Event) : Event → Type 0 where

@@ -3,6 +3,7 @@
 
 pub mod answer;
 mod changing;
+pub mod laws;
 mod named;
 mod reading;
 mod reducing;

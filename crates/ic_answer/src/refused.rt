@@ -1,5 +1,7 @@
 ghost use Rattle.std.specs.Prelude.{◌≡◌};
-ghost use Rattle.ic_answer.specs.Texts.{refusal_text};
+ghost use Rattle.ic_answer.specs.Texts.{refusal_number, refusal_text};
+
+use ic_name::numbers;
 
 /// A refusal whose line is always the same.
 #[derive(Clone, Copy, Debug, PartialEq, Eq)]
@@ -25,6 +27,23 @@ pub enum Refused {
 }
 
 impl Refused {
+    /// The number of the refusal, as calls have it.
+    pub fn number(self) -> u8
+        ensures { result ≡ refusal_number self }
+    {
+        match self {
+            Refused::NotActive => numbers::NOT_ACTIVE,
+            Refused::Deep => numbers::DEEP,
+            Refused::Full => numbers::FULL,
+            Refused::HistoryFull => numbers::HISTORY_FULL,
+            Refused::Memory => numbers::MEMORY,
+            Refused::NotStanding => numbers::NOT_STANDING,
+            Refused::Command => numbers::COMMAND,
+            Refused::NoMark => numbers::NO_MARK,
+            Refused::TooManyMarks => numbers::TOO_MANY_MARKS,
+        }
+    }
+
     /// The line that names it.
     pub fn line(self) -> &'static [u8]
         ensures { result.now ≡ refusal_text self }

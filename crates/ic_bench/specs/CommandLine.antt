@@ -7,7 +7,7 @@ use Rattle.clap.specs.declared.builder.value_parser.ValueParser.TheVariants.{Sig
 use Rattle.clap.specs.declared.error.kind.ErrorKind.{ErrorKind}
 use Rattle.clap.specs.declared.error.kind.ErrorKind.TheVariants.{OutOfMemory}
 use Rattle.ic_bench.specs.declared.options.Options.{Options}
-use Rattle.ic_bench.specs.declared.options.TheConstants.{MAX_WORKERS, MAX_BUDGET}
+use Rattle.ic_claim.specs.declared.limits.TheConstants.{MAX_WORKERS, MAX_BUDGET}
 
 -- an option that takes a number
 abbrev pub number_rule : List ℕ → ℕ → ℕ → Rule

@@ -5,14 +5,9 @@ ghost use Rattle.ic_bench.specs.CommandLine.{Choose, IsFaultOf, budget_rule, icb
 
 use crate::help::{ABOUT, LESSON};
 use clap::{Arg, ArgAction, Command, Error, value_parser};
+use ic_session::{MAX_BUDGET, MAX_WORKERS};
 use std::alloc::{AllocError, Global};
 use std::convert::AsStr;
-
-/// The most worker threads.
-pub const MAX_WORKERS: u8 = 64;
-
-/// The most events that a `reduce` may be allowed to fire.
-pub const MAX_BUDGET: u32 = 1_048_576;
 
 /// What the command line chooses.
 #[derive(Clone, Copy, Debug, PartialEq, Eq)]

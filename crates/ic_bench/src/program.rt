@@ -15,7 +15,7 @@ use crate::statuses::{
 use clap::Error;
 use clap::error::ErrorKind;
 use ic_lines::write_reply;
-use ic_session::{Fault, run_session};
+use ic_session::{Fault, MAX_WORKERS, run_session};
 use std::alloc::Global;
 use std::convert::AsStr;
 use std::io;
@@ -52,7 +52,7 @@ fn run<R: Read, W: Write, E: Write, T: Threads + Wait + Sync>(
     writer: &mut W,
     errors: &mut E,
 ) -> u8
-    requires { (0 < options.workers) × (options.workers ≤ 64) }
+    requires { (0 < options.workers) × (options.workers ≤ MAX_WORKERS) }
     ensures { RunsSession options.workers options.budget (R.remaining reader.old) (record { before = W.contents writer.old; after = W.contents writer.new }) (record { before = E.contents errors.old; after = E.contents errors.new }) result }
 {
     match run_session(

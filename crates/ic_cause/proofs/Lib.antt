@@ -17,3 +17,5 @@ pub mod AddedEvents
 pub mod RemovedEvents
 pub mod Dependences
 pub mod OneFuture
+pub mod StrictOrders
+pub mod OneJournal

@@ -11,6 +11,6 @@ pub mod order;
 
 pub use dependents::Dependents;
 pub use journal::{RankedEvent, journal_text};
-pub use laws::one_future;
+pub use laws::{one_future, one_journal};
 pub use makers::direct_causes;
 pub use order::{canonical_cmp, rank_of};

@@ -12,7 +12,7 @@ mod view;
 
 pub use claims::{Busy, Claims, Ticket};
 pub use laws::{one_holder, ticket_word, tickets};
-pub use limits::{CLAIM_WORDS, MAX_BUDGET, MAX_SEATS};
+pub use limits::{CLAIM_WORDS, MAX_BUDGET, MAX_SEATS, MAX_WORKERS};
 pub use rule::ClaimRule;
 pub use seat::Seat;
 pub use view::View;

@@ -7,6 +7,9 @@ pub const MAX_BUDGET: u32 = 1_048_576;
 /// How many seats there are, at most; they are numbered from 0 on.
 pub const MAX_SEATS: u64 = 64;
 
+/// How many workers there are, at most, each with a seat of its own.
+pub const MAX_WORKERS: u32 = 64;
+
 /// Where the stop word stands in the table: first, since a split or a join loads the first word.
 pub(crate) const STOP_PLACE: usize = 0;
 

@@ -4,8 +4,7 @@ use Rattle.std.specs.Prelude.{MatchResult}
 use Rattle.ic_path.specs.Orders.{IsIn}
 use Rattle.ic_path.proofs.Alikes.{alike_back, alike_then}
 use Rattle.ic_journal.specs.Views.{BenchView}
-use Rattle.ic_journal.specs.Benches.{IsBench}
-use Rattle.ic_journal.specs.Calls.{Stays}
+use Rattle.ic_journal.specs.Benches.{IsAt, IsBench}
 use Rattle.ic_journal.proofs.MachineSteps.{events_at}
 use Rattle.ic_undo.specs.declared.faults.BackFault.{BackFault}
 use Rattle.ic_undo.specs.declared.faults.Counts.{Counts}
@@ -18,7 +17,6 @@ use Rattle.ic_answer.specs.declared.answer.Answer.{Answer}
 use Rattle.ic_answer.specs.declared.refused.Refused.TheVariants.{HistoryFull, Memory, NoMark, TooManyMarks}
 use Rattle.ic_answer.specs.Texts.{answer_text, refusal_text}
 use Rattle.ic_answer.specs.Turns as bench
-use Rattle.ic_reduce.proofs.BenchSteps.{still_at}
 use Rattle.ic_desk.specs.Places.{IsPlace, PutsAt}
 use Rattle.ic_desk.specs.Replies.{Replies, marked_text, back_text, wanting_text, of_bench, marked, too_many, mark_memory, no_mark, back_history_full, back, back_memory}
 use Rattle.ic_desk.specs.Views.{NamedView, DeskView, IsDesk, Turns}
@@ -131,12 +129,12 @@ module _ (old new : BenchView) (ok : IsBench old) (lawful : IsBench new) (marks 
   }
 
   -- or the history has no room
-  pub no_room_turns : DontFitBack old x.mark → Stays old new → Turns (desk_of old marks) (Back name) (refusal_text HistoryFull) (desk_of new marks)
-  no_room_turns h stays = record {
-    start = stays.same.start;
+  pub no_room_turns : DontFitBack old x.mark → new ≡ old → Turns (desk_of old marks) (Back name) (refusal_text HistoryFull) (desk_of new marks)
+  no_room_turns h stayed = record {
+    start = ap (λ (v : BenchView). v.start) stayed;
     replies = λ st at. (
         let own = subst (λ s. DontFitBack old (record { start = s; events = x.mark.events })) same h in
         let many = doesnt_fit_at old ok x.mark.events over st.bench at.bench own in
-        (st, back_history_full (noted marks at.marks name x there named) many.2 many.3 many.4, record { bench = still_at old new stays st.bench at.bench; marks = at.marks })
+        (st, back_history_full (noted marks at.marks name x there named) many.2 many.3 many.4, record { bench = subst (λ (v : BenchView). IsAt v st.bench) (sym stayed) at.bench; marks = at.marks })
         );
   }

@@ -8,7 +8,7 @@ use Rattle.ic_path.specs.Orders.{IsIn}
 use Rattle.ic_path.specs.Rings.{HasEachOnce}
 use Rattle.ic_theory.specs.Starts.{Start}
 use Rattle.ic_theory.specs.Machine.{Standing, State, events, Answers}
-use Rattle.ic_answer.specs.Standing.{AreCanonical}
+use Rattle.ic_cause.specs.Journals.{AreCanonical}
 use Rattle.ic_answer.specs.Unwinding.{AreLastFirst, AreUndoneInTurn, events_of}
 
 -- the standing events that the mark doesn't have, the last in canonical order first

@@ -14,7 +14,7 @@ use ic_command::{Command, Request};
 use ic_journal::{Bench, LinkStore, Store};
 use ic_reduce::{End, NoGate};
 use ic_start::Start;
-use ic_work::{SweepFault, sweep};
+use ic_work::{MAX_BUDGET, MAX_WORKERS, SweepFault, sweep};
 use std::alloc::{AllocError, Global};
 use std::marker::Model;
 use std::sync::Wait;
@@ -22,9 +22,6 @@ use std::thread::Threads;
 
 /// The marks of a desk, at most.
 pub const MAX_MARKS: usize = 256;
-
-/// The events that a sweep may fire, at most.
-pub const MAX_SWEPT: u32 = 1_048_576;
 
 /// A bench, and marks of what stood on it, to which it can go back, over a store of links.
 #[derive(Drop)]
@@ -88,12 +85,14 @@ impl Desk<Store> {
         workers: u32,
         request: Request,
     ) -> Result<(Desk<Store>, Answer), DeskFault>
-        requires { (0 < workers) × (workers ≤ 64) }
+        requires { (0 < workers) × (workers ≤ MAX_WORKERS) }
         ensures { IfOk result (λ r. TurnsWith workers self request (answer_text r.1) r.0) }
     {
         match request {
-            Request::Bench(Command::Reduce(most)) if 1 < workers && 0 < most && most <= MAX_SWEPT =>
-                { self.sweep(threads, alloc, workers, most) }
+            Request::Bench(Command::Reduce(most))
+                if 1 < workers && 0 < most && most <= MAX_BUDGET => {
+                self.sweep(threads, alloc, workers, most)
+            }
             other => {
                 let answer = self.carry_out(alloc, other)?;
                 Ok((self, answer))
@@ -113,8 +112,8 @@ impl Desk<Store> {
         workers: u32,
         most: u32,
     ) -> Result<(Desk<Store>, Answer), DeskFault>
-        requires workers { (1 < workers) × (workers ≤ 64) }
-        requires most { (0 < most) × (most ≤ 1048576) }
+        requires workers { (1 < workers) × (workers ≤ MAX_WORKERS) }
+        requires most { (0 < most) × (most ≤ MAX_BUDGET) }
         ensures { IfOk result (λ r. TurnsWith workers self (request.Bench (Reduce most)) (answer_text r.1) r.0) }
     {
         let Desk { bench, marks } = self;

@@ -10,3 +10,4 @@ mod texts;
 
 pub use desk::{Desk, MAX_MARKS};
 pub use fault::DeskFault;
+pub use ic_work::{MAX_BUDGET, MAX_WORKERS};

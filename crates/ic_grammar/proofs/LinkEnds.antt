@@ -10,7 +10,7 @@ use Rattle.ic_path.specs.Links.{degree}
 use Rattle.ic_theory.specs.Born.{placed, named as numbered}
 use Rattle.ic_theory.specs.Starts.{net_shape, port_times}
 use Rattle.ic_grammar.specs.Tokens.{Token, comma, closing, equals, semicolon}
-use Rattle.ic_grammar.specs.Grammar.{gamma, delta, Term, named, eps, fork, Equation, spell, text_of, symbols, names, port_of, root, behind, links, text_links}
+use Rattle.ic_grammar.specs.Grammar.{gamma, delta, Term, named, eps, fork, Equation, spell, equation_tokens, symbols, names, port_of, root, behind, links, text_links}
 
 -- 1 for what holds
 abbrev one : Bool → ℕ
@@ -88,13 +88,13 @@ term_ports N x i n (fork delta s t) rest ts =
     omega (arith, a, b, three_ports i (same_name x (start_name n)))
 
 -- the ends at a port of an agent are as many as the agents of this name that have the port
-pub text_ports : (N : List ℕ → ℕ) (x : Name) (i n : ℕ) (es : List Equation) → ends (ports.Of x i) (text_links N n es) ≡ port_times x i (numbered start_name n (symbols (text_of es)))
+pub text_ports : (N : List ℕ → ℕ) (x : Name) (i n : ℕ) (es : List Equation) → ends (ports.Of x i) (text_links N n es) ≡ port_times x i (numbered start_name n (symbols (equation_tokens es)))
 text_ports N x i n [] = refl
 text_ports N x i n (e ∷ es) =
     let m = behind e.left n in
     let k = behind e.right m in
-    let a = term_ports N x i n e.left ((root N n e.left, root N m e.right) ∷ links N m e.right (text_links N k es)) (equals ∷ spell e.right (semicolon ∷ text_of es)) in
-    let b = term_ports N x i m e.right (text_links N k es) (semicolon ∷ text_of es) in
+    let a = term_ports N x i n e.left ((root N n e.left, root N m e.right) ∷ links N m e.right (text_links N k es)) (equals ∷ spell e.right (semicolon ∷ equation_tokens es)) in
+    let b = term_ports N x i m e.right (text_links N k es) (semicolon ∷ equation_tokens es) in
     omega (arith, a, b, text_ports N x i k es)
 
 -- how often names with the number j occur
@@ -115,11 +115,11 @@ term_names N j n (fork f s t) rest ts =
     omega (arith, a, b)
 
 -- the ends at a name are as many as its occurrences
-pub text_names : (N : List ℕ → ℕ) (j n : ℕ) (es : List Equation) → ends (ports.Name j) (text_links N n es) ≡ told N j (names (text_of es))
+pub text_names : (N : List ℕ → ℕ) (j n : ℕ) (es : List Equation) → ends (ports.Name j) (text_links N n es) ≡ told N j (names (equation_tokens es))
 text_names N j n [] = refl
 text_names N j n (e ∷ es) =
     let m = behind e.left n in
     let k = behind e.right m in
-    let a = term_names N j n e.left ((root N n e.left, root N m e.right) ∷ links N m e.right (text_links N k es)) (equals ∷ spell e.right (semicolon ∷ text_of es)) in
-    let b = term_names N j m e.right (text_links N k es) (semicolon ∷ text_of es) in
+    let a = term_names N j n e.left ((root N n e.left, root N m e.right) ∷ links N m e.right (text_links N k es)) (equals ∷ spell e.right (semicolon ∷ equation_tokens es)) in
+    let b = term_names N j m e.right (text_links N k es) (semicolon ∷ equation_tokens es) in
     omega (arith, a, b, text_names N j k es)

@@ -2,6 +2,7 @@
 use Rattle.std.specs.Prelude.{◌≡◌, ℕ, ◌-◌, ◌≤◌, ◌<◌, ◌==◌, Bool, true, false, List, [], ◌∷◌, ◌++◌, length, map, count_by, ◌⊎◌, Option, Some, None, unwrap_or}
 use Rattle.ic_name.specs.declared.kinds.Kind.{Kind}
 use Rattle.ic_name.specs.declared.kinds.Kind.TheVariants.{Gamma, Delta}
+use Rattle.ic_name.specs.declared.rules.Profile.{Profile}
 use Rattle.ic_grammar.specs.declared.refusal.Refusal.{Refusal}
 use Rattle.ic_grammar.specs.declared.refusal.Refusal.TheVariants.{TooLong, BadByte, Syntax, NameTooLong, Thrice, TooManyAgents, TooNested, ReservedFree, TooManyFree}
 use Rattle.ic_name.specs.declared.limits.TheConstants.{MAX_START_AGENTS}
@@ -19,9 +20,10 @@ pub record At (text : List ℕ) (front : List Token) (o : ℕ) (t : Token) : Typ
 
 -- A text of the grammar can begin with the tokens.
 pub record IsFront (ts : List Token) : Type 0 where
+  pub profile : Profile
   pub equations : List Equation
   pub rest : List Token
-  pub parts : text_of equations ≡ ts ++ rest
+  pub parts : text_of profile equations ≡ ts ++ rest
 
 -- a symbol with arguments
 abbrev pub is_fork : Token → Bool
@@ -44,7 +46,7 @@ Stands text TooLong = MAX_TEXT < length text
 Stands text (BadByte o) = (front : List Token) × At text front o bad
 Stands text (Syntax o) =
     ((front : List Token) × (t : Token) × At text front o t × (IsFront (front ++ t ∷ []) → ⊥))
-    ⊎ ((o ≡ length text) × ((es : List Equation) → tokens text ≡ text_of es → ⊥))
+    ⊎ ((o ≡ length text) × ((p : Profile) (es : List Equation) → tokens text ≡ text_of p es → ⊥))
 Stands text (NameTooLong o) = (front : List Token) × (x : List ℕ) × At text front o (name x) × (MAX_NAME < length x)
 Stands text (Thrice o) = (front : List Token) × (x : List ℕ) × At text front o (name x) × (2 ≤ occurs x (names front))
 Stands text (TooManyAgents o) = (front : List Token) × (k : Kind) × At text front o (symbol k) × (MAX_START_AGENTS ≤ length (symbols front))

@@ -6,11 +6,12 @@ use Rattle.ic_name.specs.declared.kinds.Kind.{Kind}
 use Rattle.ic_name.specs.declared.kinds.Kind.TheVariants.{Gamma, Delta, Eps}
 use Rattle.ic_name.specs.declared.ports.Port.{Port}
 use Rattle.ic_name.specs.declared.ports.Port.TheVariants as ports
-use Rattle.ic_name.specs.declared.rules.Profile.TheVariants.{Classic}
+use Rattle.ic_name.specs.declared.rules.Profile.{Profile}
+use Rattle.ic_name.specs.declared.rules.Profile.TheVariants.{Classic, Straight}
 use Rattle.ic_name.specs.Names.{start_name}
 use Rattle.ic_theory.specs.Starts.{Start}
 use Rattle.ic_grammar.specs.Texts.{is_reserved}
-use Rattle.ic_grammar.specs.Tokens.{Token, symbol, name, opening, closing, comma, equals, semicolon, items, between}
+use Rattle.ic_grammar.specs.Tokens.{Token, symbol, name, opening, closing, comma, equals, semicolon, profile, items, between}
 
 -- the symbols that have arguments
 pub data Fork : Type 0 where
@@ -40,9 +41,18 @@ spell eps rest = symbol Eps ∷ rest
 spell (fork f s t) rest = symbol (kind_of f) ∷ opening ∷ spell s (comma ∷ spell t (closing ∷ rest))
 
 -- the tokens of equations
-abbrev pub text_of : List Equation → List Token
-text_of [] = []
-text_of (e ∷ es) = spell e.left (equals ∷ spell e.right (semicolon ∷ text_of es))
+abbrev pub equation_tokens : List Equation → List Token
+equation_tokens [] = []
+equation_tokens (e ∷ es) = spell e.left (equals ∷ spell e.right (semicolon ∷ equation_tokens es))
+
+-- the tokens that say the profile, and what follows them
+abbrev pub heading : Profile → List Token → List Token
+heading Classic ts = ts
+heading Straight ts = profile ∷ semicolon ∷ ts
+
+-- the tokens of a text: its profile, and then its equations
+abbrev pub text_of : Profile → List Equation → List Token
+text_of p es = heading p (equation_tokens es)
 
 -- the kinds of the symbols among tokens, from left to right
 abbrev pub symbols : List Token → List Kind
@@ -94,11 +104,12 @@ text_links N n [] = []
 text_links N n (e ∷ es) =
     links N n e.left ((root N n e.left, root N (behind e.left n) e.right) ∷ links N (behind e.left n) e.right (text_links N (behind e.right (behind e.left n)) es))
 
--- The start of equations: the kinds of the symbols, the links, and the names by number.
-abbrev pub start_of : List Equation → Start
-start_of es =
-    let xs = distinct (names (text_of es)) in
-    record { kinds = symbols (text_of es); joins = text_links (λ x. position_or_len (bytes_eq x) xs) 0 es; names = xs; profile = Classic }
+-- The start of a profile and equations: the kinds of the symbols, the links, the names by number, and the profile.
+abbrev pub start_of : Profile → List Equation → Start
+start_of p es =
+    let ts = equation_tokens es in
+    let xs = distinct (names ts) in
+    record { kinds = symbols ts; joins = text_links (λ x. position_or_len (bytes_eq x) xs) 0 es; names = xs; profile = p }
 
 -- how often a name occurs
 abbrev pub occurs : List ℕ → List (List ℕ) → ℕ
@@ -115,7 +126,8 @@ tokens text = map (λ i. i.token) (items between 0 text)
 
 -- The text denotes the start.
 pub record Denotes (text : List ℕ) (s : Start) : Type 0 where
+  pub profile : Profile
   pub equations : List Equation
-  pub grammar : tokens text ≡ text_of equations
+  pub grammar : tokens text ≡ text_of profile equations
   pub allowed : AreNames (names (tokens text))
-  pub start : s ≡ start_of equations
+  pub start : s ≡ start_of profile equations

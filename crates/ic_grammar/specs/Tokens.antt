@@ -1,11 +1,13 @@
 -- The bytes of a text fall into gaps and tokens.
-use Rattle.std.specs.Prelude.{ℕ, ◌+◌, ◌==◌, nat_le, ◌&&◌, ◌||◌, Bool, List, [], ◌∷◌, Option, Some, None, if◌then◌else◌}
+use Rattle.std.specs.Prelude.{ℕ, ◌+◌, ◌==◌, nat_le, ◌&&◌, ◌||◌, Bool, List, [], ◌∷◌, Option, Some, None, if◌then◌else◌, codes}
 use Rattle.std.specs.List.{take_while}
+use Rattle.std.specs.Str.{bytes_eq}
 use Rattle.ic_name.specs.declared.kinds.Kind.{Kind}
 use Rattle.ic_name.specs.declared.kinds.Kind.TheVariants.{Gamma, Delta, Eps}
 use Rattle.ic_grammar.specs.Texts.{is_letter, is_digit, is_name_byte}
 
--- A token. A digit that no name runs over, and a byte that may not stand where it does, count as tokens too.
+-- A token. The profile is the nine bytes `@straight`. An `@` that begins no profile, a digit that no name runs over, and
+-- a byte that may not stand where it does count as tokens too.
 pub data Token : Type 0 where
   symbol : Kind → Token
   name : List ℕ → Token
@@ -14,6 +16,8 @@ pub data Token : Type 0 where
   comma : Token
   equals : Token
   semicolon : Token
+  profile : Token
+  stray : Token
   digit : Token
   bad : Token
 
@@ -39,7 +43,15 @@ single b =
     else if is_digit b then digit
     else bad
 
--- what a byte stands in: a name, a comment, or neither
+-- behind an `@`: the letters of `straight`, and then no byte that a name goes on with
+abbrev pub begins_profile : List ℕ → Bool
+begins_profile bs = bytes_eq (take_while is_name_byte bs) (codes "straight")
+
+-- the token of an `@`, by what is behind it
+abbrev pub at_sign : List ℕ → Token
+at_sign bs = if begins_profile bs then profile else stray
+
+-- what a byte stands in: a name or the letters behind an `@`, a comment, or neither
 pub data Mode : Type 0 where
   between : Mode
   in_name : Mode
@@ -50,6 +62,7 @@ unfoldable pub token_from : ℕ → List ℕ → Option Token
 token_from b bs =
     if is_gap b || (b == 35) then None
     else if is_letter b then Some (name (b ∷ take_while is_name_byte bs))
+    else if b == 64 then Some (at_sign bs)
     else Some (single b)
 
 -- the token that begins with a byte, by what the byte stands in
@@ -60,7 +73,7 @@ token_at in_comment b bs = if (b == 10) || is_comment_byte b then None else Some
 
 -- what the next byte stands in
 unfoldable pub mode_from : ℕ → Mode
-mode_from b = if b == 35 then in_comment else if is_letter b then in_name else between
+mode_from b = if b == 35 then in_comment else if is_letter b || (b == 64) then in_name else between
 
 -- what the next byte stands in, by what this one does
 unfoldable pub mode_after : Mode → ℕ → Mode

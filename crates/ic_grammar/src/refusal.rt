@@ -13,10 +13,11 @@ pub enum Refusal {
     #[error("too long: the text has more than 1,048,576 bytes; expected at most so many")]
     TooLong,
     /// A byte that no token has, or in a comment one that may not stand there.
-    #[error("bad byte: the byte at {0} begins no token; expected a name, `G`, `D`, `E`, one of `(`, `)`, `,`, `=` and `;`, a blank, or `#` and a comment of printable ASCII")]
+    #[error("bad byte: the byte at {0} begins no token; expected a name, `G`, `D`, `E`, one of `(`, `)`, `,`, `=` and `;`, `@straight`, a blank, or `#` and a comment of printable ASCII")]
     BadByte(usize),
-    /// A token with which the text so far begins no text of the grammar, or the end of the text within an equation.
-    #[error("syntax: what stands at byte {0}, or the end of the text there, cannot come next; expected equations `TERM = TERM;`, each term a name, `E`, `G(TERM,TERM)` or `D(TERM,TERM)`")]
+    /// A token with which the text so far begins no text of the grammar, or the end of the text where more
+    /// has to come.
+    #[error("syntax: what stands at byte {0}, or the end of the text there, cannot come next; expected `@straight;` or nothing in first place, and then equations `TERM = TERM;`, each term a name, `E`, `G(TERM,TERM)` or `D(TERM,TERM)`")]
     Syntax(usize),
     /// A name of more than `MAX_NAME` bytes.
     #[error("name too long: the name at byte {0} has more than 32 bytes; expected at most 32")]

@@ -1,6 +1,7 @@
 -- What holds of every bench.
 use Rattle.std.specs.Prelude.{◌≡◌, ◌+◌, ◌≤◌, [], length, map}
 use Rattle.ic_name.specs.declared.limits.TheConstants.{MAX_LINES}
+use Rattle.ic_name.specs.declared.ids.AgentId.{AgentId}
 use Rattle.ic_path.specs.Orders.{IsIn, Alike}
 use Rattle.ic_theory.specs.Starts.{Start}
 use Rattle.ic_theory.specs.Machine.{Standing, State, IsHistory}
@@ -17,13 +18,19 @@ pub record IsAt (v : BenchView) (st : State) : Type 0 where
   pub history : IsHistory v.start v.lines st
   pub standing : Alike (map fired_in v.events) st.standing
 
--- what a bench keeps: a legal history with what stands after it, not too long with its room, and agents whose serial
--- numbers are those of lines that have been
+-- the serial number of an agent tells who made it: 0 is the start, and else it is one more than the line of the firing
+-- of its maker
+pub record HaveOwnSerials (v : BenchView) : Type 0 where
+  pub start : (m : Member) → IsIn m v.agents → m.name.digits ≡ [] → m.id.serial ≡ 0
+  pub born : (x : Stander) → IsIn x v.events → (d : AgentId) → IsIn d x.born → d.serial ≡ x.id.line + 1
+
+-- what a bench keeps: a legal history with what stands after it, not too long with its room, and agents under ids that
+-- tell who made them
 pub record IsRunning (v : BenchView) : Type 0 where
   pub state : State
   pub at : IsAt v state
   pub short : length v.lines + v.room ≤ MAX_LINES
-  pub serials : (m : Member) → IsIn m v.agents → m.id.serial ≤ length v.lines
+  pub serials : HaveOwnSerials v
 
 -- what holds of every bench
 pub record IsBench (v : BenchView) : Type 0 where

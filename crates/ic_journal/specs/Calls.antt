@@ -62,8 +62,8 @@ Undoes old id (Err (undo.Held d)) new = Refuses old (Undo id.line) (reply.Held d
 Undoes old id (Err undo.HistoryFull) new = (length old.lines ≡ MAX_LINES) × (new ≡ old)
 Undoes old id (Err undo.Memory) new = (length old.lines < MAX_LINES) × (old.room ≡ 0) × (new ≡ old)
 
--- what reserving room for so many lines does
+-- what reserving room for so many lines does; want of memory comes only where less room was there
 abbrev pub Reserves : BenchView → ℕ → Result (Unit {0}) ReserveFault → BenchView → Type 0
 Reserves old n (Ok u) new = Stays old new × (n ≤ new.room)
 Reserves old n (Err reserve.HistoryFull) new = (MAX_LINES < length old.lines + n) × (new ≡ old)
-Reserves old n (Err reserve.Memory) new = (length old.lines + n ≤ MAX_LINES) × (new ≡ old)
+Reserves old n (Err reserve.Memory) new = (length old.lines + n ≤ MAX_LINES) × (old.room < n) × (new ≡ old)

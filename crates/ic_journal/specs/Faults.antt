@@ -1,5 +1,6 @@
 -- The numbers of faults.
 use Rattle.std.specs.Prelude.{ℕ}
+use Rattle.ic_name.specs.declared.numbers.TheConstants.{DEEP, FULL, HELD, HISTORY_FULL, MEMORY, NOT_ACTIVE, NOT_STANDING}
 use Rattle.ic_journal.specs.declared.faults.FireFault.{FireFault}
 use Rattle.ic_journal.specs.declared.faults.FireFault.TheVariants as fire
 use Rattle.ic_journal.specs.declared.faults.UndoFault.{UndoFault}
@@ -11,25 +12,25 @@ use Rattle.ic_journal.specs.declared.faults.ProposeFault.TheVariants as propose
 
 -- the number of a refusal of `fire`
 abbrev pub fire_number : FireFault → ℕ
-fire_number (fire.HistoryFull e) = 24
-fire_number fire.NotActive = 21
-fire_number fire.Deep = 22
-fire_number fire.Full = 23
-fire_number (fire.Memory e) = 25
+fire_number (fire.HistoryFull e) = HISTORY_FULL
+fire_number fire.NotActive = NOT_ACTIVE
+fire_number fire.Deep = DEEP
+fire_number fire.Full = FULL
+fire_number (fire.Memory e) = MEMORY
 
 -- the number of a refusal of `undo`
 abbrev pub undo_number : UndoFault → ℕ
-undo_number undo.HistoryFull = 24
-undo_number undo.NotStanding = 31
-undo_number (undo.Held d) = 32
-undo_number undo.Memory = 25
+undo_number undo.HistoryFull = HISTORY_FULL
+undo_number undo.NotStanding = NOT_STANDING
+undo_number (undo.Held d) = HELD
+undo_number undo.Memory = MEMORY
 
 -- the number of a refusal of `reserve`
 abbrev pub reserve_number : ReserveFault → ℕ
-reserve_number reserve.HistoryFull = 24
-reserve_number reserve.Memory = 25
+reserve_number reserve.HistoryFull = HISTORY_FULL
+reserve_number reserve.Memory = MEMORY
 
 -- the number of a refusal of `propose`
 abbrev pub propose_number : ProposeFault → ℕ
-propose_number propose.NotActive = 21
-propose_number propose.Memory = 25
+propose_number propose.NotActive = NOT_ACTIVE
+propose_number propose.Memory = MEMORY

@@ -6,3 +6,4 @@ pub mod Verdicts
 pub mod Proposals
 pub mod Faults
 pub mod Reads
+pub mod Restored

@@ -47,8 +47,8 @@ impl<L: LinkStore> Bench<L> {
         })
     }
 
-    /// What holds of every bench, for whoever has to show it: its history is legal, and what it shows is what stands
-    /// after it.
+    /// What holds of every bench, for whoever has to show it: its history is legal, what it shows is what stands after it,
+    /// and the serial number of an agent tells the line of the firing that made it.
     pub fn lawful(&self)
         ensures { IsBench self.now }
     {
@@ -69,7 +69,8 @@ impl<L: LinkStore> Bench<L> {
         self.history.room()
     }
 
-    /// Reserves room for so many lines. It is `HistoryFull` exactly where the history would be too long with them.
+    /// Reserves room for so many lines. It is `HistoryFull` exactly where the history would be too long with them. `Memory`
+    /// comes only where `room()` is less than that; with room, the call takes no memory. At an error nothing changes.
     pub fn reserve(&mut self, lines: usize) -> Result<(), ReserveFault>
         ensures { Reserves self.old lines result self.new }
     {

@@ -2,7 +2,7 @@ ghost use Rattle.std.specs.Prelude.{◌≡◌};
 ghost use Rattle.ic_journal.specs.Faults.{fire_number, undo_number, reserve_number, propose_number};
 
 use crate::proposal::Proposal;
-use ic_name::EventId;
+use ic_name::{EventId, numbers};
 use thiserror::Error;
 
 /// Why an event isn't fired. Where the call is no step of the machine, it hands the proposal back.
@@ -65,11 +65,11 @@ impl FireFault {
         ensures { result ≡ fire_number self.now }
     {
         match self {
-            FireFault::HistoryFull(_) => 24,
-            FireFault::NotActive => 21,
-            FireFault::Deep => 22,
-            FireFault::Full => 23,
-            FireFault::Memory(_) => 25,
+            FireFault::HistoryFull(_) => numbers::HISTORY_FULL,
+            FireFault::NotActive => numbers::NOT_ACTIVE,
+            FireFault::Deep => numbers::DEEP,
+            FireFault::Full => numbers::FULL,
+            FireFault::Memory(_) => numbers::MEMORY,
         }
     }
 }
@@ -80,10 +80,10 @@ impl UndoFault {
         ensures { result ≡ undo_number self }
     {
         match self {
-            UndoFault::HistoryFull => 24,
-            UndoFault::NotStanding => 31,
-            UndoFault::Held(_) => 32,
-            UndoFault::Memory => 25,
+            UndoFault::HistoryFull => numbers::HISTORY_FULL,
+            UndoFault::NotStanding => numbers::NOT_STANDING,
+            UndoFault::Held(_) => numbers::HELD,
+            UndoFault::Memory => numbers::MEMORY,
         }
     }
 }
@@ -94,8 +94,8 @@ impl ReserveFault {
         ensures { result ≡ reserve_number self }
     {
         match self {
-            ReserveFault::HistoryFull => 24,
-            ReserveFault::Memory => 25,
+            ReserveFault::HistoryFull => numbers::HISTORY_FULL,
+            ReserveFault::Memory => numbers::MEMORY,
         }
     }
 }
@@ -106,8 +106,8 @@ impl ProposeFault {
         ensures { result ≡ propose_number self }
     {
         match self {
-            ProposeFault::NotActive => 21,
-            ProposeFault::Memory => 25,
+            ProposeFault::NotActive => numbers::NOT_ACTIVE,
+            ProposeFault::Memory => numbers::MEMORY,
         }
     }
 }

@@ -53,7 +53,7 @@ pub(crate) fn judge<L: LinkStore>(
     let Some(pair) = set.active_pair(event) else {
         return Err(Refusal::NotActive);
     };
-    if is_deep(event) {
+    if is_deep(event, set.start().profile()) {
         return Err(Refusal::Deep);
     }
     if is_full(set, event) {
@@ -63,10 +63,10 @@ pub(crate) fn judge<L: LinkStore>(
 }
 
 /// Whether the event's children would have too many digits.
-fn is_deep(event: &Event) -> bool
+fn is_deep(event: &Event, profile: Profile) -> bool
     ensures { IsTrue result ↔ IsDeep event.now }
 {
-    event.lead().depth() == MAX_DEPTH && children(event) > 0
+    event.lead().depth() == MAX_DEPTH && children(event, profile) > 0
 }
 
 /// Whether with the event's children there would be too many agents.
@@ -74,15 +74,15 @@ fn is_full<L: LinkStore>(set: &StandingSet<L>, event: &Event) -> bool
     ensures { IsTrue result ↔ IsFull set.now.start (standing set.now) event.now }
 {
     set.lawful();
-    set.agents().len() > MAX_AGENTS - children(event)
+    set.agents().len() > MAX_AGENTS - children(event, set.start().profile())
 }
 
-/// How many children the event makes.
-fn children(event: &Event) -> usize
+/// How many children the event makes, whatever the profile.
+fn children(event: &Event, profile: Profile) -> usize
     ensures count { result ≡ length (born_agents event.now) }
     ensures few { result ≤ 4 }
 {
-    outcome(event.lead_kind(), event.other_kind(), Profile::Classic)
+    outcome(event.lead_kind(), event.other_kind(), profile)
         .children
         .len()
 }

@@ -2,6 +2,7 @@ ghost use Rattle.std.specs.Prelude.{◌≡◌};
 ghost use Rattle.ic_name.specs.Faults.{child_number, name_number};
 
 use crate::limits::MAX_DEPTH;
+use crate::numbers;
 use thiserror::Error;
 
 /// Why an agent's child has no name.
@@ -36,8 +37,8 @@ impl ChildFault {
         ensures { result ≡ child_number self }
     {
         match self {
-            ChildFault::Deep => 22,
-            ChildFault::Memory => 25,
+            ChildFault::Deep => numbers::DEEP,
+            ChildFault::Memory => numbers::MEMORY,
         }
     }
 }
@@ -48,9 +49,9 @@ impl NameFault {
         ensures { result ≡ name_number self }
     {
         match self {
-            NameFault::BadName(_) => 11,
-            NameFault::Deep => 22,
-            NameFault::Memory => 25,
+            NameFault::BadName(_) => numbers::BAD_NAME,
+            NameFault::Deep => numbers::DEEP,
+            NameFault::Memory => numbers::MEMORY,
         }
     }
 }

@@ -10,6 +10,7 @@ pub mod laws;
 pub mod limits;
 pub mod lines;
 pub mod names;
+pub mod numbers;
 pub mod ports;
 pub mod rules;
 mod shapes;

@@ -73,6 +73,13 @@ impl AgentName {
         self.start
     }
 
+    /// The digits, that of the earliest generation first. It takes no memory.
+    pub fn digits(&self) -> &[u8]
+        ensures { result.now ≡ self.now.digits }
+    {
+        self.digits.as_slice()
+    }
+
     /// The number of digits.
     pub fn depth(&self) -> usize
         ensures value { result ≡ depth_of self.now }
@@ -102,10 +109,11 @@ impl AgentName {
             return Err(ChildFault::Deep);
         }
         let name = self.copy().map_err(|_| ChildFault::Memory)?;
-        name.with_digit(digit).map_err(|_| ChildFault::Memory)
+        name.into_child(digit).map_err(|_| ChildFault::Memory)
     }
 
-    fn with_digit(mut self, digit: u8) -> Result<AgentName, AllocError>
+    /// The name of the child with this digit, made of the name itself. The name has fewer than `MAX_DEPTH` digits.
+    pub fn into_child(mut self, digit: u8) -> Result<AgentName, AllocError>
         requires small { digit < 4 }
         requires room { depth_of self < MAX_DEPTH }
         ensures { IfOk result (λ name. name ≡ child_name self digit) }

@@ -1,6 +1,7 @@
 -- Why a net makes no step.
 use Rattle.std.specs.Prelude.{ℕ}
 use Rattle.ic_name.specs.Events.{Event}
+use Rattle.ic_name.specs.declared.numbers.TheConstants.{DEEP, MEMORY, NOT_ACTIVE}
 use Rattle.ic_theory.specs.Nets.{Net}
 use Rattle.ic_theory.specs.Steps.{Meets}
 use Rattle.ic_theory.specs.Machine.{IsDeep}
@@ -9,9 +10,9 @@ use Rattle.ic_net.specs.declared.fault.StepFault.TheVariants.{NotActive, Deep, M
 
 -- the number of a fault
 abbrev pub step_number : StepFault → ℕ
-step_number NotActive = 21
-step_number Deep = 22
-step_number Memory = 25
+step_number NotActive = NOT_ACTIVE
+step_number Deep = DEEP
+step_number Memory = MEMORY
 
 -- Why a step is refused: the event isn't active in the net, else its children would be too deep; memory runs out only
 -- where neither holds.

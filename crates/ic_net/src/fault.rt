@@ -3,6 +3,7 @@ ghost use Rattle.ic_net.specs.StepFaults.{step_number};
 ghost use Rattle.ic_net.specs.declared.fault.StepFault.TheVariants as faults;
 
 use ic_name::limits::MAX_DEPTH;
+use ic_name::numbers;
 use std::alloc::AllocError;
 use thiserror::Error;
 
@@ -26,9 +27,9 @@ impl StepFault {
         ensures { result ≡ step_number self }
     {
         match self {
-            StepFault::NotActive => 21,
-            StepFault::Deep => 22,
-            StepFault::Memory => 25,
+            StepFault::NotActive => numbers::NOT_ACTIVE,
+            StepFault::Deep => numbers::DEEP,
+            StepFault::Memory => numbers::MEMORY,
         }
     }
 }

@@ -11,11 +11,11 @@ use Rattle.ic_theory.proofs.NormalEnds.{normal_one}
 use Rattle.ic_set.specs.Views.{standing}
 use Rattle.ic_journal.specs.Views.{BenchView, set_of}
 use Rattle.ic_print.specs.NetText.{net_text}
-use Rattle.ic_cause.specs.Journals.{journal_text}
-use Rattle.ic_answer.specs.Standing.{AreJournal}
+use Rattle.ic_cause.specs.Journals.{IsJournal, journal_text}
+use Rattle.ic_cause.proofs.OneJournal.{one_journal}
 use Rattle.ic_reduce.specs.Reducing.{IsNormal}
 use Rattle.ic_one_text.specs.NormalEnds.{EndsNormal, IsNetOf, IsJournalOf}
-use Rattle.ic_one_text.proofs.OneTelling.{one_listed, one_journal}
+use Rattle.ic_one_text.proofs.OneTelling.{one_listed}
 
 -- the events that stand on a bench
 abbrev events_on : BenchView → List Event
@@ -46,7 +46,7 @@ one_net_text old new other after fired count x y e h k m n =
 pub one_journal_text : (old new other after : BenchView) (fired count : ℕ) (x y : List ℕ) → old.start ≡ other.start → EndsNormal old fired new → EndsNormal other count after
     → IsJournalOf new x → IsJournalOf after y → x ≡ y
 one_journal_text old new other after fired count x y e h k m n =
-    let journal = subst (λ (s : Start). AreJournal s (events_on after) n.ranked) (one_start e h k) n.journal in
+    let journal = subst (λ (s : Start). IsJournal s (events_on after) n.ranked) (one_start e h k) n.journal in
     m.printed ∙ ap journal_text (one_journal new.start (one_set e h k) h.bench.set.sound m.ranked n.ranked m.journal journal) ∙ sym n.printed
 
 -- where the same stood before, as many were fired

@@ -7,13 +7,14 @@ use Rattle.ic_theory.specs.Nets.{net_of, IsSameNet}
 use Rattle.ic_theory.specs.Listed.{ListedNet, IsListing, shown}
 use Rattle.ic_theory.specs.Machine.{Standing, State, events}
 use Rattle.ic_print.specs.NetText.{net_text}
-use Rattle.ic_cause.specs.Journals.{Ranked, journal_text}
+use Rattle.ic_cause.specs.Journals.{Ranked, IsJournal, journal_text}
+use Rattle.ic_cause.proofs.OneJournal.{one_journal}
 use Rattle.ic_answer.specs.Replies.{IsNamed}
-use Rattle.ic_answer.specs.Standing.{AreActive, AreJournal, HasRank, AreCauses}
+use Rattle.ic_answer.specs.Standing.{AreActive, HasRank, AreCauses}
 use Rattle.ic_one_text.specs.States.{IsReached, AreSame}
 use Rattle.ic_answer.specs.Texts.{active_text, why_text}
 use Rattle.ic_one_text.proofs.OneEvent.{standing_once}
-use Rattle.ic_one_text.proofs.OneTelling.{one_listed, one_active, one_journal, one_rank, one_causes}
+use Rattle.ic_one_text.proofs.OneTelling.{one_listed, one_active, one_rank, one_causes}
 use Rattle.ic_one_text.proofs.SameStates.{same_back, same_events, reached_kept}
 use Rattle.ic_one_text.proofs.Saying.{WhySays, no_event, why}
 
@@ -43,7 +44,7 @@ module _ (s : Start) (ok : IsProper s) {st tt : State} (h : IsReached s st) (k :
   one_active_text es fs a b = ap active_text (one_active s (same_events same) (reached_kept s ok h).sound es fs a b)
 
   -- the journal
-  pub one_journal_text : (xs ys : List Ranked) → AreJournal s (events st) xs → AreJournal s (events tt) ys → journal_text xs ≡ journal_text ys
+  pub one_journal_text : (xs ys : List Ranked) → IsJournal s (events st) xs → IsJournal s (events tt) ys → journal_text xs ≡ journal_text ys
   one_journal_text xs ys a b = ap journal_text (one_journal s (same_events same) (reached_kept s ok h).sound xs ys a b)
 
   -- the rank and the causes of an event

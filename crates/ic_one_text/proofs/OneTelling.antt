@@ -1,39 +1,25 @@
 -- What is told of a set of events is determined, in whatever order the set is listed.
-use Rattle.std.proofs.Common.{◌≡◌, ℕ, List, [], ◌∷◌, map, reverse, refl, sym, ap, ◌∙◌}
+use Rattle.std.proofs.Common.{◌≡◌, ℕ, List, reverse, sym, ◌∙◌}
 use Rattle.std.proofs.lemmas.Cmp.{on_total}
 use Rattle.ic_name.specs.Names.{name_cmp}
 use Rattle.ic_name.specs.Events.{Event}
 use Rattle.ic_name.proofs.NameOrder.{name_cmp_total}
-use Rattle.ic_path.specs.Orders.{Alike, IsIn}
-use Rattle.ic_path.proofs.Alikes.{alike_back, alike_then, alike-in}
-use Rattle.ic_path.proofs.Picks.{in_first, in_more}
+use Rattle.ic_path.specs.Orders.{Alike}
+use Rattle.ic_path.proofs.Alikes.{alike_back, alike-in}
 use Rattle.ic_theory.specs.Starts.{Start, IsProper}
 use Rattle.ic_theory.specs.Nets.{net_of, IsSameNet}
 use Rattle.ic_theory.specs.Listed.{ListedNet, IsListing, shown}
 use Rattle.ic_theory.specs.Sound.{IsSound}
 use Rattle.ic_theory.proofs.AnyOrder.{net-alike}
 use Rattle.ic_theory.proofs.Normal.{active-alike}
-use Rattle.ic_theory.proofs.Replies.{canonical_total}
 use Rattle.ic_net.proofs.OneListing.{one_listing}
-use Rattle.ic_cause.specs.Journals.{Ranked}
-use Rattle.ic_answer.specs.Standing.{AreCanonical, AreActive, AreJournal, HasRank, AreCauses}
+use Rattle.ic_cause.proofs.StrictOrders.{sorted_same}
+use Rattle.ic_cause.proofs.OneJournal.{canonical_same}
+use Rattle.ic_answer.specs.Standing.{AreActive, HasRank, AreCauses}
 use Rattle.ic_answer.specs.Unwinding.{RestsOn, itself, through, AreLastFirst}
 use Rattle.ic_journal.proofs.SameSets.{rank-alike}
 use Rattle.ic_one_text.proofs.SameStates.{cause-alike}
-use Rattle.ic_one_text.proofs.SortedLists.{sorted_same, sorted_by, each_same, alike-reversed, reversed_same}
-
--- a ranked event is told by its event, where that gives its rank
-ranked_same : (rank : Event → ℕ) (xs ys : List Ranked) → map (λ (x : Ranked). x.event) xs ≡ map (λ (x : Ranked). x.event) ys
-    → ((x : Ranked) → IsIn x xs → x.rank ≡ rank x.event) → ((y : Ranked) → IsIn y ys → y.rank ≡ rank y.event) → xs ≡ ys
-ranked_same rank [] [] e f g = refl
-ranked_same rank [] (y ∷ ys) e f g = cc
-ranked_same rank (x ∷ xs) [] e f g = cc
-ranked_same rank (x ∷ xs) (y ∷ ys) e f g =
-    let event : x.event ≡ y.event = cc in
-    let behind : map (λ (z : Ranked). z.event) xs ≡ map (λ (z : Ranked). z.event) ys = cc in
-    let number : x.rank ≡ y.rank = f x (in_first x xs) ∙ ap rank event ∙ sym (g y (in_first y ys)) in
-    let rest = ranked_same rank xs ys behind (λ z i. f z (in_more x i)) (λ z i. g z (in_more y i)) in
-    λ i. record { event = event i; rank = number i } ∷ rest i
+use Rattle.ic_one_text.proofs.SortedLists.{sorted_by, each_same, alike-reversed, reversed_same}
 
 module _ (s : Start) {es fs : List Event} (a : Alike es fs) where
   -- an event that rests on another one does so still
@@ -42,10 +28,6 @@ module _ (s : Start) {es fs : List Event} (a : Alike es fs) where
   rests-alike (through i r k) = through (alike-in a i) (rests-alike r) (cause-alike s a k)
 
 module _ (s : Start) {es fs : List Event} (a : Alike es fs) (sound : IsSound s es) where
-  -- events in canonical order stand in one order
-  pub canonical_same : (xs ys : List Event) → Alike xs ys → AreCanonical s es xs → AreCanonical s fs ys → xs ≡ ys
-  canonical_same xs ys b h k = sorted_same (canonical_total sound.rank) xs ys b (h sound.rank sound.ranked) (k sound.rank (rank-alike s sound.rank a sound.ranked))
-
   -- one listing of the net
   pub one_listed : IsProper s → (l m : ListedNet) → IsListing l → IsListing m → IsSameNet (shown l) (net_of s es) → IsSameNet (shown m) (net_of s fs) → l ≡ m
   one_listed ok l m b c e f =
@@ -65,25 +47,18 @@ module _ (s : Start) {es fs : List Event} (a : Alike es fs) (sound : IsSound s e
       (sorted_by (λ (e : Event). e.lead) name_cmp xs h.by_lead)
       (sorted_by (λ (e : Event). e.lead) name_cmp ys k.by_lead)
 
-  -- one journal
-  pub one_journal : (xs ys : List Ranked) → AreJournal s es xs → AreJournal s fs ys → xs ≡ ys
-  one_journal xs ys h k = ranked_same sound.rank xs ys
-      (canonical_same _ _ (alike_then (alike_back h.alike) (alike_then a k.alike)) h.canonical k.canonical)
-      (h.ranks sound.rank sound.ranked)
-      (k.ranks sound.rank (rank-alike s sound.rank a sound.ranked))
-
   -- one rank of an event
   pub one_rank : (e : Event) (m n : ℕ) → HasRank s es e m → HasRank s fs e n → m ≡ n
   one_rank e m n h k = h sound.rank sound.ranked ∙ sym (k sound.rank (rank-alike s sound.rank a sound.ranked))
 
   -- one list of causes of an event
   pub one_causes : (e : Event) (xs ys : List Event) → AreCauses s es e xs → AreCauses s fs e ys → xs ≡ ys
-  one_causes e xs ys h k = canonical_same xs ys (each_same xs ys (λ c i. cause-alike s a i) (λ c i. cause-alike s (alike_back a) i) h.each k.each) h.canonical k.canonical
+  one_causes e xs ys h k = canonical_same s a sound xs ys (each_same xs ys (λ c i. cause-alike s a i) (λ c i. cause-alike s (alike_back a) i) h.each k.each) h.canonical k.canonical
 
   -- one list, the last first, of the events with a property that is the same for both
   pub one_last_first : {P Q : Event → Type 0} (xs ys : List Event) → ((e : Event) → P e → Q e) → ((e : Event) → Q e → P e)
       → AreLastFirst s es P xs → AreLastFirst s fs Q ys → xs ≡ ys
   one_last_first xs ys to from h k =
-      reversed_same xs ys (canonical_same (reverse xs) (reverse ys)
+      reversed_same xs ys (canonical_same s a sound (reverse xs) (reverse ys)
       (alike-reversed xs ys (each_same xs ys (λ e i. (alike-in a i.0, to e i.1)) (λ e i. (alike-in (alike_back a) i.0, from e i.1)) h.each k.each))
       h.backwards k.backwards)

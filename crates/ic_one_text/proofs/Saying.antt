@@ -14,14 +14,14 @@ use Rattle.ic_theory.specs.Listed.{ListedNet, IsListing, shown}
 use Rattle.ic_theory.specs.Active.{IsActive}
 use Rattle.ic_theory.specs.Machine.{Standing, State, events, Answers}
 use Rattle.ic_print.specs.NetText.{net_text}
-use Rattle.ic_cause.specs.Journals.{Ranked, journal_text}
+use Rattle.ic_cause.specs.Journals.{Ranked, IsJournal, journal_text}
 use Rattle.ic_command.specs.declared.command.Command.{Command}
 use Rattle.ic_command.specs.declared.command.Command.TheVariants.{Nothing, Net, Active, Journal, Fire, Undo, Why, Unwind, UndoAll, Reduce, Malformed}
 use Rattle.ic_answer.specs.declared.refused.Refused.TheVariants as refused
 use Rattle.ic_answer.specs.Replies.{IsNamed, NoneIsNamed, IsPresent, NoneIsPresent, Replies}
 use Rattle.ic_answer.specs.Replies as told
 use Rattle.ic_reduce.specs.Reducing.{IsNormal, AreFiredInTurn, MeetsLimit}
-use Rattle.ic_answer.specs.Standing.{AreActive, AreJournal, HasRank, AreCauses}
+use Rattle.ic_answer.specs.Standing.{AreActive, HasRank, AreCauses}
 use Rattle.ic_answer.specs.Texts.{pair_line, active_text, why_text, unwound_text, undone_all_text, reduced_text, refusal_text}
 use Rattle.ic_answer.specs.Unwinding.{RestsOn, IsAnyEvent, AreLastFirst, DontFit, events_of, AreUndoneInTurn}
 use Rattle.ic_one_text.specs.Wants.{Wants}
@@ -81,7 +81,7 @@ Says s st Nothing x next = (x ≡ []) × (next ≡ st)
 Says s st Malformed x next = (x ≡ refusal_text refused.Command) × (next ≡ st)
 Says s st Net x next = (l : ListedNet) × IsListing l × IsSameNet (shown l) (net_of s (events st)) × (x ≡ net_text s.names l) × (next ≡ st)
 Says s st Active x next = (es : List Event) × AreActive s (events st) es × (x ≡ active_text es) × (next ≡ st)
-Says s st Journal x next = (js : List Ranked) × AreJournal s (events st) js × (x ≡ journal_text js) × (next ≡ st)
+Says s st Journal x next = (js : List Ranked) × IsJournal s (events st) js × (x ≡ journal_text js) × (next ≡ st)
 Says s st (Why p) x next = WhySays s st p x × (next ≡ st)
 Says s st (Fire p) x next = FireSays s st p x next
 Says s st (Undo p) x next = UndoSays s st p x next

@@ -14,7 +14,8 @@ use Rattle.ic_answer.specs.Unwinding.{AreUndoneInTurn, events_of}
 use Rattle.ic_desk.specs.Backs.{AreOutside, AreMissing, AreFired, none, more, DontFit, GoesBack, GoesPartWay}
 use Rattle.ic_one_text.specs.States.{IsReached, AreSame}
 use Rattle.ic_one_text.proofs.OneStep.{one_line_more, reached_next, one_step}
-use Rattle.ic_one_text.proofs.OneTelling.{canonical_same, one_last_first}
+use Rattle.ic_cause.proofs.OneJournal.{canonical_same}
+use Rattle.ic_one_text.proofs.OneTelling.{one_last_first}
 use Rattle.ic_one_text.proofs.SameStates.{same_events, reached_kept}
 use Rattle.ic_one_text.proofs.SortedLists.{each_same}
 use Rattle.ic_one_text.proofs.UndoneRuns.{reached_undone, undone_once}

@@ -6,8 +6,7 @@ use Rattle.ic_set.specs.Views.{standing}
 use Rattle.ic_journal.specs.Views.{BenchView, set_of}
 use Rattle.ic_journal.specs.Benches.{IsBench}
 use Rattle.ic_print.specs.NetText.{net_text}
-use Rattle.ic_cause.specs.Journals.{Ranked, journal_text}
-use Rattle.ic_answer.specs.Standing.{AreJournal}
+use Rattle.ic_cause.specs.Journals.{Ranked, IsJournal, journal_text}
 use Rattle.ic_reduce.specs.declared.end.End.TheVariants.{Normal}
 use Rattle.ic_work.specs.Sweeps.{Sweeps}
 
@@ -27,5 +26,5 @@ pub record IsNetOf (v : BenchView) (text : List ℕ) : Type 0 where
 -- the text of the bench's journal
 pub record IsJournalOf (v : BenchView) (text : List ℕ) : Type 0 where
   pub ranked : List Ranked
-  pub journal : AreJournal v.start (standing (set_of v)) ranked
+  pub journal : IsJournal v.start (standing (set_of v)) ranked
   pub printed : text ≡ journal_text ranked

@@ -2,6 +2,7 @@
 use Rattle.std.proofs.Common.{◌≡◌, ℕ, ◌+◌, ◌<◌, Bool, true, false, List, [], ◌∷◌, ◌++◌, length, take, drop, get_or, refl, sym, ap, arith, subst, ◌∙◌}
 use Rattle.std.proofs.lemmas.List.{length-take-le, take-append-drop}
 use Rattle.ic_name.specs.Events.{Event}
+use Rattle.ic_theory.specs.CausalOrders.{IsCausalOrder}
 use Rattle.ic_theory.specs.Firings.{IsFired, fired, then_fired}
 use Rattle.ic_theory.specs.Active.{IsActive}
 use Rattle.ic_theory.specs.Starts.{Start, IsProper}
@@ -10,7 +11,7 @@ use Rattle.ic_theory.proofs.Sound.{fired_sound, sound_fired}
 use Rattle.ic_path.specs.Orders.{here, Alike, more}
 use Rattle.ic_path.proofs.Alikes.{alike_back, alike_then}
 use Rattle.ic_theory.proofs.Normal.{active-alike}
-use Rattle.ic_past.specs.Pasts.{PastView, Fires, IsCausalOrder}
+use Rattle.ic_past.specs.Pasts.{PastView, Fires}
 use Rattle.ic_past.proofs.SeenSoFar.{seen_more}
 
 -- an event more at the end is fired last

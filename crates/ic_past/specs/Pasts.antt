@@ -1,13 +1,11 @@
 -- Standing sets without limits: what they show, and what their calls do.
-use Rattle.std.specs.Prelude.{◌≡◌, ◌≢◌, Bool, true, false, List, [], ◌∷◌, map, Option, Some, None}
+use Rattle.std.specs.Prelude.{◌≡◌, ◌≢◌, Bool, true, false, List, ◌∷◌, map, Option, Some, None}
 use Rattle.ic_name.specs.Events.{Event, Pair, pair}
 use Rattle.ic_path.specs.Orders.{Alike, IsIn}
 use Rattle.ic_path.specs.Rings.{HasEachOnce}
 use Rattle.ic_theory.specs.Starts.{Start}
 use Rattle.ic_theory.specs.Active.{IsActive}
 use Rattle.ic_theory.specs.Causes.{IsCause, IsDependent}
-use Rattle.ic_theory.specs.Firings.{AreAfterCauses, then_fired}
-use Rattle.ic_theory.specs.Sound.{IsSound}
 
 -- the start, and the events that stand, in an order that no clause names
 pub record PastView : Type 0 where
@@ -39,7 +37,3 @@ abbrev pub AreCausesNamed : PastView → Pair → Option (List Pair) → Type 0
 AreCausesNamed v p (Some names) =
     (e : Event) × IsIn e v.events × (pair e ≡ p) × (cs : List Event) × HasEachOnce (IsCause v.start v.events e) cs × (map pair cs ≡ names)
 AreCausesNamed v p None = (e : Event) → IsIn e v.events → pair e ≢ p
-
--- the events are a sound set, each listed once and after its direct causes
-abbrev pub IsCausalOrder : Start → List Event → Type 0
-IsCausalOrder s list = IsSound s (then_fired [] list) × AreAfterCauses s (then_fired [] list) (then_fired [] list)

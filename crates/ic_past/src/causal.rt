@@ -1,6 +1,6 @@
 ghost use Rattle.std.specs.Prelude.{◌≤◌, ◌↔◌, IfOk, IsTrue, length};
 ghost use Rattle.ic_name.specs.declared.limits.TheConstants.{MAX_LINES};
-ghost use Rattle.ic_past.specs.Pasts.{IsCausalOrder};
+ghost use Rattle.ic_theory.specs.CausalOrders.{IsCausalOrder};
 
 use crate::past::Past;
 use ic_name::Event;

@@ -18,10 +18,10 @@ pub(crate) struct DeepEvent {
 }
 
 /// Whether no event can name the event's children.
-pub(crate) fn is_deep(event: &Event) -> bool
+pub(crate) fn is_deep(event: &Event, profile: Profile) -> bool
     ensures { IsTrue result ↔ IsDeep event.now }
 {
-    let rules = outcome(event.lead_kind(), event.other_kind(), Profile::Classic);
+    let rules = outcome(event.lead_kind(), event.other_kind(), profile);
     event.lead().depth() == MAX_DEPTH && !rules.children.is_empty()
 }
 

@@ -88,7 +88,7 @@ impl Past {
         if place_of(&self.deep, event.lead(), event.other()).is_some() {
             return Ok(false);
         }
-        if is_deep(event) {
+        if is_deep(event, self.set.start().profile()) {
             fire_beside(&self.set, &mut self.deep, event, pair)?;
         } else {
             fire_in_set(&mut self.set, event, pair)?;

@@ -47,7 +47,7 @@ is_reduced_more : (s : Start) (st mid next : State) (most n : ℕ) (end : End) �
 is_reduced_more s st mid next most n Normal few h k = (then_none h k.0, omega (arith, few), k.2)
 is_reduced_more s st mid next most n Budget few h k = let no = k.1 in absurd (omega (arith, no))
 is_reduced_more s st mid next most n Limit few h k = (k.0, then_none h k.1, few, k.3)
-is_reduced_more s st mid next most n Memory few h k = (then_none h k.0, few)
+is_reduced_more s st mid next most n Memory few h k = (then_none h k.0, few, k.2)
 
 pub reduced_more : (old mid new : BenchView) (most n : ℕ) (end : End) → n < most → HasFired old n mid
     → Reduces mid 1 0 end new → Reduces old most n end new

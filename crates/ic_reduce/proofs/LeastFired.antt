@@ -1,10 +1,11 @@
 -- The active pair with the least lead, and what firing it does.
-use Rattle.std.proofs.Common.{◌≡◌, ◌≢◌, ℕ, Err, inl, refl, sym, subst, arith, ◌∙◌}
+use Rattle.std.proofs.Common.{◌≡◌, ◌≢◌, ℕ, Err, inl, inr, refl, sym, ap, subst, arith, ◌∙◌}
 use Rattle.std.specs.declared.cmp.Ordering.TheVariants.{Less}
 use Rattle.ic_name.specs.Names.{name_cmp}
 use Rattle.ic_name.specs.Events.{Event, event_of}
 use Rattle.ic_name.specs.declared.lines.Call.TheVariants as call
 use Rattle.ic_name.specs.declared.lines.Reply.TheVariants as reply
+use Rattle.ic_name.proofs.NameOrder.{name_less_apart}
 use Rattle.ic_path.proofs.Alikes.{alike_back}
 use Rattle.ic_theory.specs.Active.{IsActive}
 use Rattle.ic_theory.specs.Starts.{Start}
@@ -19,9 +20,10 @@ use Rattle.ic_set.proofs.Namings.{same_member}
 use Rattle.ic_journal.specs.Views.{BenchView, set_of}
 use Rattle.ic_journal.specs.Benches.{IsAt, IsBench}
 use Rattle.ic_journal.specs.Calls.{Steps, Stays, Fires}
-use Rattle.ic_journal.specs.Proposals.{IsEventOf}
+use Rattle.ic_journal.specs.Proposals.{IsEventOf, Proposes}
 use Rattle.ic_journal.specs.declared.faults.FireFault.{FireFault}
 use Rattle.ic_journal.specs.declared.faults.FireFault.TheVariants as fault
+use Rattle.ic_journal.specs.declared.faults.ProposeFault.TheVariants as propose
 use Rattle.ic_journal.proofs.MachineSteps.{events_at}
 use Rattle.ic_reduce.specs.declared.end.End.TheVariants.{Normal, Budget, Limit, Memory}
 use Rattle.ic_reduce.specs.Reducing.{IsLeastActive, none, more, history_full, deep, full}
@@ -78,16 +80,32 @@ proposed_least v p e bench l h st at = subst (λ (f : Event). IsLeastActive v.st
     is : e ≡ found
     is = h.event ∙ of_both ∙ in_order
 
+-- its ids are those of two agents
+pub are_two : (v : BenchView) (p : ActivePair) → IsBench v → IsLeastPair (set_of v) p → Proposes v p.lead p.other (Err propose.NotActive) → ⊥
+are_two v p bench l (inl absent) = absent _ l.pair.lead refl
+are_two v p bench l (inr (inl absent)) = absent _ l.pair.other refl
+are_two v p bench l (inr (inr one)) =
+    let same = same_member v.agents _ _ bench.set.own_names l.pair.lead l.pair.other (inl one) in
+    name_less_apart _ _ l.pair.active.present.ordered (ap (λ (m : Member). m.name) same)
+
 -- nothing was fired, and a bench stays
 pub stays_normal : (v : BenchView) → ((e : Event) → IsActive v.start (standing (set_of v)) e → ⊥)
     → Reduces v 1 0 Normal v
 stays_normal v idle = record { start = refl; continues = still_continues v v refl; reduced = λ st at. (st, (none, omega arith, normal_at v idle st at), at) }
 
-pub stays_wanting : (v : BenchView) → Reduces v 1 0 Memory v
-stays_wanting v = record { start = refl; continues = still_continues v v refl; reduced = λ st at. (st, (none, omega arith), at) }
+pub stays_wanting : (v : BenchView) (p : ActivePair) → IsLeastPair (set_of v) p → Reduces v 1 0 Memory v
+stays_wanting v p l = record {
+  start = refl;
+  continues = still_continues v v refl;
+  reduced = λ st at. (st, (none, omega arith, (l.event, (least_at v p l st at).active)), at);
+}
 
-pub still_wanting : (old new : BenchView) → Stays old new → Reduces old 1 0 Memory new
-still_wanting old new stays = record { start = stays.same.start; continues = still_continues old new stays.lines; reduced = λ st at. (st, (none, omega arith), still_at old new stays st at) }
+pub still_wanting : (old new : BenchView) (e : Event) → IsLeastAt old e → Stays old new → Reduces old 1 0 Memory new
+still_wanting old new e least stays = record {
+  start = stays.same.start;
+  continues = still_continues old new stays.lines;
+  reduced = λ st at. (st, (none, omega arith, (e, (least st at).active)), still_at old new stays st at);
+}
 
 -- the event was fired
 pub fires_least : (old new : BenchView) (e : Event) → IsLeastAt old e → IsBench new
@@ -102,6 +120,12 @@ fires_least old new e least bench steps = record {
 isnt_active : {s : Start} {st next : State} {e : Event} → Answers s st (call.Fire e) reply.NotActive next
     → IsActive s (events st) e → ⊥
 isnt_active (not_active n) a = n a
+
+-- so the active pair with the least lead isn't refused so
+pub isnt_refused : (old new : BenchView) (e : Event) → IsLeastAt old e → IsBench old → Fires old e (Err fault.NotActive) new → ⊥
+isnt_refused old new e least bench fires =
+    let run = bench.running in
+    isnt_active (fires.0.step run.state run.at).1 (least run.state run.at).active
 
 -- or its firing met a limit
 pub meets_limit : (old new : BenchView) (e : Event) → IsLeastAt old e → IsBench new → (f : FireFault)
@@ -135,9 +159,9 @@ meets_limit old new e least bench (fault.HistoryFull x) room fires = subst (λ (
 meets_limit old new e least bench (fault.Memory x) room fires = absurd (room x refl)
 
 -- or there was no memory
-pub is_wanting : (old new : BenchView) (e x : Event) → Fires old e (Err (fault.Memory x)) new
+pub is_wanting : (old new : BenchView) (e x : Event) → IsLeastAt old e → Fires old e (Err (fault.Memory x)) new
     → Reduces old 1 0 Memory new
-is_wanting old new e x fires = still_wanting old new fires.2
+is_wanting old new e x least fires = still_wanting old new e least fires.2
 
 -- no event was fired yet
 pub none_fired : (v : BenchView) → HasFired v 0 v

@@ -11,12 +11,12 @@ use Rattle.ic_reduce.specs.declared.end.End.TheVariants.{Normal, Budget, Limit, 
 use Rattle.ic_reduce.specs.Continuing.{Continues}
 use Rattle.ic_reduce.specs.Reducing.{IsNormal, AreFiredInTurn, MeetsLimit}
 
--- so many events were fired, at most so many of them, and this ended it
+-- so many events were fired, at most so many of them, and this ended it; no pair is active then exactly at a normal end
 abbrev pub IsReduced : Start → State → ℕ → ℕ → End → State → Type 0
 IsReduced s st most n Normal next = AreFiredInTurn s n st next × (n ≤ most) × IsNormal s (events next)
 IsReduced s st most n Budget next = AreFiredInTurn s n st next × (n ≡ most) × ((e : Event) × IsActive s (events next) e)
 IsReduced s st most n Limit next = (mid : State) × AreFiredInTurn s n st mid × (n < most) × MeetsLimit s mid next
-IsReduced s st most n Memory next = AreFiredInTurn s n st next × (n < most)
+IsReduced s st most n Memory next = AreFiredInTurn s n st next × (n < most) × ((e : Event) × IsActive s (events next) e)
 
 -- the same of a bench, whatever state it shows; each call is one to fire an event
 pub record Reduces (old : BenchView) (most n : ℕ) (end : End) (new : BenchView) : Type 0 where

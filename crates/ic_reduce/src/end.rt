@@ -7,6 +7,6 @@ pub enum End {
     Budget,
     /// The firing of the active pair with the least lead meets a limit.
     Limit,
-    /// Memory ran out.
+    /// Memory ran out, and a pair is active still.
     Memory,
 }

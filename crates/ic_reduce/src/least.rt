@@ -3,10 +3,11 @@ ghost use Rattle.ic_reduce.specs.Reduced.{FiresNext, Reduces};
 
 use crate::end::End;
 use crate::gate::Gate;
-use ic_journal::{Bench, FireFault, LinkStore};
+use ic_journal::{Bench, FireFault, LinkStore, ProposeFault};
 
 /// Fires the active pair with the least lead again and again, at most so often; answers how many were fired, and why no
-/// more. The first call that meets a limit or finds no memory is the last one.
+/// more: `Normal` exactly where no pair is active any more, and each other end only where one is. The first call that
+/// meets a limit or finds no memory is the last one.
 ///
 /// The gate sees each commit as one of worker 0, with tickets from the first one on.
 pub fn fire_least<L: LinkStore, G: Gate>(
@@ -36,8 +37,10 @@ fn fire_next<L: LinkStore, G: Gate>(bench: &mut Bench<L>, gate: &G, ticket: u64)
     let Some(pair) = bench.least_active() else {
         return Some(End::Normal);
     };
-    let Ok(proposal) = bench.propose(pair.lead, pair.other) else {
-        return Some(End::Memory);
+    let proposal = match bench.propose(pair.lead, pair.other) {
+        Ok(proposal) => proposal,
+        Err(ProposeFault::NotActive) => unreachable!(),
+        Err(ProposeFault::Memory) => return Some(End::Memory),
     };
     gate.before_commit(0, ticket);
     let fired = bench.fire(proposal);
@@ -45,7 +48,7 @@ fn fire_next<L: LinkStore, G: Gate>(bench: &mut Bench<L>, gate: &G, ticket: u64)
     bench.lawful();
     match fired {
         Ok(_) => None,
-        Err(FireFault::NotActive) => Some(End::Limit),
+        Err(FireFault::NotActive) => unreachable!(),
         Err(FireFault::Deep) => Some(End::Limit),
         Err(FireFault::Full) => Some(End::Limit),
         Err(FireFault::HistoryFull(_)) => Some(End::Limit),

@@ -1,8 +1,9 @@
 -- A printed text denotes a start.
-use Rattle.std.proofs.Common.{ℕ, ◌+◌, ◌*◌, ◌^◌, ◌<◌, List, length, refl, sym, subst}
+use Rattle.std.proofs.Common.{◌≡◌, ℕ, ◌+◌, ◌*◌, ◌^◌, ◌<◌, List, length, refl, sym, ap, ◌∙◌, subst}
 use Rattle.ic_theory.specs.Starts.{Start}
 use Rattle.ic_theory.specs.Listed.{ListedNet}
-use Rattle.ic_grammar.specs.Grammar.{AreNames, Denotes, start_of, names as names_of}
+use Rattle.ic_grammar.specs.Grammar.{AreNames, Denotes, start_of, tokens, equation_tokens, names as names_of}
+use Rattle.ic_grammar.proofs.Headings.{heading_names}
 use Rattle.ic_print.specs.NetText.{net_text}
 use Rattle.ic_round_trip.specs.Printable.{IsPrintable}
 use Rattle.ic_round_trip.specs.Printed.{printed_equations}
@@ -13,4 +14,5 @@ use Rattle.ic_round_trip.proofs.PrintedNames.{printed_names}
 pub denoted : (names : List (List ℕ)) (l : ListedNet) → IsPrintable names l → 3 * length l.agents + l.rings < 2 ^ 64 → (s : Start) × Denotes (net_text names l) s
 denoted names l h few =
     let grammar = printed_tokens names l h in
-    (start_of (printed_equations names l), record { equations = printed_equations names l; grammar = grammar; allowed = subst (λ ts. AreNames (names_of ts)) (sym grammar) (printed_names names l h few); start = refl })
+    let same : names_of (tokens (net_text names l)) ≡ names_of (equation_tokens (printed_equations names l)) = ap names_of grammar ∙ heading_names l.profile (equation_tokens (printed_equations names l)) in
+    (start_of l.profile (printed_equations names l), record { profile = l.profile; equations = printed_equations names l; grammar = grammar; allowed = subst (λ xs. AreNames xs) (sym same) (printed_names names l h few); start = refl })

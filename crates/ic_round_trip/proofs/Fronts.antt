@@ -2,8 +2,10 @@
 use Rattle.std.proofs.Common.{◌≡◌, ℕ, List, [], ◌∷◌, ◌++◌, map, refl, ap, ◌∙◌}
 use Rattle.std.specs.List.{AllByRecursion}
 use Rattle.std.proofs.lemmas.List.{map-append}
-use Rattle.ic_grammar.specs.Tokens.{Token, symbol, name, opening, closing, comma, equals, semicolon, digit, bad, Item}
-use Rattle.ic_grammar.specs.Grammar.{Term, named, eps, fork, gamma, delta, Equation, spell, text_of, tokens, symbols, names}
+use Rattle.ic_name.specs.declared.rules.Profile.{Profile}
+use Rattle.ic_name.specs.declared.rules.Profile.TheVariants.{Classic, Straight}
+use Rattle.ic_grammar.specs.Tokens.{Token, symbol, name, opening, closing, comma, equals, semicolon, profile, stray, digit, bad, Item}
+use Rattle.ic_grammar.specs.Grammar.{Term, named, eps, fork, gamma, delta, Equation, spell, equation_tokens, heading, text_of, tokens, symbols, names}
 use Rattle.ic_grammar.specs.Faults.{At}
 
 -- the tokens are those before it, it, and those behind it
@@ -27,6 +29,8 @@ names_append (closing ∷ ts) us = names_append ts us
 names_append (comma ∷ ts) us = names_append ts us
 names_append (equals ∷ ts) us = names_append ts us
 names_append (semicolon ∷ ts) us = names_append ts us
+names_append (profile ∷ ts) us = names_append ts us
+names_append (stray ∷ ts) us = names_append ts us
 names_append (digit ∷ ts) us = names_append ts us
 names_append (bad ∷ ts) us = names_append ts us
 
@@ -40,6 +44,8 @@ symbols_append (closing ∷ ts) us = symbols_append ts us
 symbols_append (comma ∷ ts) us = symbols_append ts us
 symbols_append (equals ∷ ts) us = symbols_append ts us
 symbols_append (semicolon ∷ ts) us = symbols_append ts us
+symbols_append (profile ∷ ts) us = symbols_append ts us
+symbols_append (stray ∷ ts) us = symbols_append ts us
 symbols_append (digit ∷ ts) us = symbols_append ts us
 symbols_append (bad ∷ ts) us = symbols_append ts us
 
@@ -55,7 +61,16 @@ good_term eps rest h = (tt, h)
 good_term (fork gamma s t) rest h = (tt, (tt, good_term s (comma ∷ spell t (closing ∷ rest)) (tt, good_term t (closing ∷ rest) (tt, h))))
 good_term (fork delta s t) rest h = (tt, (tt, good_term s (comma ∷ spell t (closing ∷ rest)) (tt, good_term t (closing ∷ rest) (tt, h))))
 
+-- nor have equations
+good_equations : (es : List Equation) → AllByRecursion IsGood (equation_tokens es)
+good_equations [] = tt
+good_equations (e ∷ es) = good_term e.left (equals ∷ spell e.right (semicolon ∷ equation_tokens es)) (tt, good_term e.right (semicolon ∷ equation_tokens es) (tt, good_equations es))
+
+-- nor has what says the profile
+good_heading : (p : Profile) (ts : List Token) → AllByRecursion IsGood ts → AllByRecursion IsGood (heading p ts)
+good_heading Classic ts h = h
+good_heading Straight ts h = (tt, (tt, h))
+
 -- nor has a text of the grammar
-pub good_text : (es : List Equation) → AllByRecursion IsGood (text_of es)
-good_text [] = tt
-good_text (e ∷ es) = good_term e.left (equals ∷ spell e.right (semicolon ∷ text_of es)) (tt, good_term e.right (semicolon ∷ text_of es) (tt, good_text es))
+pub good_text : (p : Profile) (es : List Equation) → AllByRecursion IsGood (text_of p es)
+good_text p es = good_heading p (equation_tokens es) (good_equations es)

@@ -51,3 +51,4 @@ pub mod RereadWires
 pub mod SameBytes
 pub mod SortedEntries
 pub mod Tallies
+pub mod Trips

@@ -13,7 +13,7 @@ use Rattle.ic_name.specs.declared.ports.Port.{Port}
 use Rattle.ic_name.specs.declared.ports.Port.TheVariants.{Of}
 use Rattle.ic_name.specs.declared.ports.Port.TheVariants as port
 use Rattle.ic_theory.specs.Listed.{ListedNet, shown}
-use Rattle.ic_grammar.specs.Grammar.{text_of, names as names_of}
+use Rattle.ic_grammar.specs.Grammar.{equation_tokens, names as names_of}
 use Rattle.ic_grammar.proofs.Distinct.{times_in}
 use Rattle.ic_print.specs.NetText.{name_text, free_wires, numbered, numbered_wires}
 use Rattle.ic_round_trip.specs.Printable.{IsPrintable}
@@ -39,7 +39,7 @@ ports_apart p q n = false_from_ne_true _ (λ t. n (same_port_true p q t))
 
 -- the names of the text
 abbrev pub printed : List (List ℕ) → ListedNet → List (List ℕ)
-printed names l = names_of (text_of (printed_equations names l))
+printed names l = names_of (equation_tokens (printed_equations names l))
 
 -- the numbers that the text needs are few enough to be told apart
 abbrev pub IsCountable : ListedNet → Type 0

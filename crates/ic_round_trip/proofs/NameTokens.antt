@@ -6,7 +6,7 @@ use Rattle.std.proofs.lemmas.List.Sums.{take_while-cons}
 use Rattle.std.proofs.lemmas.Slice.Eq.{bytes_eq-Decides}
 use Rattle.ic_grammar.specs.Texts.{is_letter, is_digit, is_name_byte}
 use Rattle.ic_name.specs.declared.kinds.Kind.TheVariants.{Gamma, Delta, Eps}
-use Rattle.ic_grammar.specs.Tokens.{Token, symbol, name, opening, closing, comma, equals, semicolon, digit, bad, Mode, between, in_name, in_comment, token_at, token_from, mode_after, single, is_gap, is_comment_byte}
+use Rattle.ic_grammar.specs.Tokens.{Token, symbol, name, opening, closing, comma, equals, semicolon, profile, stray, digit, bad, Mode, between, in_name, in_comment, token_at, token_from, mode_after, single, begins_profile, at_sign, is_gap, is_comment_byte}
 use Rattle.ic_grammar.specs.Grammar.{names, tokens}
 use Rattle.ic_grammar.proofs.Distinct.{times_in}
 use Rattle.ic_round_trip.proofs.Spelled.{spelled, spelled_is, with_token, IsNameText}
@@ -40,15 +40,24 @@ single_names b ts h = go (eqb b 71) (eqb b 68) (eqb b 69) (eqb b 40) (eqb b 41) 
     go false false false false false false false false true = h
     go false false false false false false false false false = h
 
+-- nor is that of an `@`
+at_sign_names : (bs : List ℕ) (ts : List Token) → NamesOf ts → NamesOf (at_sign bs ∷ ts)
+at_sign_names bs ts h = go (begins_profile bs)
+  where
+    go : (b : Bool) → NamesOf ((if b then profile else stray) ∷ ts)
+    go true = h
+    go false = h
+
 -- the token that a byte begins, if it does
 from_names : (b : ℕ) (bs : List ℕ) (ts : List Token) → NamesOf ts → NamesOf (with_token (token_from b bs) ts)
 unfolding token_from
-from_names b bs ts h = go (is_gap b || eqb b 35) (is_letter b) refl
+from_names b bs ts h = go (is_gap b || eqb b 35) (is_letter b) (eqb b 64) refl
   where
-    go : (g l : Bool) → is_letter b ≡ l → NamesOf (with_token (if g then None else if l then Some (name (b ∷ take_while is_name_byte bs)) else Some (single b)) ts)
-    go true l e = h
-    go false true e = ((e, taken_pass is_name_byte bs), h)
-    go false false e = single_names b ts h
+    go : (g l a : Bool) → is_letter b ≡ l → NamesOf (with_token (if g then None else if l then Some (name (b ∷ take_while is_name_byte bs)) else if a then Some (at_sign bs) else Some (single b)) ts)
+    go true l a e = h
+    go false true a e = ((e, taken_pass is_name_byte bs), h)
+    go false false true e = at_sign_names bs ts h
+    go false false false e = single_names b ts h
 
 at_names : (m : Mode) (b : ℕ) (bs : List ℕ) (ts : List Token) → NamesOf ts → NamesOf (with_token (token_at m b bs) ts)
 unfolding token_at

@@ -5,7 +5,7 @@ use Rattle.ic_name.specs.declared.kinds.Kind.TheVariants.{Gamma, Delta, Eps}
 use Rattle.ic_name.specs.declared.ports.Port.{Port}
 use Rattle.ic_name.specs.declared.ports.Port.TheVariants as port
 use Rattle.ic_theory.specs.Listed.{NetAgent, ListedNet}
-use Rattle.ic_grammar.specs.Grammar.{named, Equation, text_of, symbols, port_of, text_links}
+use Rattle.ic_grammar.specs.Grammar.{named, Equation, equation_tokens, symbols, port_of, text_links}
 use Rattle.ic_print.specs.NetText.{shown_ports, port_label, numbered, numbered_wires, free_wires}
 use Rattle.ic_round_trip.specs.Printed.{term_of, agent_equation, free_equation, ring_equations, printed_equations}
 
@@ -74,29 +74,29 @@ printed_links N names l = ap (text_links N 0) (grouped names l) ∙ agent_links 
 -- ---- symbols
 
 -- the symbol of a line
-line_symbol : (label : ℕ → List ℕ) (k : Kind) (es : List Equation) → symbols (text_of (record { left = term_of label k; right = named (label 0) } ∷ es)) ≡ k ∷ symbols (text_of es)
+line_symbol : (label : ℕ → List ℕ) (k : Kind) (es : List Equation) → symbols (equation_tokens (record { left = term_of label k; right = named (label 0) } ∷ es)) ≡ k ∷ symbols (equation_tokens es)
 line_symbol label Gamma es = refl
 line_symbol label Delta es = refl
 line_symbol label Eps es = refl
 
 -- those of rings have none
-ring_symbols : (k r : ℕ) → symbols (text_of (ring_equations k r)) ≡ []
+ring_symbols : (k r : ℕ) → symbols (equation_tokens (ring_equations k r)) ≡ []
 ring_symbols k zero = refl
 ring_symbols k (suc r) = ring_symbols (k + 1) r
 
 -- nor those of wires between free names
-free_symbols : (k r : ℕ) (xs : List (List ℕ × List ℕ)) → symbols (text_of (map free_equation xs ++ ring_equations k r)) ≡ []
+free_symbols : (k r : ℕ) (xs : List (List ℕ × List ℕ)) → symbols (equation_tokens (map free_equation xs ++ ring_equations k r)) ≡ []
 free_symbols k r [] = ring_symbols k r
 free_symbols k r (x ∷ xs) = free_symbols k r xs
 
 -- each agent's line has its symbol
 agent_symbols : (names : List (List ℕ)) (ws : List Port) (k r : ℕ) (xs : List (List ℕ × List ℕ)) (as' : List NetAgent)
-    → symbols (text_of (map (agent_equation names ws) as' ++ (map free_equation xs ++ ring_equations k r))) ≡ map (λ a. a.kind) as'
+    → symbols (equation_tokens (map (agent_equation names ws) as' ++ (map free_equation xs ++ ring_equations k r))) ≡ map (λ a. a.kind) as'
 agent_symbols names ws k r xs [] = free_symbols k r xs
 agent_symbols names ws k r xs (a ∷ as') =
     line_symbol (port_label names ws a) a.kind (map (agent_equation names ws) as' ++ (map free_equation xs ++ ring_equations k r))
     ∙ ap (λ ks. a.kind ∷ ks) (agent_symbols names ws k r xs as')
 
 -- the symbols of a net's text are those of its agents
-pub printed_symbols : (names : List (List ℕ)) (l : ListedNet) → symbols (text_of (printed_equations names l)) ≡ map (λ a. a.kind) l.agents
-printed_symbols names l = ap (λ es. symbols (text_of es)) (grouped names l) ∙ agent_symbols names (numbered_wires l.agents) (length (numbered_wires l.agents)) l.rings (free_wires names l.frees) l.agents
+pub printed_symbols : (names : List (List ℕ)) (l : ListedNet) → symbols (equation_tokens (printed_equations names l)) ≡ map (λ a. a.kind) l.agents
+printed_symbols names l = ap (λ es. symbols (equation_tokens es)) (grouped names l) ∙ agent_symbols names (numbered_wires l.agents) (length (numbered_wires l.agents)) l.rings (free_wires names l.frees) l.agents

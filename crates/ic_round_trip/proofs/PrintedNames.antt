@@ -11,7 +11,7 @@ use Rattle.ic_name.specs.declared.ports.Port.TheVariants.{Of}
 use Rattle.ic_name.specs.declared.ports.Port.TheVariants as port
 use Rattle.ic_theory.specs.Listed.{ListedNet, free_among, shown}
 use Rattle.ic_grammar.specs.Texts.{is_reserved}
-use Rattle.ic_grammar.specs.Grammar.{text_of, occurs, AreNames, names as names_of}
+use Rattle.ic_grammar.specs.Grammar.{equation_tokens, occurs, AreNames, names as names_of}
 use Rattle.ic_grammar.proofs.Distinct.{times_in, occurs_is}
 use Rattle.ic_print.proofs.WireCounts.{few_numbers}
 use Rattle.ic_print.specs.NetText.{name_text, free_wires, numbered, numbered_wires}
@@ -88,5 +88,5 @@ pub countable : (l : ListedNet) → 3 * length l.agents + l.rings < 2 ^ 64 → I
 countable l few = let k = few_numbers l.agents in omega arith
 
 -- the names of a printed text are allowed
-pub printed_names : (names : List (List ℕ)) (l : ListedNet) → IsPrintable names l → 3 * length l.agents + l.rings < 2 ^ 64 → AreNames (names_of (text_of (printed_equations names l)))
+pub printed_names : (names : List (List ℕ)) (l : ListedNet) → IsPrintable names l → 3 * length l.agents + l.rings < 2 ^ 64 → AreNames (names_of (equation_tokens (printed_equations names l)))
 printed_names names l h few = allowed names l h (countable l few)

@@ -6,11 +6,11 @@ use Rattle.ic_name.specs.declared.kinds.Kind.TheVariants.{Gamma, Delta, Eps}
 use Rattle.ic_name.specs.declared.ports.Port.{Port}
 use Rattle.ic_theory.specs.Listed.{NetAgent, ListedNet, wires_of}
 use Rattle.ic_grammar.specs.Tokens.{symbol, name, opening, closing, comma, equals, semicolon, between}
-use Rattle.ic_grammar.specs.Grammar.{Equation, spell, text_of, tokens}
+use Rattle.ic_grammar.specs.Grammar.{Equation, spell, equation_tokens, heading, text_of, tokens}
 use Rattle.ic_print.specs.NetText.{name_text, shown_ports, port_label, letter, arguments, agent_line, free_line, free_wires, numbered, numbered_wires, ring_lines, header, profile_line, net_text}
 use Rattle.ic_round_trip.specs.Printed.{term_of, agent_equation, free_equation, ring_equations, printed_equations}
 use Rattle.ic_round_trip.specs.Printable.{IsPrintable}
-use Rattle.ic_round_trip.proofs.Spelled.{spelled, spelled_is, IsNameText, numbered_is_name, header_spelled, equals_spelled, line_spelled, eps_spelled, gamma_spelled, delta_spelled}
+use Rattle.ic_round_trip.proofs.Spelled.{spelled, spelled_is, IsNameText, numbered_is_name, header_spelled, profile_spelled, equals_spelled, line_spelled, eps_spelled, gamma_spelled, delta_spelled}
 use Rattle.ic_round_trip.proofs.ShownPorts.{free_is_name, labels_are_names}
 use Rattle.ic_round_trip.proofs.FreePairs.{each_free_text}
 
@@ -47,7 +47,7 @@ kind_spelled names ws a Eps rest h =
 
 -- the lines of agents, before what follows them
 agents_spelled : (names : List (List ℕ)) (ws : List Port) (as' : List NetAgent) (fs : List Equation) (rest : List ℕ) → AllByRecursion (λ a. AllByRecursion (λ i. IsNameText (port_label names ws a i)) (shown_ports a.kind)) as'
-    → spelled between rest ≡ text_of fs → spelled between (flat_map (agent_line names ws) as' ++ rest) ≡ text_of (map (agent_equation names ws) as' ++ fs)
+    → spelled between rest ≡ equation_tokens fs → spelled between (flat_map (agent_line names ws) as' ++ rest) ≡ equation_tokens (map (agent_equation names ws) as' ++ fs)
 agents_spelled names ws [] fs rest h e = e
 agents_spelled names ws (a ∷ as') fs rest h e =
     ap (spelled between) (append_assoc (agent_line names ws a) (flat_map (agent_line names ws) as') rest)
@@ -55,8 +55,8 @@ agents_spelled names ws (a ∷ as') fs rest h e =
     ∙ ap (λ ts. spell (term_of (port_label names ws a) a.kind) (equals ∷ name (port_label names ws a 0) ∷ semicolon ∷ ts)) (agents_spelled names ws as' fs rest h.1 e)
 
 -- the lines of wires between free names
-frees_spelled : (es : List (List ℕ × List ℕ)) (fs : List Equation) (rest : List ℕ) → AllByRecursion (λ x. IsNameText x.0 × IsNameText x.1) es → spelled between rest ≡ text_of fs
-    → spelled between (flat_map free_line es ++ rest) ≡ text_of (map free_equation es ++ fs)
+frees_spelled : (es : List (List ℕ × List ℕ)) (fs : List Equation) (rest : List ℕ) → AllByRecursion (λ x. IsNameText x.0 × IsNameText x.1) es → spelled between rest ≡ equation_tokens fs
+    → spelled between (flat_map free_line es ++ rest) ≡ equation_tokens (map free_equation es ++ fs)
 frees_spelled [] fs rest h e = e
 frees_spelled (x ∷ es) fs rest h e =
     let more : List ℕ = flat_map free_line es ++ rest in
@@ -67,7 +67,7 @@ frees_spelled (x ∷ es) fs rest h e =
     ∙ ap (λ ts. name x.0 ∷ equals ∷ name x.1 ∷ semicolon ∷ ts) (frees_spelled es fs rest h.1 e)
 
 -- the lines of rings
-rings_spelled : (k n : ℕ) → spelled between (ring_lines k n) ≡ text_of (ring_equations k n)
+rings_spelled : (k n : ℕ) → spelled between (ring_lines k n) ≡ equation_tokens (ring_equations k n)
 rings_spelled k zero = refl
 rings_spelled k (suc n) =
     let x = numbered k in
@@ -78,20 +78,21 @@ rings_spelled k (suc n) =
     ∙ ap (λ ts. name x ∷ equals ∷ ts) (line_spelled x more (numbered_is_name k))
     ∙ ap (λ ts. name x ∷ equals ∷ name x ∷ semicolon ∷ ts) (rings_spelled (k + 1) n)
 
--- a printed text spells its equations
-pub printed_tokens : (names : List (List ℕ)) (l : ListedNet) → IsPrintable names l → tokens (net_text names l) ≡ text_of (printed_equations names l)
+-- a printed text spells its profile and its equations
+pub printed_tokens : (names : List (List ℕ)) (l : ListedNet) → IsPrintable names l → tokens (net_text names l) ≡ text_of l.profile (printed_equations names l)
 printed_tokens names l h =
     let ws = numbered_wires l.agents in
     let rings : List ℕ = ring_lines (length ws) l.rings in
     let frees : List ℕ = flat_map free_line (free_wires names l.frees) in
     let agents : List ℕ = flat_map (agent_line names ws) l.agents in
     let first : List ℕ = header (length l.agents) (wires_of l) l.rings in
-    let parts : net_text names l ≡ first ++ (agents ++ (frees ++ rings)) = five first (profile_line l.profile) agents frees rings ∙ ap (λ p. first ++ (profile_line p ++ (agents ++ (frees ++ rings)))) h.classic in
+    let parts : net_text names l ≡ first ++ (profile_line l.profile ++ (agents ++ (frees ++ rings))) = five first (profile_line l.profile) agents frees rings in
     let equations : printed_equations names l ≡ map (agent_equation names ws) l.agents ++ (map free_equation (free_wires names l.frees) ++ ring_equations (length ws) l.rings) = append_assoc (map (agent_equation names ws) l.agents) (map free_equation (free_wires names l.frees)) (ring_equations (length ws) l.rings) in
     let free_names = each_free_text names l h IsNameText (λ j m e. free_is_name (name_text names j) (h.free j (rw e refl))) in
     let behind = frees_spelled (free_wires names l.frees) (ring_equations (length ws) l.rings) rings free_names (rings_spelled (length ws) l.rings) in
+    let lines = agents_spelled names ws l.agents (map free_equation (free_wires names l.frees) ++ ring_equations (length ws) l.rings) (frees ++ rings) (labels_are_names names l h) behind in
     spelled_is between 0 (net_text names l)
     ∙ ap (spelled between) parts
-    ∙ header_spelled (length l.agents) (wires_of l) l.rings (agents ++ (frees ++ rings))
-    ∙ agents_spelled names ws l.agents (map free_equation (free_wires names l.frees) ++ ring_equations (length ws) l.rings) (frees ++ rings) (labels_are_names names l h) behind
-    ∙ ap text_of (sym equations)
+    ∙ header_spelled (length l.agents) (wires_of l) l.rings (profile_line l.profile ++ (agents ++ (frees ++ rings)))
+    ∙ profile_spelled l.profile (agents ++ (frees ++ rings))
+    ∙ ap (heading l.profile) (lines ∙ ap equation_tokens (sym equations))

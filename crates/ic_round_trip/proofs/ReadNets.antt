@@ -7,6 +7,7 @@ use Rattle.std.specs.List.{position_or_len}
 use Rattle.std.specs.Str.{bytes_eq}
 use Rattle.std.proofs.lemmas.Slice.Eq.{bytes_eq-Decides}
 use Rattle.ic_name.specs.declared.ports.Port.TheVariants as port
+use Rattle.ic_name.specs.declared.rules.Profile.{Profile}
 use Rattle.ic_name.specs.Events.{Event}
 use Rattle.ic_path.specs.Links.{degree}
 use Rattle.ic_path.specs.FarEnds.{far}
@@ -18,7 +19,8 @@ use Rattle.ic_theory.specs.Listed.{ListedNet, IsListing, free_among, shown}
 use Rattle.ic_theory.proofs.Counts.{free_degree}
 use Rattle.ic_theory.proofs.Loose.{partners_back}
 use Rattle.ic_grammar.specs.Texts.{is_name_byte, is_reserved}
-use Rattle.ic_grammar.specs.Grammar.{Equation, Denotes, AreNames, start_of, text_of, text_links, names, distinct, tokens}
+use Rattle.ic_grammar.specs.Grammar.{Equation, Denotes, AreNames, start_of, equation_tokens, text_of, text_links, names, distinct, tokens}
+use Rattle.ic_grammar.proofs.Headings.{heading_names}
 use Rattle.ic_grammar.proofs.LinkEnds.{degree_is, text_names}
 use Rattle.ic_grammar.proofs.Distinct.{times_in, occurs_is, listed_once, owner, one_told}
 use Rattle.ic_grammar.proofs.Proper.{proper}
@@ -47,10 +49,10 @@ own_place (y ∷ ys) once (suc j) lt = go (bytes_eq (slice_index_or ys j []) y) 
     go false e h = rw e (omega (arith, h))
 
 -- the name of a number has as many link ends as it occurs
-ends_of_name : (es : List Equation) (j : ℕ) → j < length (distinct (names (text_of es)))
-    → degree net_shape (start_links (start_of es)) (port.Name j) ≡ times_in (slice_index_or (distinct (names (text_of es))) j []) (names (text_of es))
-ends_of_name es j lt =
-    let xs : List (List ℕ) = names (text_of es) in
+ends_of_name : (p : Profile) (es : List Equation) (j : ℕ) → j < length (distinct (names (equation_tokens es)))
+    → degree net_shape (start_links (start_of p es)) (port.Name j) ≡ times_in (slice_index_or (distinct (names (equation_tokens es))) j []) (names (equation_tokens es))
+ends_of_name p es j lt =
+    let xs : List (List ℕ) = names (equation_tokens es) in
     let ys : List (List ℕ) = distinct xs in
     let N : List ℕ → ℕ = λ y. position_or_len (bytes_eq y) ys in
     let o = owner ys (λ y. listed_once y xs) j lt in
@@ -78,18 +80,18 @@ loose_once s es l j ok same some =
     go false e h = cc
 
 -- so it has a text that may stand free
-free_names : (text : List ℕ) (es : List Equation) (j : ℕ) → tokens text ≡ text_of es → AreNames (names (tokens text)) → IsProper (start_of es) → degree net_shape (start_links (start_of es)) (port.Name j) ≡ 1
-    → IsFree text (start_of es) j
-free_names text es j grammar allowed ok once = go (cases_lt j (length (distinct (names (text_of es)))))
+free_names : (text : List ℕ) (p : Profile) (es : List Equation) (j : ℕ) → tokens text ≡ text_of p es → AreNames (names (tokens text)) → IsProper (start_of p es) → degree net_shape (start_links (start_of p es)) (port.Name j) ≡ 1
+    → IsFree text (start_of p es) j
+free_names text p es j grammar allowed ok once = go (cases_lt j (length (distinct (names (equation_tokens es)))))
   where
     x : List ℕ
-    x = slice_index_or (distinct (names (text_of es))) j []
+    x = slice_index_or (distinct (names (equation_tokens es))) j []
 
-    go : (j < length (distinct (names (text_of es)))) ⊎ (length (distinct (names (text_of es))) ≤ j) → IsFree text (start_of es) j
+    go : (j < length (distinct (names (equation_tokens es)))) ⊎ (length (distinct (names (equation_tokens es))) ≤ j) → IsFree text (start_of p es) j
     go (inr le) = absurd (let none = ok.no_others j le in omega (arith, once, none))
     go (inl lt) =
-        let one : times_in x (names (text_of es)) ≡ 1 = sym (ends_of_name es j lt) ∙ once in
-        let here : times_in x (names (tokens text)) ≡ 1 = ap (λ ts. times_in x (names ts)) grammar ∙ one in
+        let one : times_in x (names (equation_tokens es)) ≡ 1 = sym (ends_of_name p es j lt) ∙ once in
+        let here : times_in x (names (tokens text)) ≡ 1 = ap (λ ts. times_in x (names ts)) grammar ∙ ap (times_in x) (heading_names p (equation_tokens es)) ∙ one in
         let token = occurring_is IsNameText x (names (tokens text)) (text_names_are text) (omega (arith, here)) in
         record { within = lt; free = may_stand x token (allowed.joints x (sym (occurs_is x (names (tokens text))) ∙ here)) }
 
@@ -99,7 +101,6 @@ pub read_net_printable : (text : List ℕ) (s : Start) (es : List Event) (l : Li
 read_net_printable text s es l d f listing same = record {
   listing = listing;
   wired = wired;
-  classic = same.profile ∙ ap (λ (t : Start). t.profile) d.start;
   free = λ j h. (known j h).free;
   apart = apart;
 }
@@ -110,7 +111,7 @@ read_net_printable text s es l d f listing same = record {
     known : (j : ℕ) → IsSome (free_among j l.frees) → IsFree text s j
     known j h =
         let once = loose_once s es l j ok same h in
-        subst (λ t. IsFree text t j) (sym d.start) (free_names text d.equations j d.grammar d.allowed (subst IsProper d.start ok) (subst (λ t. degree net_shape (start_links t) (port.Name j) ≡ 1) d.start once))
+        subst (λ t. IsFree text t j) (sym d.start) (free_names text d.profile d.equations j d.grammar d.allowed (subst IsProper d.start ok) (subst (λ t. degree net_shape (start_links t) (port.Name j) ≡ 1) d.start once))
 
     wired : IsWired (shown l)
     wired p q h =
@@ -119,8 +120,8 @@ read_net_printable text s es l d f listing same = record {
 
     places : (j : ℕ) → j < length s.names → position_or_len (bytes_eq (name_text s.names j)) s.names ≡ j
     places j lt =
-        let names_is : s.names ≡ distinct (names (text_of d.equations)) = ap (λ (t : Start). t.names) d.start in
-        own_place s.names (λ x. subst (λ ys. times_in x ys ≤ 1) (sym names_is) (listed_once x (names (text_of d.equations)))) j lt
+        let names_is : s.names ≡ distinct (names (equation_tokens d.equations)) = ap (λ (t : Start). t.names) d.start in
+        own_place s.names (λ x. subst (λ ys. times_in x ys ≤ 1) (sym names_is) (listed_once x (names (equation_tokens d.equations)))) j lt
 
     apart : (i j : ℕ) → IsSome (free_among i l.frees) → IsSome (free_among j l.frees) → name_text s.names i ≡ name_text s.names j → i ≡ j
     apart i j h k e = sym (places i (known i h).within) ∙ ap (λ x. position_or_len (bytes_eq x) s.names) e ∙ places j (known j k).within

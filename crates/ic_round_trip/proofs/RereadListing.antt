@@ -105,7 +105,6 @@ module _ (names : List (List ℕ)) (l m : ListedNet) (s : Start) (ok : IsPrintab
   printable = record {
     listing = h;
     wired = wired;
-    classic = same.profile ∙ is.profile ∙ ok.classic;
     free = λ k i. (let w = was k i in subst IsFreeName (sym w.text) (ok.free w.number (is_there _ w.partner w.partners)));
     apart = λ i j a b e. (let v = was i a in let w = was j b in
         let f : name_text names v.number ≡ name_text names w.number = sym v.text ∙ e ∙ w.text in

@@ -1,8 +1,8 @@
 -- The net of a printed text is the net that it was printed for.
-use Rattle.std.proofs.Common.{ℕ, List, sym, ◌∙◌}
+use Rattle.std.proofs.Common.{ℕ, List}
 use Rattle.ic_theory.specs.Listed.{ListedNet}
 use Rattle.ic_theory.specs.Starts.{Start, IsProper}
-use Rattle.ic_grammar.specs.Grammar.{text_of, names as names_of, start_of, AreNames}
+use Rattle.ic_grammar.specs.Grammar.{equation_tokens, names as names_of, start_of, AreNames}
 use Rattle.ic_round_trip.specs.Printable.{IsPrintable}
 use Rattle.ic_round_trip.specs.Printed.{printed_equations}
 use Rattle.ic_round_trip.specs.Reread.{IsReread}
@@ -18,10 +18,10 @@ reread_start names l s ok is = record {
   partners = reread_partners names l ok s is;
   no_others = reread_others names l ok s is;
   rings = reread_rings names l ok s is;
-  profile = is.profile ∙ sym ok.classic;
+  profile = is.profile;
 }
 
 -- where its equations are proper and their names allowed
-pub reread : (names : List (List ℕ)) (l : ListedNet) → IsPrintable names l → IsProper (start_of (printed_equations names l)) → AreNames (names_of (text_of (printed_equations names l)))
-    → IsReread names l (start_of (printed_equations names l))
-reread names l ok proper allowed = reread_start names l (start_of (printed_equations names l)) ok (printed_start names l proper allowed)
+pub reread : (names : List (List ℕ)) (l : ListedNet) → IsPrintable names l → IsProper (start_of l.profile (printed_equations names l)) → AreNames (names_of (equation_tokens (printed_equations names l)))
+    → IsReread names l (start_of l.profile (printed_equations names l))
+reread names l ok proper allowed = reread_start names l (start_of l.profile (printed_equations names l)) ok (printed_start names l proper allowed)

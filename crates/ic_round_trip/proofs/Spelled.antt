@@ -5,8 +5,11 @@ use Rattle.std.specs.Fmt.{digits, digits_onto, digit_glyph}
 use Rattle.std.proofs.lemmas.Bool.Decides.{nat_tests}
 use Rattle.ic_grammar.specs.Texts.{is_letter, is_digit, is_name_byte}
 use Rattle.ic_name.specs.declared.kinds.Kind.TheVariants.{Gamma, Delta, Eps}
+use Rattle.ic_name.specs.declared.rules.Profile.{Profile}
+use Rattle.ic_name.specs.declared.rules.Profile.TheVariants.{Classic, Straight}
 use Rattle.ic_grammar.specs.Tokens.{Token, symbol, name, opening, closing, comma, equals, semicolon, is_gap, is_comment_byte, Mode, between, in_name, in_comment, token_from, token_at, mode_from, mode_after, with_item, items}
-use Rattle.ic_print.specs.NetText.{numbered, header}
+use Rattle.ic_grammar.specs.Grammar.{heading}
+use Rattle.ic_print.specs.NetText.{numbered, header, profile_line}
 use Rattle.ic_round_trip.proofs.Everywhere.{each_so}
 
 -- a token, if there is one, and those behind it
@@ -151,6 +154,14 @@ header_spelled a w r rest =
     ∙ wires_word _ ∙ comment_number w _
     ∙ rings_word _ ∙ comment_number r _
     ∙ line_end rest
+
+-- ---- the profile
+
+-- the line of the profile
+pub profile_spelled : (p : Profile) (rest : List ℕ) → spelled between (profile_line p ++ rest) ≡ heading p (spelled between rest)
+unfolding token_at mode_after token_from mode_from
+profile_spelled Classic rest = refl
+profile_spelled Straight rest = refl
 
 -- ---- marks
 

@@ -1,3 +1,4 @@
 pub mod Printable
 pub mod Printed
 pub mod Reread
+pub mod ReadBack

@@ -1,7 +1,6 @@
 -- Nets of which a printed text says all.
 use Rattle.std.specs.Prelude.{◌≡◌, ◌≢◌, ℕ, ◌≤◌, true, false, List, [], ◌∷◌, length, All, Some, IsSome}
 use Rattle.ic_name.specs.declared.ports.Port.{Port}
-use Rattle.ic_name.specs.declared.rules.Profile.TheVariants.{Classic}
 use Rattle.ic_name.specs.declared.limits.TheConstants.{MAX_START_AGENTS}
 use Rattle.ic_theory.specs.Nets.{Net}
 use Rattle.ic_theory.specs.Listed.{ListedNet, IsListing, free_among, shown}
@@ -18,11 +17,10 @@ abbrev pub IsFreeName : List ℕ → Type 0
 IsFreeName [] = ⊥
 IsFreeName (b ∷ bs) = (is_letter b ≡ true) × (is_reserved (b ∷ bs) ≡ false) × All (λ c. is_name_byte c ≡ true) bs
 
--- a classic net, wired, whose free names have texts that may stand free and tell them apart
+-- a listed net, wired, whose free names have texts that may stand free and tell them apart
 pub record IsPrintable (names : List (List ℕ)) (l : ListedNet) : Type 0 where
   pub listing : IsListing l
   pub wired : IsWired (shown l)
-  pub classic : l.profile ≡ Classic
   pub free : (j : ℕ) → IsSome (free_among j l.frees) → IsFreeName (name_text names j)
   pub apart : (i j : ℕ) → IsSome (free_among i l.frees) → IsSome (free_among j l.frees) → name_text names i ≡ name_text names j → i ≡ j
 

@@ -12,6 +12,7 @@ ghost use Rattle.ic_grammar.specs.Faults.{Stands};
 ghost use Rattle.ic_grammar.specs.declared.refusal.Refusal.{Refusal as Fault};
 ghost use Rattle.ic_print.specs.NetText.{net_text};
 ghost use Rattle.ic_round_trip.specs.Printable.{IsPrintable, IsWithinLimits};
+ghost use Rattle.ic_round_trip.specs.ReadBack.{IsReadBack};
 ghost use Rattle.ic_round_trip.specs.Reread.{IsReread};
 
 /// Whatever net firings leave over the start of a text can be printed, with the names of that start.
@@ -38,4 +39,10 @@ pub fn reread()
 /// The net that the text printed for a net denotes is printed by the same bytes.
 pub fn same_bytes()
     ensures { (names : List (List ℕ)) (l m : ListedNet) (s : Start) → IsPrintable names l → Denotes (net_text names l) s → IsListing m → IsSameNet (shown m) (net_of s []) → net_text s.names m ≡ net_text names l }
+{}
+
+/// Whatever net firings leave over the start of a text is printed, within the reader's limits, as a text without faults,
+/// which denotes a start that has the same net and is printed by the same bytes.
+pub fn round_trip()
+    ensures { (text : List ℕ) (s : Start) (es : List Event) (l : ListedNet) → Denotes text s → IsFired s es → IsListing l → IsSameNet (shown l) (net_of s es) → IsWithinLimits s.names l → IsReadBack s.names l }
 {}

@@ -19,7 +19,7 @@ use Rattle.ic_desk.specs.Desks.{State, initial}
 use Rattle.ic_desk.specs.ManyWorkers.{RepliesWith, TurnsWith}
 use Rattle.ic_desk.specs.Views.{DeskView, IsDeskAt, IsOver, note_of}
 use Rattle.ic_session.specs.NextRequest.{TakesRequest}
-use Rattle.ic_session.specs.Sessions.{AreAnswers, AreBegun}
+use Rattle.ic_session.specs.Sessions.{AreAnswers, AreBegun, IsAnswered, IsBrokenOff, silent, partly}
 use Rattle.ic_session.proofs.AnswerSteps.{Leads, leads_none, leads_more, leads_all, leads_begun, leads_first}
 
 -- what was answered so far leaves the desk in some state, and the lines of what is left unanswered; where the input is
@@ -37,20 +37,20 @@ answered_none s workers budget st v None before a = tt
 answered_none s workers budget st v (Some xs) before a = (st, a, [], Appends-nil before, leads_none s workers budget st (lines xs))
 
 -- one command more was answered
-pub answered_more : (s : Start) (workers budget : ℕ) (st : State) (v w : DeskView) (old now next before then after : Option (List ℕ)) (o : Option Request) (c : Request) (text : List ℕ)
-    → v.bench.start ≡ s → HasAnswered s workers budget st v old now before then → o ≡ Some c → IfSome now (λ ys. TakesRequest o ys next) → TurnsWith workers v (within budget c) text w → Appends then after text → HasAnswered s workers budget st w old next before after
-answered_more s workers budget st v w None now next before then after o c text i h e t r a = tt
-answered_more s workers budget st v w (Some xs) None next before then after o c text i h e t r a = absurd h
-answered_more s workers budget st v w (Some xs) (Some ys) next before then after o c text i h e t r a =
+pub answered_more : (s : Start) (workers budget : ℕ) (st : State) (v w : DeskView) (old now next before then after : Option (List ℕ)) (o : Option Request) (c : Request)
+    → v.bench.start ≡ s → HasAnswered s workers budget st v old now before then → o ≡ Some c → IfSome now (λ ys. TakesRequest o ys next) → IsAnswered workers v (within budget c) w then after → HasAnswered s workers budget st w old next before after
+answered_more s workers budget st v w None now next before then after o c i h e t r = tt
+answered_more s workers budget st v w (Some xs) None next before then after o c i h e t r = absurd h
+answered_more s workers budget st v w (Some xs) (Some ys) next before then after o c i h e t r =
     let t' : TakesRequest (Some c) ys next = subst (λ p. TakesRequest p ys next) e t in
-    let turn = r.replies h.0 h.1 in
-    let reply = subst (λ z. RepliesWith workers z h.0 (within budget c) text turn.0) i turn.1 in
+    let turn = r.turn.replies h.0 h.1 in
+    let reply = subst (λ z. RepliesWith workers z h.0 (within budget c) r.reply turn.0) i turn.1 in
     rw t'.1 (
       turn.0,
       turn.2,
-      h.2 ++ text,
-      Appends-trans before then after h.2 text h.3 a,
-      leads_more s workers budget st h.0 turn.0 (lines xs) (lines ys) (lines (behind_line ys)) h.2 text h.4 (leads_first s workers budget h.0 turn.0 ys c text t'.0 reply),
+      h.2 ++ r.reply,
+      Appends-trans before then after h.2 r.reply h.3 r.written,
+      leads_more s workers budget st h.0 turn.0 (lines xs) (lines ys) (lines (behind_line ys)) h.2 r.reply h.4 (leads_first s workers budget h.0 turn.0 ys c r.reply t'.0 reply),
     )
 
 -- all were answered
@@ -71,7 +71,7 @@ answered_begun s workers budget st v (Some xs) None before after h = absurd h
 answered_begun s workers budget st v (Some xs) (Some ys) before after h = (h.2, leads_begun s workers budget st h.0 (lines xs) (lines ys) h.2 h.2 [] h.4 (sym (append-nil h.2)), h.3)
 
 -- of the answer to one command more, a front was written
-pub answered_front : (s : Start) (workers budget : ℕ) (st : State) (v w : DeskView) (old now next before then after : Option (List ℕ)) (o : Option Request) (c : Request) (text : List ℕ)
+answered_front : (s : Start) (workers budget : ℕ) (st : State) (v w : DeskView) (old now next before then after : Option (List ℕ)) (o : Option Request) (c : Request) (text : List ℕ)
     → v.bench.start ≡ s → HasAnswered s workers budget st v old now before then → o ≡ Some c → IfSome now (λ ys. TakesRequest o ys next) → TurnsWith workers v (within budget c) text w → AppendsFront then after text
     → IfSome old (λ xs. (text : List ℕ) × AreBegun s workers budget st (lines xs) text × Appends before after text)
 answered_front s workers budget st v w None now next before then after o c text i h e t r a = tt
@@ -83,6 +83,15 @@ answered_front s workers budget st v w (Some xs) (Some ys) next before then afte
     let led = leads_more s workers budget st h.0 turn.0 (lines xs) (lines ys) (lines (behind_line ys)) h.2 text h.4 (leads_first s workers budget h.0 turn.0 ys c text t'.0 reply) in
     let parts = ap (λ zs. h.2 ++ zs) a.parts ∙ sym (append_assoc h.2 a.front a.behind) in
     (h.2 ++ a.front, leads_begun s workers budget st turn.0 (lines xs) (lines (behind_line ys)) (h.2 ++ text) (h.2 ++ a.front) a.behind led parts, Appends-trans before then after h.2 a.front h.3 a.appended)
+
+-- the answer to one command more broke off
+pub answered_broken : (s : Start) (workers budget : ℕ) (st : State) (v : DeskView) (old now next before then after : Option (List ℕ)) (o : Option Request) (c : Request)
+    → v.bench.start ≡ s → HasAnswered s workers budget st v old now before then → o ≡ Some c → IfSome now (λ ys. TakesRequest o ys next) → IsBrokenOff workers v (within budget c) then after
+    → IfSome old (λ xs. (text : List ℕ) × AreBegun s workers budget st (lines xs) text × Appends before after text)
+answered_broken s workers budget st v old now next before then after o c i h e t (silent same) =
+    rw same (answered_begun s workers budget st v old now before then h)
+answered_broken s workers budget st v old now next before then after o c i h e t (partly {new = w} {reply = text} r a) =
+    answered_front s workers budget st v w old now next before then after o c text i h e t r a
 
 -- whatever state the desk was in
 pub all_begun : (workers budget : ℕ) (old : Option (List ℕ)) (v : DeskView) (before after : Option (List ℕ))

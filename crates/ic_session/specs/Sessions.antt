@@ -9,7 +9,9 @@ use Rattle.ic_command.specs.declared.request.Request.{Request}
 use Rattle.ic_command.specs.Requests.{IsRequest, within}
 use Rattle.ic_session.specs.InputLines.{TextLine, lines, net_part, command_lines}
 use Rattle.ic_desk.specs.Desks.{State, initial}
-use Rattle.ic_desk.specs.ManyWorkers.{RepliesWith}
+use Rattle.ic_desk.specs.ManyWorkers.{RepliesWith, TurnsWith}
+use Rattle.ic_desk.specs.Views.{DeskView}
+use Rattle.ic_lines.specs.Faults.{AppendsFront}
 use Rattle.ic_session.specs.Refusals.{refusal_line}
 use Rattle.ic_session.specs.declared.session.Status.{Status}
 use Rattle.ic_session.specs.declared.session.Status.TheVariants.{Ended, NetRefused}
@@ -21,6 +23,17 @@ pub data AreAnswers (s : Start) (workers budget : ℕ) : State → List TextLine
   more : {st next : State} {line : TextLine} {ls : List TextLine} {r : Request} {reply behind : List ℕ}
       → IsRequest line.bytes r → RepliesWith workers s st (within budget r) reply next → AreAnswers s workers budget next ls behind
       → AreAnswers s workers budget st (line ∷ ls) (reply ++ behind)
+
+-- a request was carried out, and the answer to it was written
+pub record IsAnswered (workers : ℕ) (old : DeskView) (r : Request) (new : DeskView) (before after : Option (List ℕ)) : Type 0 where
+  pub reply : List ℕ
+  pub turn : TurnsWith workers old r reply new
+  pub written : Appends before after reply
+
+-- nothing was written of the answer to a request, or a front of it
+pub data IsBrokenOff (workers : ℕ) (old : DeskView) (r : Request) (before after : Option (List ℕ)) : Type 0 where
+  silent : after ≡ before → IsBrokenOff workers old r before after
+  partly : {new : DeskView} {reply : List ℕ} → TurnsWith workers old r reply new → AppendsFront before after reply → IsBrokenOff workers old r before after
 
 -- The net text denotes a start and has no fault, and the text answers the commands over a bench on which no call has
 -- been made, and of which nothing is marked.

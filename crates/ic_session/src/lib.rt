@@ -8,4 +8,5 @@ pub mod refusal;
 pub mod session;
 
 pub use fault::Fault;
+pub use ic_desk::{MAX_BUDGET, MAX_WORKERS};
 pub use session::{Status, run_session};

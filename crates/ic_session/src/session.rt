@@ -8,7 +8,7 @@ ghost use Rattle.ic_desk.specs.Desks.{State};
 ghost use Rattle.ic_desk.specs.Views.{IsDeskAt};
 ghost use Rattle.ic_session.specs.Refusals.{refusal_line};
 ghost use Rattle.ic_session.specs.NextRequest.{TakesRequest};
-ghost use Rattle.ic_session.specs.Sessions.{AreAnswers, AreBegun, IsBegun, Writes};
+ghost use Rattle.ic_session.specs.Sessions.{AreAnswers, AreBegun, IsAnswered, IsBegun, IsBrokenOff, Writes};
 ghost use Rattle.ic_session.specs.declared.fault.Fault.TheVariants.{Read};
 ghost use Rattle.ic_session.specs.declared.session.Status.TheVariants.{NetRefused};
 
@@ -16,7 +16,7 @@ use crate::fault::Fault;
 use crate::net_input::{NetInput, read_net_text};
 use crate::refusal::refusal_line;
 use ic_command::{Command, MAX_COMMAND, Request, request_of};
-use ic_desk::Desk;
+use ic_desk::{Desk, MAX_WORKERS};
 use ic_grammar::Refusal;
 use ic_journal::Store;
 use ic_lines::{Input, IoFault, Piece, write_reply};
@@ -52,7 +52,7 @@ pub fn run_session<R: Read, W: Write, T: Threads + Wait + Sync>(
     workers: u8,
     budget: u32,
 ) -> Result<Status, Fault>
-    requires { (0 < workers) × (workers ≤ 64) }
+    requires { (0 < workers) × (workers ≤ MAX_WORKERS) }
     ensures written { IfOk result (λ status. IfSome (R.remaining reader.old) (λ input. Writes workers budget input status (W.contents writer.old) (W.contents writer.new))) }
     ensures begun { OnErr result (IfSome (R.remaining reader.old) (λ input. (text : List ℕ) × IsBegun workers budget input text × Appends (W.contents writer.old) (W.contents writer.new) text)) }
 {
@@ -95,7 +95,7 @@ fn answer_all<R: Read, W: Write, T: Threads + Wait + Sync>(
     workers: u8,
     budget: u32,
 ) -> Result<(), Fault>
-    requires { (0 < workers) × (workers ≤ 64) }
+    requires { (0 < workers) × (workers ≤ MAX_WORKERS) }
     ensures answered { OnOk result (IfSome (left input.old (R.remaining reader.old)) (λ bytes. (st : State) → IsDeskAt desk st →
         (text : List ℕ) × AreAnswers desk.bench.start workers budget st (lines bytes) text × Appends (W.contents writer.old) (W.contents writer.new) text)) }
     ensures begun { OnErr result (IfSome (left input.old (R.remaining reader.old)) (λ bytes. (st : State) → IsDeskAt desk st →
@@ -107,18 +107,30 @@ fn answer_all<R: Read, W: Write, T: Threads + Wait + Sync>(
         match next_request(alloc, input, reader, &mut line)? {
             Some(request) => {
                 let asked = request.within(budget);
-                let (after, answer) = desk.carry_out_with(
-                    threads,
-                    alloc,
-                    u32::from(workers),
-                    asked,
-                )?;
-                desk = after;
-                write_reply(writer, answer.bytes())?;
+                desk = answer(threads, alloc, desk, workers, asked, writer)?;
             }
             None => return Ok(()),
         }
     }
+}
+
+/// Carries out a request, and writes the answer to it; the desk comes back.
+fn answer<W: Write, T: Threads + Wait + Sync>(
+    threads: &T,
+    alloc: Global,
+    desk: Desk<Store>,
+    workers: u8,
+    request: Request,
+    writer: &mut W,
+) -> Result<Desk<Store>, Fault>
+    requires { (0 < workers) × (workers ≤ MAX_WORKERS) }
+    ensures answered { IfOk result (λ after. IsAnswered workers desk request after (W.contents writer.old) (W.contents writer.new)) }
+    ensures begun { OnErr result (IsBrokenOff workers desk request (W.contents writer.old) (W.contents writer.new)) }
+    ensures fault { IfErr result (λ fault. fault ≢ Read) }
+{
+    let (after, answer) = desk.carry_out_with(threads, alloc, u32::from(workers), request)?;
+    write_reply(writer, answer.bytes())?;
+    Ok(after)
 }
 
 /// What the next line asks for; `None` where the input has ended. `line` is room for a line.

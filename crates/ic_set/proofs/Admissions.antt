@@ -14,6 +14,7 @@ use Rattle.ic_path.specs.Orders.{IsIn, Alike}
 use Rattle.ic_path.proofs.Alikes.{alike_self, alike_back}
 use Rattle.ic_link.specs.Links.{IsLawful}
 use Rattle.ic_theory.specs.Born.{born_agents}
+use Rattle.ic_theory.specs.Machine.{IsDeep}
 use Rattle.ic_theory.specs.Rules.{born_ends}
 use Rattle.ic_shown.proofs.Elements.{in-map}
 use Rattle.ic_cause.specs.Dependents.{Causes}
@@ -31,6 +32,7 @@ use Rattle.ic_set.proofs.KeptOrders.{kept_alike}
 use Rattle.ic_set.proofs.RankBounds.{rank_below_length}
 use Rattle.ic_set.proofs.NewEvents.{sound_more, new_event, no_causes, no_links, causes_kept, causes_once}
 use Rattle.ic_set.proofs.Children.{new_children}
+use Rattle.ic_set.proofs.RuleDigits.{rule_few}
 use Rattle.ic_set.proofs.Admitted.{digits, lawful_more, kept_more}
 
 -- a set is the same as it was seen, in whatever order
@@ -83,6 +85,7 @@ module _ (v w : SetView) (seen : v ≡ w) (ls : List Link) (kept : Causes) (k : 
       can_put_in h = record {
         new = new_event v ls kept k e pair.active line new_line;
         digits = digits v ls kept k e p pair line new_line enters.entered born are ms enters.alike own;
+        few = rule_few v.start.profile e.lead_kind e.other_kind;
         no_links = λ d l q i. no_links v ls kept k e pair.active line new_line d q l i;
         lawful = λ d q lines. lawful_more v ls kept k e p pair line new_line enters.entered born are ms enters.alike own d q rank lines h;
         no_causes = λ d q. no_causes v ls kept k e pair.active line new_line d q;
@@ -92,12 +95,12 @@ module _ (v w : SetView) (seen : v ≡ w) (ls : List Link) (kept : Causes) (k : 
 
       module _ (over : IsRankOver w.events ids rank) (d : EventId) (in_line : d.line ≡ line) (ss : List Stander) (ls' : List Link) (kept' : Causes) (lines : HaveOwnLines ss)
           (puts : PutsIn (record { id = d; event = e; rank = rank; born = born }) (made_links d p born 0 (born_ends v.start.profile e.lead_kind e.other_kind)) ids v.events ss ls ls' kept kept') where
-        -- with it the set is a standing set
-        pub put_keeps : IsKept (record { start = v.start; agents = ms; events = ss }) ls' kept'
-        put_keeps =
+        -- with it, if it is not deep, the set is a standing set
+        pub put_keeps : ¬ (IsDeep e) → IsKept (record { start = v.start; agents = ms; events = ss }) ls' kept'
+        put_keeps shallow =
             kept_alike v.start (alike_self ms) puts.events puts.links puts.causes
             (kept_more v ls kept k e p pair line new_line enters.entered born are ms enters.alike own d in_line rank (own_lines_alike (alike_back puts.events) lines) ids its_causes
-            (subst (λ (u : SetView). IsRankOver u.events ids rank) (sym seen) over))
+            (subst (λ (u : SetView). IsRankOver u.events ids rank) (sym seen) over) shallow)
 
         -- which admits it
         pub put_admits : Admits w e line d (record { start = v.start; agents = ms; events = ss })

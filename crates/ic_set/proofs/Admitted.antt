@@ -16,6 +16,7 @@ use Rattle.ic_link.specs.Links.{IsLawful}
 use Rattle.ic_theory.specs.Born.{born_agents, born_links}
 use Rattle.ic_theory.specs.Causes.{IsRank, IsCause}
 use Rattle.ic_theory.specs.Future.{Includes}
+use Rattle.ic_theory.specs.Machine.{IsDeep}
 use Rattle.ic_theory.specs.Rules.{born_ends}
 use Rattle.ic_theory.specs.Sets.{agents}
 use Rattle.ic_theory.specs.Sound.{IsSound}
@@ -130,7 +131,7 @@ module _ (v : SetView) (ls : List Link) (kept : Causes) (k : IsKept v ls kept) (
           lawful_made d p born ls h (no_links v ls kept k e pair.active line new_line d in_line) 0 (born_ends v.start.profile e.lead_kind e.other_kind)
           (slim_shown named.0 v.start (e ∷ standing v) (made ++ ls) k.set.proper sound shows)
 
-      module _ (ids : List EventId) (its_causes : AreCausesOf v e ids) (over : IsRankOver v.events ids rank) where
+      module _ (ids : List EventId) (its_causes : AreCausesOf v e ids) (over : IsRankOver v.events ids rank) (shallow : ¬ (IsDeep e)) where
         -- an event that is its direct cause is below it
         below : (r : Event → ℕ) → IsRank v.start (e ∷ standing v) r → (x : Stander) → IsIn x v.events → x.rank ≡ r x.event
         below r h x i = k.set.ranks r (part_ranks v.start k.set.proper r sound k.set.sound inside h) x i
@@ -170,6 +171,7 @@ module _ (v : SetView) (ls : List Link) (kept : Causes) (k : IsKept v ls kept) (
         set_more = record {
           proper = k.set.proper;
           sound = sound;
+          shallow = λ x i. is_shallow x (in-cons_cases i);
           agents = agents_more;
           own_names = own;
           own_lines = lines;
@@ -177,6 +179,10 @@ module _ (v : SetView) (ls : List Link) (kept : Causes) (k : IsKept v ls kept) (
           ranks = λ r h x i. has_rank r h x (in-cons_cases i);
         }
           where
+            is_shallow : (x : Stander) → (x ≡ entry) ⊎ IsIn x v.events → ¬ (IsDeep x.event)
+            is_shallow x (inl q) = subst (λ (y : Stander). ¬ (IsDeep y.event)) (sym q) shallow
+            is_shallow x (inr i) = k.set.shallow x i
+
             has_children : (x : Stander) → (x ≡ entry) ⊎ IsIn x v.events → HasChildren ms x
             has_children x (inl q) = subst (HasChildren ms) (sym q) (record { children = children; are = are; there = child_there })
             has_children x (inr i) = let c = k.set.children x i in record { children = c.children; are = c.are; there = λ m j. agent_stays m (c.there m j) }

@@ -89,6 +89,7 @@ module _ (s : Start) (ok : IsProper s) (ids : List AgentId) (ms : List Member) (
         set = record {
           proper = ok;
           sound = empty_sound s;
+          shallow = λ x i. absurd (none_in i);
           agents = alike_then (alike-map agent_of (alike_back agents.alike)) (rw (append-nil agents.entered, agents.named) (alike_self _));
           own_names = own;
           own_lines = none_own;

@@ -31,6 +31,7 @@ module _ (s : Start) {ms ms' : List Member} {ss ss' : List Stander} (agents_alik
   set_alike k = record {
     proper = k.proper;
     sound = sound;
+    shallow = λ x i. k.shallow x (alike-in (alike_back events_alike) i);
     agents = alike_then (alike-map agent_of (alike_back agents_alike)) (alike_then k.agents (made_alike born_agents (start_agents s) standing_alike));
     own_names = own_names_alike agents_alike k.own_names;
     own_lines = own_lines_alike events_alike k.own_lines;

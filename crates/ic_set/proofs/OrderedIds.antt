@@ -1,10 +1,10 @@
 -- The ids of all standing events, of the direct causes of one, and of its direct dependents.
-use Rattle.std.proofs.Common.{◌≡◌, ◌↔◌, List, map, Some, inl, refl, sym, ap, subst, ◌∙◌}
+use Rattle.std.proofs.Common.{◌≡◌, ◌≢◌, ◌↔◌, List, map, Option, Some, None, inl, refl, sym, ap, subst, ◌∙◌}
 use Rattle.std.proofs.lemmas.Option.{same_Some}
 use Rattle.ic_name.specs.declared.ids.EventId.{EventId}
 use Rattle.ic_path.specs.Orders.{Alike, IsIn}
 use Rattle.ic_path.specs.Rings.{HasEachOnce}
-use Rattle.ic_path.proofs.Alikes.{alike-in}
+use Rattle.ic_path.proofs.Alikes.{alike-in, alike_back}
 use Rattle.ic_path.proofs.EachOnce.{IsOnce}
 use Rattle.ic_shown.proofs.Elements.{in-map, map_cases}
 use Rattle.ic_theory.specs.Causes.{IsCause}
@@ -22,6 +22,9 @@ use Rattle.ic_set.specs.Removal.{Stands}
 use Rattle.ic_set.specs.Views.{SetView, standing}
 use Rattle.ic_set.proofs.CauseIds.{depends_to, depends_from}
 use Rattle.ic_set.proofs.Namings.{same_stander}
+
+some_none : {X : Type 0} {x : X} → ◌≡◌ {A = Option X} (Some x) None → ⊥
+some_none e = cc
 
 -- the id of an event
 abbrev event_id : Stander → EventId
@@ -56,6 +59,10 @@ ids_once ss ids own a = once-alike a once
         let q = map_cases event_id p.1 (subst (λ ds. IsIn d ds) p.4 i) in
         own.slots p.0 q.0 p.1 p.2 q.1 (ap (λ (c : EventId). c.slot) (q.2 ∙ p.3))
 
+-- an event stands under each of them
+pub ids_stand : (v : SetView) (ids : List EventId) → Alike (map event_id v.events) ids → (d : EventId) → IsIn d ids → Stands v d
+ids_stand v ids a d i = map_cases event_id v.events (alike-in (alike_back a) i)
+
 -- all events are under the ids of all
 pub any_of_all : (ss : List Stander) (ids : List EventId) → Alike (map event_id ss) ids → (x : Stander) → IsIn x ss → IsIn x.id ids ↔ IsAny x
 any_of_all ss ids a x i = (λ j. tt, λ u. alike-in a (in-map event_id i))
@@ -68,6 +75,14 @@ module _ (v : SetView) (kept : Causes) (own : HaveOwnLines v.events) (keeps : Ke
   -- each once
   pub causes_once : (d : EventId) (ds : List EventId) → Stands v d → kept d ≡ Some ds → IsOnce ds
   causes_once d ds (x, i, same) e = (kept_causes x ds i (ap kept same ∙ e)).once
+
+  -- and an event stands under each
+  pub causes_stand : (d : EventId) (ds : List EventId) → Stands v d → kept d ≡ Some ds → (f : EventId) → IsIn f ds → Stands v f
+  causes_stand d ds (x, i, same) e f j = let c = (kept_causes x ds i (ap kept same ∙ e)).only f j in (c.0, c.1, c.2)
+
+  -- the causes of an event that stands are kept
+  pub causes_kept : (d : EventId) → Stands v d → kept d ≢ None
+  causes_kept d (x, i, same) e = let k = keeps.each x i in some_none (sym k.1 ∙ ap kept same ∙ e)
 
   -- and they are the ids of no other events
   pub causes_of : (d : EventId) (ds : List EventId) → Stands v d → kept d ≡ Some ds → (y : Stander) → IsIn y v.events → IsIn y.id ds ↔ IsCauseOf v d y

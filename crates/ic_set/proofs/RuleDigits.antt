@@ -1,5 +1,5 @@
 -- The children that a rule's links lead to are those that it makes.
-use Rattle.std.proofs.Common.{◌≡◌, ℕ, Bool, true, List, [], ◌∷◌, length, inl, inr, refl, sym, subst, ltb}
+use Rattle.std.proofs.Common.{◌≡◌, ◌≤◌, ℕ, lit≤, Bool, true, List, [], ◌∷◌, length, inl, inr, refl, sym, subst, ltb}
 use Rattle.std.specs.Prelude.{◌&&◌}
 use Rattle.std.proofs.lemmas.Bool.{and_parts, ltb-true}
 use Rattle.ic_name.specs.declared.kinds.Kind.{Kind}
@@ -52,6 +52,19 @@ rule_passes Classic Gamma Gamma = refl
 rule_passes Straight Gamma Gamma = refl
 rule_passes v Delta Delta = refl
 rule_passes v Eps Eps = refl
+
+-- a rule has eight links at most
+pub rule_few : (v : Profile) (a b : Kind) → length (born_ends v a b) ≤ 8
+rule_few v Gamma Delta = lit≤ tt
+rule_few v Delta Gamma = lit≤ tt
+rule_few v Gamma Eps = lit≤ tt
+rule_few v Delta Eps = lit≤ tt
+rule_few v Eps Gamma = lit≤ tt
+rule_few v Eps Delta = lit≤ tt
+rule_few Classic Gamma Gamma = lit≤ tt
+rule_few Straight Gamma Gamma = lit≤ tt
+rule_few v Delta Delta = lit≤ tt
+rule_few v Eps Eps = lit≤ tt
 
 -- where each child has an id, so has each that the rule names
 pub rule_digits : (born : List AgentId) (v : Profile) (a b : Kind) → length born ≡ length (born_kinds a b) → HaveDigits born (born_ends v a b)

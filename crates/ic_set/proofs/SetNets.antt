@@ -19,7 +19,7 @@ then_alike done [] = alike_self done
 then_alike done (e ∷ es) = alike_then (alike_past (e ∷ []) es done) (then_alike (e ∷ done) es)
 
 -- the same events, the latest first
-fired_alike : (es : List Event) → Alike es (then_fired [] es)
+pub fired_alike : (es : List Event) → Alike es (then_fired [] es)
 fired_alike es = subst (λ xs. Alike xs (then_fired [] es)) (append-nil es) (then_alike [] es)
 
 module _ (s : Start) (ok : IsProper s) (es : List Event) (sound : IsSound s es) where

@@ -70,6 +70,7 @@ module _ (v : SetView) (ls : List Link) (kept : Causes) (is : IsKept v ls kept) 
     set_left = record {
       proper = is.set.proper;
       sound = smaller;
+      shallow = λ x i. is.set.shallow x (up i);
       agents = agents_left v.start is.set.proper entry ss v.events is.set.sound fewer no_cause entry.born held.children held.are v.agents ms split is.set.agents;
       own_names = fewer_names held.children ms split is.set.own_names;
       own_lines = fewer_lines entry ss fewer is.set.own_lines;

@@ -1,5 +1,5 @@
 -- What an event that is admitted brings.
-use Rattle.std.specs.Prelude.{◌≡◌, ℕ, ◌+◌, ◌≤◌, false, List, ◌∷◌, ◌++◌, ◌⊎◌, Some, None, IsSome, All}
+use Rattle.std.specs.Prelude.{◌≡◌, ℕ, ◌+◌, ◌≤◌, false, List, ◌∷◌, ◌++◌, length, ◌⊎◌, Some, None, IsSome, All}
 use Rattle.ic_name.specs.Events.{Event}
 use Rattle.ic_name.specs.Spots.{made_by}
 use Rattle.ic_name.specs.declared.ids.AgentId.{AgentId}
@@ -29,6 +29,7 @@ pub record IsRankOver (ss : List Stander) (ids : List EventId) (rank : ℕ) : Ty
 pub record CanPutIn (e : Event) (line rank : ℕ) (p : ActivePair) (born : List AgentId) (ends : List (RuleEnd × RuleEnd)) (its_causes : List EventId) (ss : List Stander) (ls : List Link) (kept : Causes) : Type 0 where
   pub new : IsNewEvent ss line e
   pub digits : HaveDigits born ends
+  pub few : length ends ≤ 8
   pub no_links : (d : EventId) (l : Link) → d.line ≡ line → IsIn l ls → made_by d l ≡ false
   pub lawful : (d : EventId) → d.line ≡ line → HaveOwnLines (record { id = d; event = e; rank = rank; born = born } ∷ ss) → IsLawful (made_links d p born 0 ends ++ ls)
   pub no_causes : (d : EventId) → d.line ≡ line → kept d ≡ None

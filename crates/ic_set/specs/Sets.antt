@@ -7,6 +7,7 @@ use Rattle.ic_theory.specs.Starts.{IsProper}
 use Rattle.ic_theory.specs.Sets.{agents}
 use Rattle.ic_theory.specs.Sound.{IsSound}
 use Rattle.ic_theory.specs.Causes.{IsRank}
+use Rattle.ic_theory.specs.Machine.{IsDeep}
 use Rattle.ic_shown.specs.Naming.{Naming}
 use Rattle.ic_shown.specs.Shown.{Shows}
 use Rattle.ic_cause.specs.Dependents.{Causes}
@@ -25,11 +26,12 @@ pub record HasChildren (ms : List Member) (x : Stander) : Type 0 where
 abbrev pub HasRanks : SetView → Type 0
 HasRanks v = (rank : Event → ℕ) → IsRank v.start (standing v) rank → (x : Stander) → IsIn x v.events → x.rank ≡ rank x.event
 
--- what is seen of a standing set: it is sound, its agents are those of the start and of the events, each with an id
--- of its own, and children and rank are noted with each event
+-- what is seen of a standing set: it is sound, no event of it is deep, its agents are those of the start and of the
+-- events, each with an id of its own, and children and rank are noted with each event
 pub record IsStandingSet (v : SetView) : Type 0 where
   pub proper : IsProper v.start
   pub sound : IsSound v.start (standing v)
+  pub shallow : (x : Stander) → IsIn x v.events → ¬ (IsDeep x.event)
   pub agents : Alike (map agent_of v.agents) (agents v.start (standing v))
   pub own_names : HaveOwnNames v.agents
   pub own_lines : HaveOwnLines v.events

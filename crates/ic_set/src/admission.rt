@@ -1,4 +1,5 @@
 ghost use Rattle.std.specs.Prelude.{◌≡◌, ◌≢◌, ◌<◌, ◌≤◌, ◌++◌, false, length, IfOk, OnOk, OnErr};
+ghost use Rattle.ic_name.specs.declared.ids.EventId.{EventId as AnEventId};
 ghost use Rattle.ic_name.specs.declared.ids.Link.{Link as ALink};
 ghost use Rattle.ic_name.specs.declared.limits.TheConstants.{MAX_LINES};
 ghost use Rattle.ic_name.specs.Spots.{made_by};
@@ -14,6 +15,7 @@ ghost use Rattle.ic_set.specs.Changes.{Admits, IsSame};
 ghost use Rattle.ic_set.specs.Entering.{agents_in};
 ghost use Rattle.ic_set.specs.Joining.{made_links, HaveDigits};
 ghost use Rattle.ic_set.specs.Pairs.{IsPairOf};
+ghost use Rattle.ic_set.specs.Removal.{Stands};
 
 use crate::bare::BareSet;
 use crate::entering::{NewAgent, children_of, enter_all, remove_all};
@@ -105,13 +107,14 @@ impl<L: LinkStore> BareSet<L> {
 
     /// The rank of an event that has the standing events under these ids as direct causes.
     fn rank_over(&self, causes: &[EventId]) -> Result<u32, AllocError>
-        requires { (x : Stander) → IsIn x self.now.events → x.rank ≤ MAX_LINES }
+        requires low { (x : Stander) → IsIn x self.now.events → x.rank ≤ MAX_LINES }
+        requires standing { (d : AnEventId) → IsIn d causes.now → Stands self.now d }
         ensures { IfOk result (λ rank. IsRankOver self.now.events causes.now rank) }
     {
         let mut ranks = Vec::with_capacity(self.alloc, causes.len())?;
         for cause in causes {
             let Some(entry) = self.events.get(*cause) else {
-                return Err(AllocError);
+                unreachable!()
             };
             ranks.push(entry.rank)?;
         }
@@ -168,6 +171,7 @@ fn put_links<L: LinkStore>(
     firing: &Firing<'_>,
 ) -> Result<(), AllocError>
     requires digits { HaveDigits firing.now.born.now firing.now.ends.now }
+    requires few { length firing.now.ends.now ≤ 8 }
     requires no_links { (l : ALink) → IsIn l (L.links store.old) → made_by event l ≡ false }
     requires lawful { IsLawful (made_links event firing.now.pair firing.now.born.now 0 firing.now.ends.now ++ L.links store.old) }
     ensures put { OnOk result (Alike (made_links event firing.now.pair firing.now.born.now 0 firing.now.ends.now ++ L.links store.old) (L.links store.new)) }

@@ -7,7 +7,7 @@ ghost use Rattle.ic_roster.specs.Rosters.{Member};
 ghost use Rattle.ic_set.specs.Entering.{agents_in, CanEnter, Enters};
 
 use ic_name::limits::MAX_START_AGENTS;
-use ic_name::{AgentId, AgentName, Kind};
+use ic_name::{AgentId, AgentName, ChildFault, Kind};
 use ic_roster::Agents;
 use std::alloc::{AllocError, Global};
 
@@ -26,7 +26,7 @@ pub(crate) fn agents_of_kinds(alloc: Global, kinds: &[Kind]) -> Result<Vec<NewAg
     let mut agents = Vec::with_capacity(alloc, kinds.len())?;
     for number in 0..kinds.len() {
         let Some(name) = AgentName::start(alloc, number as u16) else {
-            return Err(AllocError);
+            unreachable!()
         };
         agents.push(NewAgent {
             name,
@@ -48,8 +48,10 @@ pub(crate) fn children_of(
 {
     let mut agents = Vec::with_capacity(alloc, kinds.len())?;
     for digit in 0..kinds.len() {
-        let Ok(name) = lead.child(digit as u8) else {
-            return Err(AllocError);
+        let name = match lead.child(digit as u8) {
+            Ok(name) => name,
+            Err(ChildFault::Memory) => return Err(AllocError),
+            Err(ChildFault::Deep) => unreachable!(),
         };
         agents.push(NewAgent {
             name,

@@ -1,4 +1,4 @@
-ghost use Rattle.std.specs.Prelude.{◌≡◌, ◌++◌, List, map, IfOk, OnOk, OnErr};
+ghost use Rattle.std.specs.Prelude.{◌≡◌, ◌≤◌, ◌++◌, List, length, map, IfOk, OnOk, OnErr};
 ghost use Rattle.ic_name.specs.declared.ids.Link.{Link as ALink};
 ghost use Rattle.ic_path.specs.Orders.{Alike};
 ghost use Rattle.ic_path.specs.Links.{IsSlim};
@@ -38,18 +38,16 @@ pub(crate) fn links_of_event(
     pair: ActivePair,
     born: &[AgentId],
 ) -> Result<Vec<Link>, AllocError>
-    requires { HaveDigits born.now ends.now }
+    requires digits { HaveDigits born.now ends.now }
+    requires few { length ends.now ≤ 8 }
     ensures { IfOk result (λ links. links.items ≡ made_links event pair born.now 0 ends.now) }
 {
     let mut links = Vec::with_capacity(alloc, ends.len())?;
     for place in 0..ends.len() {
         let (a, b) = ends[place];
-        let Ok(place) = u32::try_from(place) else {
-            return Err(AllocError);
-        };
         let id = LinkId {
             maker: MakerId::Event(event),
-            place,
+            place: place as u32,
         };
         links.push(Link {
             id,

@@ -13,11 +13,12 @@ use crate::orders::Placed;
 use ic_cause::RankedEvent;
 use ic_link::LinkStore;
 use ic_name::Event;
-use ic_net::{Net, replay};
+use ic_net::{Net, StepFault, replay};
 use std::alloc::{AllocError, Global};
 
 impl<L: LinkStore> BareSet<L> {
     /// The net of the set: the one in which the steps of its events end, in each causal order of them (Lafont 1997).
+    /// At an error memory ran out, or the net would have more agents or rings than can be counted.
     pub fn net(&self) -> Result<Net, AllocError>
         ensures left { IfOk result (λ net. IsSameNet (shown net) (net_of self.now.start (standing self.now))) }
         ensures defined { IfOk result (λ _. (order : List AnEvent) → Alike (standing self.now) (then_fired [] order) → AreAfterCauses self.now.start (then_fired [] order) (then_fired [] order) → AreDefined (net_of self.now.start []) order) }
@@ -27,7 +28,11 @@ impl<L: LinkStore> BareSet<L> {
         let events = without_ranks(self.alloc, self.ranked()?)?;
         match replay(self.alloc, &self.start, &events) {
             Ok(net) => Ok(net),
-            Err(_) => Err(AllocError),
+            Err(fault) => match fault.cause {
+                StepFault::Memory => Err(AllocError),
+                StepFault::NotActive => unreachable!(),
+                StepFault::Deep => unreachable!(),
+            },
         }
     }
 

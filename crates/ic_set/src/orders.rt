@@ -34,7 +34,7 @@ impl<L: LinkStore> BareSet<L> {
     {
         match self.dependents.causes(id) {
             Some(ids) => ids_of(self.alloc, &self.in_order(ids)?),
-            None => Err(AllocError),
+            None => unreachable!(),
         }
     }
 
@@ -55,7 +55,8 @@ impl<L: LinkStore> BareSet<L> {
 
     /// The standing events under these ids, in canonical order.
     fn in_order(&self, ids: &[EventId]) -> Result<Vec<Placed<'_>>, AllocError>
-        requires { (d : AnEventId) (rest : List AnEventId) → Pick d ids.now rest → IsIn d rest → ⊥ }
+        requires once { (d : AnEventId) (rest : List AnEventId) → Pick d ids.now rest → IsIn d rest → ⊥ }
+        requires standing { (d : AnEventId) → IsIn d ids.now → Stands self.now d }
         ensures { IfOk result (λ placed. ArePlaced self.now (λ x. IsIn x.id ids.now) placed.items) }
     {
         self.lawful();
@@ -66,13 +67,14 @@ impl<L: LinkStore> BareSet<L> {
 
     /// The standing events under these ids, in the order of the ids.
     fn placed(&self, ids: &[EventId]) -> Result<Vec<Placed<'_>>, AllocError>
+        requires { (d : AnEventId) → IsIn d ids.now → Stands self.now d }
         ensures under { IfOk result (λ placed. map (λ p. p.id) placed.items ≡ ids.now) }
         ensures shown { IfOk result (λ placed. All (IsPlaced self.now) placed.items) }
     {
         let mut placed = Vec::with_capacity(self.alloc, ids.len())?;
         for id in ids {
             let Some(entry) = self.events.get(*id) else {
-                return Err(AllocError);
+                unreachable!()
             };
             placed.push(Placed {
                 id: *id,

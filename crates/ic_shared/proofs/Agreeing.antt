@@ -1,11 +1,12 @@
 -- What settling has found, put together.
-use Rattle.std.proofs.Common.{◌≡◌, ℕ, ◌+◌, ◌-◌, ◌++◌, zero, suc, take, List, [], ◌∷◌, length, drop, refl, ap, ◌∙◌, subst, arith, length-append}
+use Rattle.std.proofs.Common.{◌≡◌, ◌≢◌, ℕ, ◌+◌, ◌-◌, ◌<◌, ◌++◌, zero, suc, take, List, [], ◌∷◌, length, drop, refl, ap, ◌∙◌, subst, arith, length-append}
+use Rattle.std.specs.Prelude.{slice_get}
 use Rattle.ic_journal.specs.Views.{BenchView}
 use Rattle.ic_name.specs.declared.lines.Line.{Line}
 use Rattle.ic_shared.specs.declared.receipts.Receipt.{Receipt}
 use Rattle.ic_shared.specs.Openings.{OpeningView}
 use Rattle.ic_shared.specs.Settles.{Settles, WrongAt, lengths}
-use Rattle.ic_shared.specs.Agrees.{Agrees, IsFalseAt, other_receipts}
+use Rattle.ic_shared.specs.Agrees.{Agrees, IsFalseAt, other_line, other_receipts}
 
 pub agrees : (opening : OpeningView) (passes seen : List (List Receipt)) (bench : BenchView) (lines : List Line) (base number : ℕ)
     → seen ≡ passes → length passes ≡ opening.passes → bench.start ≡ opening.start → lines ≡ opening.lines → base ≡ length lines
@@ -23,12 +24,21 @@ agrees opening passes seen bench lines base number same count start is based par
       settled = subst (λ (z : ℕ × List (List Receipt)). Settles z.0 (drop z.0 bench.lines) z.1) (λ i. (base_is i, same i)) h;
     }
 
-pub false_at : (opening : OpeningView) (passes seen : List (List Receipt)) (bench : BenchView) (lines : List Line) (base number : ℕ)
-    → seen ≡ passes → length passes ≡ opening.passes → lines ≡ opening.lines → base ≡ length lines
-    → WrongAt base bench.lines seen number → (length passes ≡ opening.passes) × IsFalseAt opening passes bench number
-false_at opening passes seen bench lines base number same count is based wrong =
-    let base_is : base ≡ length opening.lines = based ∙ ap length is in
-    (count, other_receipts (subst (λ (z : ℕ × List (List Receipt)). WrongAt z.0 bench.lines z.1 number) (λ i. (base_is i, same i)) wrong))
+-- where start and count agree, a number is false by what the passes say, or by a line of the opening
+module _ (opening : OpeningView) (passes : List (List Receipt)) (bench : BenchView) (lines : List Line) (base number : ℕ) (count : length passes ≡ opening.passes) (start : bench.start ≡ opening.start)
+    (is : lines ≡ opening.lines) (based : base ≡ length lines) (sum : length bench.lines ≡ base + lengths passes) where
+  whole : length bench.lines ≡ length opening.lines + lengths passes
+  whole = let long = ap length is in omega (arith, sum, based, long)
+
+  pub false_at : (seen : List (List Receipt)) → seen ≡ passes → WrongAt base bench.lines seen number → (length passes ≡ opening.passes) × IsFalseAt opening passes bench number
+  false_at seen same wrong =
+      let base_is : base ≡ length opening.lines = based ∙ ap length is in
+      (count, other_receipts start whole (subst (λ (z : ℕ × List (List Receipt)). WrongAt z.0 bench.lines z.1 number) (λ i. (base_is i, same i)) wrong))
+
+  pub line_false_at : (number < length lines) × (slice_get bench.lines number ≢ slice_get lines number) → (length passes ≡ opening.passes) × IsFalseAt opening passes bench number
+  line_false_at other =
+      let moved = subst (λ (ls : List Line). (number < length ls) × (slice_get bench.lines number ≢ slice_get ls number)) is other in
+      (count, other_line start whole moved.0 moved.1)
 
 -- a Vec whose slice came back as it was
 pub put_back : {A : Type 0} (now old : List A) (n : ℕ) → now ≡ old → length old ≡ n → take n (now ++ drop (length now) old) ≡ old

@@ -21,8 +21,10 @@ pub data IsFalseAt (opening : OpeningView) (passes : List (List Receipt)) (bench
   -- there, too: the receipts are too few or too many
   other_count : number ≡ length bench.lines → length bench.lines ≢ length opening.lines + lengths passes
       → IsFalseAt opening passes bench number
-  -- a line of the opening isn't the history's
-  other_line : number < length opening.lines → slice_get bench.lines number ≢ slice_get opening.lines number
+  -- where start and count agree: a line of the opening isn't the history's
+  other_line : bench.start ≡ opening.start → length bench.lines ≡ length opening.lines + lengths passes
+      → number < length opening.lines → slice_get bench.lines number ≢ slice_get opening.lines number
       → IsFalseAt opening passes bench number
-  -- what the passes say of the lines since the opening
-  other_receipts : WrongAt (length opening.lines) bench.lines passes number → IsFalseAt opening passes bench number
+  -- there, too: what the passes say of the lines since the opening
+  other_receipts : bench.start ≡ opening.start → length bench.lines ≡ length opening.lines + lengths passes
+      → WrongAt (length opening.lines) bench.lines passes number → IsFalseAt opening passes bench number

@@ -1,5 +1,6 @@
 -- Why passes don't settle.
 use Rattle.std.specs.Prelude.{◌≡◌, ◌≢◌, ℕ, List, length}
+use Rattle.ic_name.specs.declared.numbers.TheConstants.{MISMATCH, MISSING}
 use Rattle.ic_shared.specs.declared.faults.SettleFault.{SettleFault}
 use Rattle.ic_shared.specs.declared.faults.SettleFault.TheVariants.{Mismatch, Missing}
 use Rattle.ic_shared.specs.declared.receipts.Receipt.{Receipt}
@@ -13,5 +14,5 @@ FaultIs opening passes (Mismatch number bench) = (length passes ≡ opening.pass
 
 -- the number of a fault
 abbrev pub settle_number : SettleFault → ℕ
-settle_number (Mismatch number bench) = 61
-settle_number (Missing bench) = 62
+settle_number (Mismatch number bench) = MISMATCH
+settle_number (Missing bench) = MISSING

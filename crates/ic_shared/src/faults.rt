@@ -2,6 +2,7 @@ ghost use Rattle.std.specs.Prelude.{◌≡◌};
 ghost use Rattle.ic_shared.specs.Faults.{settle_number};
 
 use ic_journal::{Bench, Store};
+use ic_name::numbers;
 
 /// The bench whose history is what all passes say, and how many lines were added since it was shared.
 #[derive(Drop)]
@@ -25,8 +26,8 @@ impl SettleFault {
         ensures { result ≡ settle_number self.now }
     {
         match self {
-            SettleFault::Mismatch(_, _) => 61,
-            SettleFault::Missing(_) => 62,
+            SettleFault::Mismatch(_, _) => numbers::MISMATCH,
+            SettleFault::Missing(_) => numbers::MISSING,
         }
     }
 }

@@ -6,6 +6,7 @@
 #![tactic(auto)]
 
 pub mod faults;
+mod limits;
 mod locked;
 mod merging;
 pub mod opening;
@@ -15,6 +16,7 @@ pub mod settling;
 pub mod shared;
 
 pub use faults::{SettleFault, Settled};
+pub use limits::MAX_PASSES;
 pub use opening::Opening;
 pub use passes::Pass;
 pub use receipts::Receipt;

@@ -2,13 +2,14 @@
 ghost use Rattle.std.specs.Prelude.{◌≡◌, ◌+◌, ◌<◌, ◌≤◌, ℕ, length, drop, IfOk, IfErr, IfSome, IfNone};
 ghost use Rattle.ic_shared.specs.Settles.{IsNext, Settles, WrongAt};
 
+use crate::limits::MAX_PASSES;
 use crate::passes::Pass;
 use ic_journal::{Bench, Store};
 use std::sync::ledger::Ledger;
 
 /// The pass whose next receipt has this number.
-fn find<B: Ledger>(passes: &[Pass<B>], cursors: &[usize; 64], number: u32) -> Option<usize>
-    requires { length passes.now ≤ 64 }
+fn find<B: Ledger>(passes: &[Pass<B>], cursors: &[usize; MAX_PASSES], number: u32) -> Option<usize>
+    requires { length passes.now ≤ MAX_PASSES }
     ensures some { IfSome result (λ p. (p < length passes.now) × IsNext passes.now cursors.now p number) }
     ensures none { IfNone result ((p : ℕ) → p < length passes.now → ¬ IsNext passes.now cursors.now p number) }
 {
@@ -21,8 +22,8 @@ fn find<B: Ledger>(passes: &[Pass<B>], cursors: &[usize; 64], number: u32) -> Op
 }
 
 /// The number of a pass's next receipt that is less than this one.
-fn behind<B: Ledger>(passes: &[Pass<B>], cursors: &[usize; 64], number: u32) -> Option<u32>
-    requires { length passes.now ≤ 64 }
+fn behind<B: Ledger>(passes: &[Pass<B>], cursors: &[usize; MAX_PASSES], number: u32) -> Option<u32>
+    requires { length passes.now ≤ MAX_PASSES }
     ensures some { IfSome result (λ n. (n < number) × ((p : ℕ) × IsNext passes.now cursors.now p n)) }
     ensures none { IfNone result ((p : ℕ) → p < length passes.now → (n : ℕ) → IsNext passes.now cursors.now p n → number ≤ n) }
 {
@@ -42,12 +43,12 @@ pub(crate) fn merge<B: Ledger>(
     base: u32,
     passes: &[Pass<B>],
 ) -> Result<(), u32>
-    requires few { length passes.now ≤ 64 }
+    requires few { length passes.now ≤ MAX_PASSES }
     requires within { base ≤ length bench.now.lines }
     ensures ok { IfOk result (λ _. Settles base (drop base bench.now.lines) passes.now) }
     ensures err { IfErr result (WrongAt base bench.now.lines passes.now) }
 {
-    let mut cursors = [0usize; 64];
+    let mut cursors = [0usize; MAX_PASSES];
     let count = bench.lines() - base;
     for j in 0..count {
         let number = base + j;

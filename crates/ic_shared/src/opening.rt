@@ -1,4 +1,5 @@
 ghost use Rattle.std.specs.Prelude.{◌≡◌, ◌+◌, ◌<◌, ◌≤◌};
+ghost use Rattle.ic_shared.specs.declared.limits.TheConstants.{MAX_PASSES};
 
 use ic_name::Line;
 use ic_start::Start;
@@ -11,14 +12,14 @@ pub(crate) struct Count<B: Ledger> {
     pub(crate) passes: u32,
     of: PhantomData<B>,
     ghost all: { passes + 1 ≡ B.parts },
-    ghost some: { (0 < passes) × (passes ≤ 64) },
+    ghost some: { (0 < passes) × (passes ≤ MAX_PASSES) },
 }
 
 impl<B: Ledger> Count<B> {
     /// So many passes.
     pub fn new(passes: u32) -> Count<B>
         requires all { passes + 1 ≡ B.parts }
-        requires some { (0 < passes) × (passes ≤ 64) }
+        requires some { (0 < passes) × (passes ≤ MAX_PASSES) }
         ensures { result.passes ≡ passes }
     {
         Count {

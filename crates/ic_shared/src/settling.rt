@@ -59,7 +59,7 @@ fn first_other(bench: &Bench<Store>, lines: &[Line]) -> Option<u32>
 /// receipts of the passes, each under its number, and the lines that were added are counted. It is `Missing` exactly where
 /// there are not as many passes as were given out. It is `Mismatch` only where all passes are there, and then what the
 /// opening and the passes say is false at its number: the history's length where the start is another or the receipts are
-/// too few or too many.
+/// too few or too many, before any line or receipt is looked at; else the number of a line or a receipt.
 pub fn settle<B: Ledger>(
     opening: Opening<B>,
     mut passes: Vec<Pass<B>>,

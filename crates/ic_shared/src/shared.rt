@@ -5,6 +5,7 @@ ghost use Rattle.ic_journal.specs.Benches.{IsBench};
 ghost use Rattle.ic_shared.specs.Openings.{opened};
 ghost use Rattle.ic_shared.specs.CallsForPass.{FiresForPass, UndoesForPass};
 
+use crate::limits::MAX_PASSES;
 use crate::locked::Locked;
 use crate::opening::{Count, Opening};
 use crate::passes::Pass;
@@ -20,7 +21,7 @@ pub struct Shared<B: Ledger> {
     locked: Mutex<Locked<B>>,
 }
 
-/// Shares a bench among so many passes, from 1 to 64 of them, which have no receipts yet. The opening keeps the start and
+/// Shares a bench among so many passes, from 1 to `MAX_PASSES` of them, which have no receipts yet. The opening keeps the start and
 /// the history up to here. Where memory is wanting the bench comes back as it was.
 pub fn share<B: Ledger>(
     alloc: Global,
@@ -30,7 +31,7 @@ pub fn share<B: Ledger>(
 ) -> Result<(Shared<B>, Opening<B>, Vec<Pass<B>>), Bench<Store>>
     requires name { blank.name ≡ B.name }
     requires parts { (blank.parts ≡ B.parts) × (blank.parts ≡ passes + 1) }
-    requires some { (0 < passes) × (passes ≤ 64) }
+    requires some { (0 < passes) × (passes ≤ MAX_PASSES) }
     ensures opening { IfOk result (λ r. r.1 ≡ opened bench.start bench.lines passes) }
     ensures passes { IfOk result (λ r. r.2.items ≡ replicate passes []) }
     ensures err { IfErr result (λ b. b ≡ bench) }

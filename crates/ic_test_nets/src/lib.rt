@@ -12,6 +12,8 @@ mod nets;
 #[cfg(test)]
 mod printing;
 #[cfg(test)]
+mod profiles;
+#[cfg(test)]
 mod side_by_side;
 #[cfg(test)]
 mod starts;

@@ -23,13 +23,20 @@ fn judged(alloc: Global, text: &[u8]) -> Verdict {
 }
 
 /// Texts that are no nets, with the number and the offset of what is wrong.
-const REFUSED: [(&[u8], u8, usize); 13] = [
+const REFUSED: [(&[u8], u8, usize); 20] = [
     (b"G(a,b) = !;", 2, 9),
-    (b"@straight;", 2, 0),
+    (b"@straight!;", 2, 9),
     (b"# \xc3", 2, 2),
     (b"G(a,b = E;", 3, 6),
     (b"x = y", 3, 5),
     (b"x = E; 5", 3, 7),
+    (b"@", 3, 0),
+    (b"@straighten;", 3, 0),
+    (b"@straight", 3, 9),
+    (b"@straight x = y;", 3, 10),
+    (b"@straight;@", 3, 10),
+    (b"@straight; @straight;", 3, 11),
+    (b"x = y; @straight;", 3, 7),
     (b"aaaaaaaaaaaaaaaaaaaaaaaaaaaaaaaaa", 4, 0),
     (b"E = a234567890123456789012345678901_2;", 4, 4),
     (b"x = E; x = E; x = E;", 5, 14),

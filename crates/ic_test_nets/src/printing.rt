@@ -18,7 +18,7 @@ fn is_printed(alloc: Global, text: &[u8], wanted: &[u8]) -> Option<bool> {
 }
 
 /// Texts of nets, and how the nets are printed.
-const PRINTED: [(&[u8], &[u8]); 3] = [
+const PRINTED: [(&[u8], &[u8]); 6] = [
     (
         b"G(x,a) = D(x,b);",
         b"# agents 2 wires 4 rings 0\nG(_0,a) = _1;\nD(_0,b) = _1;\n",
@@ -27,7 +27,16 @@ const PRINTED: [(&[u8], &[u8]); 3] = [
         b"x = x; y = y;",
         b"# agents 0 wires 0 rings 2\n_0 = _0;\n_1 = _1;\n",
     ),
+    (
+        b"z = y; b = a;",
+        b"# agents 0 wires 2 rings 0\na = b;\ny = z;\n",
+    ),
     (b"", b"# agents 0 wires 0 rings 0\n"),
+    (
+        b"@straight; G(a,b) = G(c,d);",
+        b"# agents 2 wires 5 rings 0\n@straight;\nG(a,b) = _0;\nG(c,d) = _0;\n",
+    ),
+    (b"@straight;", b"# agents 0 wires 0 rings 0\n@straight;\n"),
 ];
 
 #[test]

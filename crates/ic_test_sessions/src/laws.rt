@@ -7,6 +7,7 @@ fn laws_of_printed_texts_hold(_rt: HostRuntime) -> Result<(), Fail> {
     ic_round_trip::faultless();
     ic_round_trip::reread();
     ic_round_trip::same_bytes();
+    ic_round_trip::round_trip();
     Ok(())
 }
 

@@ -5,7 +5,7 @@ use Rattle.std.specs.List.{fold}
 use Rattle.std.specs.Str.{bytes_eq}
 use Rattle.std.proofs.lemmas.Bool.{eqb-true}
 use Rattle.std.proofs.lemmas.Slice.Eq.{bytes_eq-Decides}
-use Rattle.ic_grammar.specs.Tokens.{Token, symbol, name, opening, closing, comma, equals, semicolon, digit, bad, Item}
+use Rattle.ic_grammar.specs.Tokens.{Token, symbol, name, opening, closing, comma, equals, semicolon, profile, stray, digit, bad, Item}
 use Rattle.ic_text.specs.Names.{Entry, enter, times, is_free, is_reserved_free}
 use Rattle.ic_grammar.specs.Texts.{is_reserved}
 use Rattle.ic_text.specs.Reading.{State, initial}
@@ -74,6 +74,8 @@ seen_own closing o ns h = h
 seen_own comma o ns h = h
 seen_own equals o ns h = h
 seen_own semicolon o ns h = h
+seen_own profile o ns h = h
+seen_own stray o ns h = h
 seen_own digit o ns h = h
 seen_own bad o ns h = h
 
@@ -120,6 +122,8 @@ seen_at all before rest closing o ns e h = h
 seen_at all before rest comma o ns e h = h
 seen_at all before rest equals o ns e h = h
 seen_at all before rest semicolon o ns e h = h
+seen_at all before rest profile o ns e h = h
+seen_at all before rest stray o ns e h = h
 seen_at all before rest digit o ns e h = h
 seen_at all before rest bad o ns e h = h
 

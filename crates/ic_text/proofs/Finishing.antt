@@ -4,7 +4,6 @@ use Rattle.std.specs.Prelude.{nat_lt, count_by, find, reverse}
 use Rattle.std.proofs.lemmas.Bool.{eqb-true}
 use Rattle.std.proofs.lemmas.Bool.Decides.{nat_tests}
 use Rattle.ic_name.specs.declared.ids.Link.{Link}
-use Rattle.ic_name.specs.declared.rules.Profile.TheVariants.{Classic}
 use Rattle.ic_theory.specs.Starts.{Start}
 use Rattle.ic_start.specs.Starts.{join_of, IsStart, start_of}
 use Rattle.ic_grammar.specs.declared.limits.TheConstants.{MAX_TEXT, MAX_FREE_NAMES}
@@ -37,25 +36,25 @@ rests (f ∷ fs) n x e h r = absurd (omega (arith, e, eqb-true n 0 h))
 -- the start of what was read, where nothing is wrong at the end
 pub finishes : (len : ℕ) (s : State) (links : List Link) (names : List (List ℕ)) → is_at_rest s.stack s.side ≡ true → option_map first_of (find is_reserved_free s.seen) ≡ None
     → count_by is_free s.seen ≤ MAX_FREE_NAMES → map join_of links ≡ s.joins → names ≡ map (λ n. n.text) s.seen
-    → finish len s ≡ Ok (start_of s.kinds links names Classic)
+    → finish len s ≡ Ok (start_of s.kinds links names s.profile)
 unfolding finish
 finishes len s links names rest none few joins texts =
     let n = none_of (find is_reserved_free s.seen) none in
     let f : nat_lt MAX_FREE_NAMES (count_by is_free s.seen) ≡ false = grind (arith, nat_tests) in
-    let made : ◌≡◌ {A = Start} (record { kinds = s.kinds; joins = s.joins; names = map (λ n. n.text) s.seen; profile = Classic }) (start_of s.kinds links names Classic) =
-    λ i. record { kinds = s.kinds; joins = (sym joins) i; names = (sym texts) i; profile = Classic } in
+    let made : ◌≡◌ {A = Start} (record { kinds = s.kinds; joins = s.joins; names = map (λ n. n.text) s.seen; profile = s.profile }) (start_of s.kinds links names s.profile) =
+    λ i. record { kinds = s.kinds; joins = (sym joins) i; names = (sym texts) i; profile = s.profile } in
     rw (rest, n, f) (ap (λ (t : Start). Ok t) made)
 
 -- the parts of that start are those of one
 pub makes_start : (text : List ℕ) (s : State) (links : List Link) (names : List (List ℕ)) → run initial (items between 0 text) ≡ Ok s → IsWithin s (length text) → length text ≤ MAX_TEXT
-    → finish (length text) s ≡ Ok (start_of s.kinds links names Classic) → AreOfStart 0 links → names ≡ map (λ n. n.text) s.seen
-    → IsStart s.kinds links names Classic
+    → finish (length text) s ≡ Ok (start_of s.kinds links names s.profile) → AreOfStart 0 links → names ≡ map (λ n. n.text) s.seen
+    → IsStart s.kinds links names s.profile
 makes_start text s links names read within short end of_start texts =
-    let d = sound_tokens (items between 0 text) s (length text) (start_of s.kinds links names Classic) read end in
-    let p = proper text (start_of s.kinds links names Classic) (record { equations = d.equations; grammar = d.grammar; allowed = d.allowed; start = d.start }) in
+    let d = sound_tokens (items between 0 text) s (length text) (start_of s.kinds links names s.profile) read end in
+    let p = proper text (start_of s.kinds links names s.profile) (record { profile = d.profile; equations = d.equations; grammar = d.grammar; allowed = d.allowed; start = d.start }) in
     record {
       few_agents = within.agents;
       few_names = omega (arith, ap length texts, length_texts s.seen, within.names, short);
-      placed = are_start_links s.kinds links names Classic of_start p;
+      placed = are_start_links s.kinds links names s.profile of_start p;
       proper = p;
     }

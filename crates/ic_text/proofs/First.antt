@@ -13,7 +13,7 @@ use Rattle.ic_text.specs.declared.builder.Phase.TheVariants as phases
 use Rattle.ic_text.specs.declared.builder.Frame.{Frame}
 use Rattle.ic_text.specs.Sides.{Side}
 use Rattle.ic_text.specs.Sides as sides
-use Rattle.ic_grammar.specs.Tokens.{Token, symbol, name, opening, closing, comma, equals, semicolon, digit, bad, between, Item, items}
+use Rattle.ic_grammar.specs.Tokens.{Token, symbol, name, opening, closing, comma, equals, semicolon, profile, stray, digit, bad, between, Item, items}
 use Rattle.ic_text.specs.Names.{times}
 use Rattle.ic_grammar.specs.Grammar.{symbols, names, occurs}
 use Rattle.ic_grammar.specs.Faults.{At, IsFront, depth, code}
@@ -31,6 +31,8 @@ bad_in : (fs : List Frame) (s m : State) → mark_in fs bad s ≡ Some m → ⊥
 bad_in [] s m e = on s.side e
   where
     on : (x : Side) → with_side (mark_on x bad) s ≡ Some m → ⊥
+    on sides.Beginning f = absurd cc
+    on sides.Heading f = absurd cc
     on sides.Left f = absurd cc
     on (sides.Equals l) f = absurd cc
     on (sides.Right l) f = absurd cc
@@ -149,6 +151,8 @@ misplaced_code closing o = omega arith
 misplaced_code comma o = omega arith
 misplaced_code equals o = omega arith
 misplaced_code semicolon o = omega arith
+misplaced_code profile o = omega arith
+misplaced_code stray o = omega arith
 misplaced_code digit o = omega arith
 
 -- at one token the least number is answered

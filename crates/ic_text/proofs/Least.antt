@@ -2,6 +2,7 @@
 use Rattle.std.proofs.Common.{◌≡◌, ℕ, ◌≤◌, ◌<◌, ◌⊎◌, inl, inr, true, false, List, ◌∷◌, ◌++◌, length, Some, None, Result, Ok, Err, refl, sym, ap, subst, ◌∙◌, arith}
 use Rattle.std.specs.Prelude.{count_by, find, IfOk}
 use Rattle.std.proofs.lemmas.Bool.{cases_lt}
+use Rattle.ic_name.specs.declared.rules.Profile.{Profile}
 use Rattle.ic_theory.specs.Starts.{Start}
 use Rattle.ic_grammar.specs.Texts.{is_reserved}
 use Rattle.ic_grammar.specs.declared.limits.TheConstants.{MAX_TEXT, MAX_FREE_NAMES}
@@ -72,7 +73,7 @@ stopped_least text f short e g st =
 
 -- what may then be wrong: the text ends early, or something is wrong with its names
 data EndSort (text : List ℕ) (g : Refusal) : Type 0 where
-  ends_early : g ≡ Syntax (length text) → ((es : List Equation) → tokens text ≡ text_of es → ⊥) → EndSort text g
+  ends_early : g ≡ Syntax (length text) → ((p : Profile) (es : List Equation) → tokens text ≡ text_of p es → ⊥) → EndSort text g
   has_reserved : (o : ℕ) → g ≡ ReservedFree o → Stands text (ReservedFree o) → EndSort text g
   has_many : g ≡ TooManyFree → Stands text TooManyFree → EndSort text g
 
@@ -91,8 +92,8 @@ unended_least text g (has_reserved o e h) = lower_class (Syntax (length text)) g
 unended_least text g (has_many e h) = lower_class (Syntax (length text)) g TooManyFree e (omega arith)
 
 -- the text is one of the grammar
-ended : (text : List ℕ) (s : State) → IsRead text s → is_at_rest s.stack s.side ≡ true → ((es : List Equation) → tokens text ≡ text_of es → ⊥) → ⊥
-ended text s r rest n = let w = is_text (items between 0 text) s (runs (items between 0 text) initial s r.went) rest in n w.0 w.1
+ended : (text : List ℕ) (s : State) → IsRead text s → is_at_rest s.stack s.side ≡ true → ((p : Profile) (es : List Equation) → tokens text ≡ text_of p es → ⊥) → ⊥
+ended text s r rest n = let w = is_text (items between 0 text) s (runs (items between 0 text) initial s r.went) rest in n w.0 w.1 w.2
 
 -- how often a name occurs, by the table
 once : (text : List ℕ) (s : State) → IsRead text s → (x : List ℕ) → occurs x (names (tokens text)) ≡ 1 → times x s.seen ≡ 1

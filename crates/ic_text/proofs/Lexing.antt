@@ -1,9 +1,10 @@
 -- The tokens of a text, one by one.
-use Rattle.std.proofs.Common.{◌≡◌, ℕ, suc, ◌+◌, Bool, true, false, eqb, ◌||◌, List, [], ◌∷◌, length, take, drop, refl, ap, ◌∙◌, arith, ◌≤◌, ◌≢◌, add-zero}
+use Rattle.std.proofs.Common.{◌≡◌, ℕ, suc, ◌+◌, Bool, true, false, cond, eqb, ◌||◌, List, [], ◌∷◌, length, take, drop, refl, ap, ◌∙◌, arith, ◌≤◌, ◌≢◌, add-zero, codes}
 use Rattle.std.specs.List.{prefix_len, take_while}
+use Rattle.std.specs.Str.{bytes_eq}
 use Rattle.std.proofs.lemmas.List.Sums.{prefix_len-le-length}
 use Rattle.std.proofs.lemmas.Bool.Decides.{nat_tests}
-use Rattle.ic_grammar.specs.Tokens.{name, bad, single, is_gap, is_comment_byte, Mode, between, in_name, in_comment, token_from, token_at, mode_from, mode_after, Item, items}
+use Rattle.ic_grammar.specs.Tokens.{Token, name, profile, stray, bad, single, is_gap, is_comment_byte, Mode, between, in_name, in_comment, token_from, token_at, mode_from, mode_after, Item, items}
 use Rattle.ic_grammar.specs.Texts.{is_letter, is_name_byte}
 
 -- a letter is no gap and no `#`
@@ -13,6 +14,10 @@ letter_no_gap b h = grind (arith, nat_tests)
 -- a letter is no `#`
 letter_no_hash : (b : ℕ) → is_letter b ≡ true → eqb b 35 ≡ false
 letter_no_hash b h = grind (arith, nat_tests)
+
+-- a gap is no `@`
+gap_no_at : (b : ℕ) → is_gap b ≡ true → eqb b 64 ≡ false
+gap_no_at b h = grind (arith, nat_tests)
 
 -- a byte that is neither a gap nor `#`
 no_letter_no_hash : (b : ℕ) → is_gap b ≡ false → b ≢ 35 → (is_gap b || eqb b 35) ≡ false
@@ -46,6 +51,15 @@ a_name o b n s bs e l k =
     let rest : items in_name (o + 1) bs ≡ items between (o + suc (prefix_len is_name_byte bs)) (drop (prefix_len is_name_byte bs) bs) = after_name (o + 1) bs ∙ ap (λ (i : ℕ). items between i (drop (prefix_len is_name_byte bs) bs)) j in
     rw e (rw m (rw (g, h, l) (ap (λ (is : List Item). record { at = o; token = name (b ∷ take_while is_name_byte bs) } ∷ is) rest)))
 
+-- an `@` and the letters behind it
+pub an_at : (o b n : ℕ) (s bs : List ℕ) (t : Token) → s ≡ b ∷ bs → b ≡ 64 → n ≡ prefix_len is_name_byte bs → t ≡ cond (bytes_eq (take n bs) (codes "straight")) profile stray
+    → items between o s ≡ record { at = o; token = t } ∷ items between (o + (n + 1)) (drop n bs)
+unfolding items token_at mode_after token_from mode_from
+an_at o b n s bs t e f k g =
+    let j : (o + 1) + prefix_len is_name_byte bs ≡ o + (prefix_len is_name_byte bs + 1) = omega arith in
+    let rest : items in_name (o + 1) bs ≡ items between (o + (prefix_len is_name_byte bs + 1)) (drop (prefix_len is_name_byte bs) bs) = after_name (o + 1) bs ∙ ap (λ (i : ℕ). items between i (drop (prefix_len is_name_byte bs) bs)) j in
+    rw (e, f, g, k) (ap (λ (is : List Item). record { at = o; token = cond (bytes_eq (take_while is_name_byte bs) (codes "straight")) profile stray } ∷ is) rest)
+
 -- a byte that may not stand in a comment
 pub comment_bad : (o b : ℕ) (s bs : List ℕ) → s ≡ b ∷ bs → b ≢ 10 → is_comment_byte b ≡ false → items in_comment o s ≡ record { at = o; token = bad } ∷ items in_comment (o + 1) bs
 unfolding items token_at mode_after
@@ -69,16 +83,22 @@ comment_begins o b s bs e n = rw e (rw n refl)
 -- a gap
 pub a_gap : (o b : ℕ) (s bs : List ℕ) → s ≡ b ∷ bs → b ≢ 35 → is_letter b ≡ false → is_gap b ≡ true → items between o s ≡ items between (o + 1) bs
 unfolding items token_at mode_after token_from mode_from
-a_gap o b s bs e n l h = let t : eqb b 35 ≡ false = grind (arith, nat_tests) in rw e (rw (h, t, l) refl)
+a_gap o b s bs e n l h =
+    let t : eqb b 35 ≡ false = grind (arith, nat_tests) in
+    let u : eqb b 64 ≡ false = gap_no_at b h in
+    rw e (rw (h, t, l, u) refl)
 
 -- a token of one byte
-pub a_single : (o b : ℕ) (s bs : List ℕ) → s ≡ b ∷ bs → b ≢ 35 → is_letter b ≡ false → is_gap b ≡ false → items between o s ≡ record { at = o; token = single b } ∷ items between (o + 1) bs
+pub a_single : (o b : ℕ) (s bs : List ℕ) → s ≡ b ∷ bs → b ≢ 35 → b ≢ 64 → is_letter b ≡ false → is_gap b ≡ false → items between o s ≡ record { at = o; token = single b } ∷ items between (o + 1) bs
 unfolding items token_at mode_after token_from mode_from
-a_single o b s bs e n l h = let t : eqb b 35 ≡ false = grind (arith, nat_tests) in rw e (rw (h, t, l) refl)
+a_single o b s bs e n a l h =
+    let t : eqb b 35 ≡ false = grind (arith, nat_tests) in
+    let u : eqb b 64 ≡ false = grind (arith, nat_tests) in
+    rw e (rw (h, t, l, u) refl)
 
 -- the end
 pub nothing_left : (m : Mode) (o : ℕ) (s : List ℕ) → s ≡ [] → items m o s ≡ []
 unfolding items
 nothing_left m o s e = rw e refl
 
-pub ruleset lexing = (a_name, comment_bad, comment_goes_on, comment_ends, comment_begins, a_gap, a_single, nothing_left)
+pub ruleset lexing = (a_name, an_at, comment_bad, comment_goes_on, comment_ends, comment_begins, a_gap, a_single, nothing_left)

@@ -2,7 +2,6 @@
 use Rattle.std.proofs.Common.{◌≡◌, ℕ, ◌≤◌, ◌<◌, Bool, true, false, cond, List, length, Option, Some, None, Result, Ok, Err, refl, arith}
 use Rattle.std.specs.Prelude.{nat_lt, count_by, find, map}
 use Rattle.std.proofs.lemmas.Bool.Decides.{nat_tests}
-use Rattle.ic_name.specs.declared.rules.Profile.TheVariants.{Classic}
 use Rattle.ic_theory.specs.Starts.{Start}
 use Rattle.ic_grammar.specs.declared.limits.TheConstants.{MAX_TEXT, MAX_FREE_NAMES}
 use Rattle.ic_grammar.specs.declared.refusal.Refusal.{Refusal}
@@ -18,7 +17,7 @@ pub record IsRead (text : List ℕ) (s : State) : Type 0 where
 
 -- the start of what was read
 abbrev pub made : State → Start
-made s = record { kinds = s.kinds; joins = s.joins; names = map (λ n. n.text) s.seen; profile = Classic }
+made s = record { kinds = s.kinds; joins = s.joins; names = map (λ n. n.text) s.seen; profile = s.profile }
 
 -- the text is too long; reading stops at a token; it ends within an equation; a reserved name occurs once; too many
 -- names occur once; or nothing is wrong

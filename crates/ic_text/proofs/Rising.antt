@@ -4,7 +4,7 @@ use Rattle.std.specs.Prelude.{find}
 use Rattle.std.specs.Str.{bytes_eq}
 use Rattle.std.proofs.lemmas.Slice.Eq.{bytes_eq-Decides}
 use Rattle.ic_grammar.specs.Texts.{is_reserved}
-use Rattle.ic_grammar.specs.Tokens.{Token, symbol, name, opening, closing, comma, equals, semicolon, digit, bad, Item}
+use Rattle.ic_grammar.specs.Tokens.{Token, symbol, name, opening, closing, comma, equals, semicolon, profile, stray, digit, bad, Item}
 use Rattle.ic_text.specs.Names.{Entry, enter, times, is_reserved_free}
 use Rattle.ic_text.specs.Reading.{State}
 use Rattle.ic_text.proofs.Steps.{step_adds, seen_with}
@@ -73,6 +73,8 @@ seen_rising closing lo hi o ns h le = widen lo hi o ns h le
 seen_rising comma lo hi o ns h le = widen lo hi o ns h le
 seen_rising equals lo hi o ns h le = widen lo hi o ns h le
 seen_rising semicolon lo hi o ns h le = widen lo hi o ns h le
+seen_rising profile lo hi o ns h le = widen lo hi o ns h le
+seen_rising stray lo hi o ns h le = widen lo hi o ns h le
 seen_rising digit lo hi o ns h le = widen lo hi o ns h le
 seen_rising bad lo hi o ns h le = widen lo hi o ns h le
 
@@ -85,6 +87,8 @@ seen_keeps x o p closing ns h = h
 seen_keeps x o p comma ns h = h
 seen_keeps x o p equals ns h = h
 seen_keeps x o p semicolon ns h = h
+seen_keeps x o p profile ns h = h
+seen_keeps x o p stray ns h = h
 seen_keeps x o p digit ns h = h
 seen_keeps x o p bad ns h = h
 

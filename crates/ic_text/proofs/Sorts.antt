@@ -1,11 +1,12 @@
 -- The faults of a text, by where they stand.
 use Rattle.std.proofs.Common.{◌≡◌, ℕ, ◌<◌, inl, inr, Bool, true, false, cond, List, length, Some, None, Err, refl, sym, ap, ◌∙◌, leb}
 use Rattle.std.specs.Prelude.{nat_lt}
+use Rattle.ic_name.specs.declared.rules.Profile.{Profile}
 use Rattle.ic_name.specs.declared.limits.TheConstants.{MAX_START_AGENTS}
 use Rattle.ic_grammar.specs.declared.limits.TheConstants.{MAX_TEXT, MAX_NAME, MAX_NESTING}
 use Rattle.ic_grammar.specs.declared.refusal.Refusal.{Refusal}
 use Rattle.ic_grammar.specs.declared.refusal.Refusal.TheVariants.{TooLong, BadByte, Syntax, NameTooLong, Thrice, TooManyAgents, TooNested, ReservedFree, TooManyFree}
-use Rattle.ic_grammar.specs.Tokens.{Token, symbol, name, opening, closing, comma, equals, semicolon, digit, bad}
+use Rattle.ic_grammar.specs.Tokens.{Token, symbol, name, opening, closing, comma, equals, semicolon, profile, stray, digit, bad}
 use Rattle.ic_grammar.specs.Grammar.{Equation, text_of, tokens}
 use Rattle.ic_grammar.specs.Faults.{At, Stands, class, place}
 use Rattle.ic_text.specs.Names.{times}
@@ -17,7 +18,7 @@ use Rattle.ic_text.proofs.First.{Local}
 pub data Sort (text : List ℕ) (g : Refusal) : Type 0 where
   long : g ≡ TooLong → MAX_TEXT < length text → Sort text g
   at_token : (front : List Token) (o : ℕ) (t : Token) → At text front o t → Local g front t → class g ≡ 1 → place g ≡ o → Sort text g
-  unended : g ≡ Syntax (length text) → ((es : List Equation) → tokens text ≡ text_of es → ⊥) → Sort text g
+  unended : g ≡ Syntax (length text) → ((p : Profile) (es : List Equation) → tokens text ≡ text_of p es → ⊥) → Sort text g
   reserved : (o : ℕ) → g ≡ ReservedFree o → Stands text (ReservedFree o) → Sort text g
   many : g ≡ TooManyFree → Stands text TooManyFree → Sort text g
 
@@ -49,6 +50,8 @@ misplaced_at closing o = record { class_is = refl; place_is = refl }
 misplaced_at comma o = record { class_is = refl; place_is = refl }
 misplaced_at equals o = record { class_is = refl; place_is = refl }
 misplaced_at semicolon o = record { class_is = refl; place_is = refl }
+misplaced_at profile o = record { class_is = refl; place_is = refl }
+misplaced_at stray o = record { class_is = refl; place_is = refl }
 misplaced_at digit o = record { class_is = refl; place_is = refl }
 
 -- the same fault
@@ -75,6 +78,8 @@ over_at m o closing f e = absurd cc
 over_at m o comma f e = absurd cc
 over_at m o equals f e = absurd cc
 over_at m o semicolon f e = absurd cc
+over_at m o profile f e = absurd cc
+over_at m o stray f e = absurd cc
 over_at m o digit f e = absurd cc
 over_at m o bad f e = absurd cc
 

@@ -16,16 +16,18 @@ use Rattle.ic_text.specs.declared.builder.Frame.{Frame}
 use Rattle.ic_text.specs.Sides.{Side}
 use Rattle.ic_text.specs.Sides as sides
 use Rattle.ic_text.specs.declared.fault.TextFault.{TextFault}
-use Rattle.ic_grammar.specs.Tokens.{Token, symbol, name, opening, closing, comma, equals, semicolon, digit, bad, Item, items, between}
+use Rattle.ic_grammar.specs.Tokens.{Token, symbol, name, opening, closing, comma, equals, semicolon, profile, stray, digit, bad, Item, items, between}
 use Rattle.ic_text.specs.Names.{Entry, enter, number, place, times, next, is_free, is_reserved_free}
 use Rattle.ic_grammar.specs.Texts.{is_reserved}
 use Rattle.ic_theory.specs.Starts.{Start}
-use Rattle.ic_name.specs.declared.rules.Profile.TheVariants.{Classic}
-use Rattle.ic_grammar.specs.Grammar.{eps, Equation, text_of, text_links, symbols, names, add, distinct, occurs, AreNames, Denotes, start_of}
+use Rattle.ic_name.specs.declared.rules.Profile.{Profile}
+use Rattle.ic_name.specs.declared.rules.Profile.TheVariants.{Classic, Straight}
+use Rattle.ic_grammar.specs.Grammar.{eps, Equation, equation_tokens, text_of, text_links, symbols, names, add, distinct, occurs, AreNames, Denotes, start_of}
 use Rattle.ic_text.specs.Reading.{◌>>=◌, State, initial, step, over, advance, run, is_at_rest, finish, finish_names, read_of, Gives}
+use Rattle.ic_grammar.proofs.Headings.{heading_names, heading_symbols}
 use Rattle.ic_text.proofs.Steps.{step_adds, advance_ok, kinds_with, seen_with}
 use Rattle.ic_text.proofs.Table.{next_some}
-use Rattle.ic_text.proofs.Pending.{Comes, Agrees, step_back}
+use Rattle.ic_text.proofs.Pending.{over_profile, Comes, Agrees, step_back}
 
 -- the steps along tokens
 abbrev pub Runs : State → List Item → State → Type 0
@@ -88,6 +90,8 @@ seen_stays x i o closing ns h = h
 seen_stays x i o comma ns h = h
 seen_stays x i o equals ns h = h
 seen_stays x i o semicolon ns h = h
+seen_stays x i o profile ns h = h
+seen_stays x i o stray ns h = h
 seen_stays x i o digit ns h = h
 seen_stays x i o bad ns h = h
 
@@ -111,6 +115,8 @@ agrees o closing is s m s' e r = tt
 agrees o comma is s m s' e r = tt
 agrees o equals is s m s' e r = tt
 agrees o semicolon is s m s' e r = tt
+agrees o profile is s m s' e r = tt
+agrees o stray is s m s' e r = tt
 agrees o digit is s m s' e r = tt
 agrees o bad is s m s' e r = tt
 
@@ -119,13 +125,13 @@ abbrev pub tokens_of : List Item → List Token
 tokens_of is = map (λ i. i.token) is
 
 -- what comes before tokens that are read is those tokens and what comes behind them
-pub runs_back : (is : List Item) (s s' : State) → Runs s is s' → (ts : List Token) (ls : List (Port × Port)) → Comes (numbers s') (length s'.kinds) s' ts ls
-    → Comes (numbers s') (length s.kinds) s (tokens_of is ++ ts) ls
-runs_back [] s s' r ts ls c = subst (λ (y : State). Comes (numbers s') (length y.kinds) y ts ls) (sym r) c
-runs_back (i ∷ is) s s' r ts ls c =
+pub runs_back : (is : List Item) (s s' : State) → Runs s is s' → (ts : List Token) (ls : List (Port × Port)) (q : Profile) → Comes (numbers s') (length s'.kinds) s' ts ls q
+    → Comes (numbers s') (length s.kinds) s (tokens_of is ++ ts) ls q
+runs_back [] s s' r ts ls q c = subst (λ (y : State). Comes (numbers s') (length y.kinds) y ts ls q) (sym r) c
+runs_back (i ∷ is) s s' r ts ls q c =
     let a = agrees i.at i.token is s r.0 s' r.1 r.2 in
-    let d = runs_back is r.0 s' r.2 ts ls c in
-    step_back (numbers s') s r.0 i.at i.token a r.1 (tokens_of is ++ ts) ls d
+    let d = runs_back is r.0 s' r.2 ts ls q c in
+    step_back (numbers s') s r.0 i.at i.token a r.1 (tokens_of is ++ ts) ls q d
 
 -- a fold over the names so far is one over the names of the tokens
 step_fold : {B : Type 0} (f : B → List ℕ → B) (F : List Entry → B) → ((x : List ℕ) (o : ℕ) (ns : List Entry) → F (enter x o ns) ≡ f (F ns) x)
@@ -137,6 +143,8 @@ step_fold f F h closing o ns ts = refl
 step_fold f F h comma o ns ts = refl
 step_fold f F h equals o ns ts = refl
 step_fold f F h semicolon o ns ts = refl
+step_fold f F h profile o ns ts = refl
+step_fold f F h stray o ns ts = refl
 step_fold f F h digit o ns ts = refl
 step_fold f F h bad o ns ts = refl
 
@@ -158,6 +166,8 @@ step_symbols closing ks ts = refl
 step_symbols comma ks ts = refl
 step_symbols equals ks ts = refl
 step_symbols semicolon ks ts = refl
+step_symbols profile ks ts = refl
+step_symbols stray ks ts = refl
 step_symbols digit ks ts = refl
 step_symbols bad ks ts = refl
 
@@ -220,26 +230,30 @@ times_enter x y o (n ∷ ns) = by_tests (bytes_eq y n.text) (bytes_eq x n.text) 
     by_tests false false e f ih = rw f ih
 
 -- the end of a text
-abbrev mk : List Kind → List (Port × Port) → List Entry → List Frame → Side → State
-mk ks js ns fs x = record { kinds = ks; joins = js; seen = ns; stack = fs; side = x }
+abbrev mk : List Kind → List (Port × Port) → List Entry → List Frame → Side → Profile → State
+mk ks js ns fs x p = record { kinds = ks; joins = js; seen = ns; stack = fs; side = x; profile = p }
 
 -- nothing is to come
-pub end_in : (N : List ℕ → ℕ) (n : ℕ) (ks : List Kind) (js : List (Port × Port)) (ns : List Entry) (fs : List Frame) (x : Side) → is_at_rest fs x ≡ true → Comes N n (mk ks js ns fs x) [] js
-end_in N n ks js ns [] sides.Left e = record { rest = (eps, []); tokens = refl; joins = append-nil js }
-end_in N n ks js ns [] (sides.Equals l) e = absurd cc
-end_in N n ks js ns [] (sides.Right l) e = absurd cc
-end_in N n ks js ns [] sides.Semicolon e = absurd cc
-end_in N n ks js ns (f ∷ fs) sides.Left e = absurd cc
-end_in N n ks js ns (f ∷ fs) (sides.Equals l) e = absurd cc
-end_in N n ks js ns (f ∷ fs) (sides.Right l) e = absurd cc
-end_in N n ks js ns (f ∷ fs) sides.Semicolon e = absurd cc
+pub end_in : (N : List ℕ → ℕ) (n : ℕ) (ks : List Kind) (js : List (Port × Port)) (ns : List Entry) (fs : List Frame) (x : Side) (p : Profile) → is_at_rest fs x ≡ true → Comes N n (mk ks js ns fs x p) [] js p
+end_in N n ks js ns [] sides.Beginning p e = record { rest = (Classic, eps, []); tokens = refl; joins = append-nil js; profile = refl }
+end_in N n ks js ns [] sides.Heading p e = absurd cc
+end_in N n ks js ns [] sides.Left p e = record { rest = (Classic, eps, []); tokens = refl; joins = append-nil js; profile = refl }
+end_in N n ks js ns [] (sides.Equals l) p e = absurd cc
+end_in N n ks js ns [] (sides.Right l) p e = absurd cc
+end_in N n ks js ns [] sides.Semicolon p e = absurd cc
+end_in N n ks js ns (f ∷ fs) sides.Beginning p e = absurd cc
+end_in N n ks js ns (f ∷ fs) sides.Heading p e = absurd cc
+end_in N n ks js ns (f ∷ fs) sides.Left p e = absurd cc
+end_in N n ks js ns (f ∷ fs) (sides.Equals l) p e = absurd cc
+end_in N n ks js ns (f ∷ fs) (sides.Right l) p e = absurd cc
+end_in N n ks js ns (f ∷ fs) sides.Semicolon p e = absurd cc
 
 -- what a text that was read to its end had
 pub record Finished (s : State) (st : Start) : Type 0 where
   pub at_rest : is_at_rest s.stack s.side ≡ true
   pub none : find is_reserved_free s.seen ≡ None
   pub few : count_by is_free s.seen ≤ MAX_FREE_NAMES
-  pub start : st ≡ record { kinds = s.kinds; joins = s.joins; names = texts s.seen; profile = Classic }
+  pub start : st ≡ record { kinds = s.kinds; joins = s.joins; names = texts s.seen; profile = s.profile }
 
 -- a guard that was passed
 guarded : {A : Type 0} (b : Bool) (d : Refusal) (x : Result A Refusal) (y : A) → cond b x (Err d) ≡ Ok y → (b ≡ true) × (x ≡ Ok y)
@@ -262,7 +276,7 @@ unfolding finish
 finished len s st e =
     let a = guarded (is_at_rest s.stack s.side) (Syntax len) (finish_names (find is_reserved_free s.seen) s) st e in
     let n = none_reserved (find is_reserved_free s.seen) s st a.1 in
-    let made : Start = record { kinds = s.kinds; joins = s.joins; names = texts s.seen; profile = Classic } in
+    let made : Start = record { kinds = s.kinds; joins = s.joins; names = texts s.seen; profile = s.profile } in
     let g = guard_ok (nat_lt MAX_FREE_NAMES (count_by is_free s.seen)) TooManyFree (Ok made) st (rw n at a.1) in
     record { at_rest = a.0; none = n; few = (let h = g.0 in grind (arith, nat_tests)); start = sym (ok_is made st g.1) }
 
@@ -291,6 +305,8 @@ twice_step s o closing e h x = h x
 twice_step s o comma e h x = h x
 twice_step s o equals e h x = h x
 twice_step s o semicolon e h x = h x
+twice_step s o profile e h x = h x
+twice_step s o stray e h x = h x
 twice_step s o digit e h x = h x
 twice_step s o bad e h x = h x
 
@@ -321,43 +337,53 @@ joints x (n ∷ ns) e h = by_test (bytes_eq x n.text) refl (is_reserved_free n) 
         ap is_reserved ((bytes_eq-Decides x n.text).0 f) ∙ both (eqb n.times 1) (is_reserved n.text) free g
     by_test false f false g ih = ih (rw g at e) (rw f at h)
 
--- the start of equations, from what was read of their tokens
-start_is : (es : List Equation) (ks : List Kind) (js : List (Port × Port)) (ns : List Entry) (ts : List Token) → ts ≡ text_of es → symbols ts ≡ ks → distinct (names ts) ≡ texts ns
-    → text_links (λ x. number x ns) 0 es ≡ js → start_of es ≡ record { kinds = ks; joins = js; names = texts ns; profile = Classic }
-start_is es ks js ns ts e k l j =
-    let ke : symbols (text_of es) ≡ ks = ap symbols (sym e) ∙ k in
-    let le : distinct (names (text_of es)) ≡ texts ns = ap (λ (w : List Token). distinct (names w)) (sym e) ∙ l in
+-- the start of a profile and equations, from what was read of their tokens
+start_is : (p : Profile) (es : List Equation) (ks : List Kind) (js : List (Port × Port)) (ns : List Entry) (ts : List Token) → ts ≡ text_of p es → symbols ts ≡ ks → distinct (names ts) ≡ texts ns
+    → text_links (λ x. number x ns) 0 es ≡ js → start_of p es ≡ record { kinds = ks; joins = js; names = texts ns; profile = p }
+start_is p es ks js ns ts e k l j =
+    let ke : symbols (equation_tokens es) ≡ ks = sym (heading_symbols p (equation_tokens es)) ∙ ap symbols (sym e) ∙ k in
+    let ne : names (equation_tokens es) ≡ names ts = sym (heading_names p (equation_tokens es)) ∙ ap names (sym e) in
+    let le : distinct (names (equation_tokens es)) ≡ texts ns = ap distinct ne ∙ l in
     let numbered : (λ (x : List ℕ). number x ns) ≡ (λ (x : List ℕ). position_or_len (bytes_eq x) (texts ns)) = λ i x. number_is x ns i in
-    let je : text_links (λ x. position_or_len (bytes_eq x) (distinct (names (text_of es)))) 0 es ≡ js =
+    let je : text_links (λ x. position_or_len (bytes_eq x) (distinct (names (equation_tokens es)))) 0 es ≡ js =
     ap (λ (xs : List (List ℕ)). text_links (λ x. position_or_len (bytes_eq x) xs) 0 es) le
     ∙ ap (λ (N : List ℕ → ℕ). text_links N 0 es) (sym numbered) ∙ j in
-    λ i. record { kinds = ke i; joins = je i; names = le i; profile = Classic }
+    λ i. record { kinds = ke i; joins = je i; names = le i; profile = p }
+
+-- where nothing has been read, the profile in the end is the one to come
+read_profile : (p : Profile) → over_profile p Classic ≡ p
+read_profile Classic = refl
+read_profile Straight = refl
 
 -- what tokens are read as is what they denote
 pub record DenotesTokens (ts : List Token) (st : Start) : Type 0 where
+  pub profile : Profile
   pub equations : List Equation
-  pub grammar : ts ≡ text_of equations
+  pub grammar : ts ≡ text_of profile equations
   pub allowed : AreNames (names ts)
-  pub start : st ≡ start_of equations
+  pub start : st ≡ start_of profile equations
 
 -- what tokens are read as is denoted
 pub sound_tokens : (is : List Item) (s : State) (len : ℕ) (st : Start) → run initial is ≡ Ok s → finish len s ≡ Ok st → DenotesTokens (tokens_of is) st
 sound_tokens is s len st e h =
     let f = finished len s st h in
     let r = runs is initial s e in
-    let c = runs_back is initial s r [] s.joins (end_in (numbers s) (length s.kinds) s.kinds s.joins s.seen s.stack s.side f.at_rest) in
-    let spelled : tokens_of is ≡ text_of c.rest.1 = sym (append-nil (tokens_of is)) ∙ sym c.tokens in
+    let c = runs_back is initial s r [] s.joins s.profile (end_in (numbers s) (length s.kinds) s.kinds s.joins s.seen s.stack s.side s.profile f.at_rest) in
+    let spelled : tokens_of is ≡ text_of c.rest.0 c.rest.2 = sym (append-nil (tokens_of is)) ∙ sym c.tokens in
     let counted : (x : List ℕ) → occurs x (names (tokens_of is)) ≡ times x s.seen = λ x. runs_fold (λ a y. a + cond (bytes_eq x y) 1 0) (times x) (λ y o ns. times_enter x y o ns) is initial s r in
     let listed : distinct (names (tokens_of is)) ≡ texts s.seen = runs_fold (λ ys x. add x ys) texts texts_enter is initial s r in
     let kinds : symbols (tokens_of is) ≡ s.kinds = runs_symbols is initial s r in
+    let profiles : s.profile ≡ c.rest.0 = sym c.profile ∙ read_profile c.rest.0 in
+    let made : st ≡ record { kinds = s.kinds; joins = s.joins; names = texts s.seen; profile = c.rest.0 } = f.start ∙ (λ i. record { kinds = s.kinds; joins = s.joins; names = texts s.seen; profile = profiles i }) in
     record {
-      equations = c.rest.1;
+      profile = c.rest.0;
+      equations = c.rest.2;
       grammar = spelled;
       allowed = record {
         twice = λ x. omega (arith, counted x, twice is initial s e (λ y. omega arith) x);
         joints = λ x g. joints x s.seen f.none (sym (counted x) ∙ g);
       };
-      start = f.start ∙ sym (start_is c.rest.1 s.kinds s.joins s.seen (tokens_of is) spelled kinds listed c.joins);
+      start = made ∙ sym (start_is c.rest.0 c.rest.2 s.kinds s.joins s.seen (tokens_of is) spelled kinds listed c.joins);
     }
 
 -- what is read is denoted
@@ -367,7 +393,7 @@ sound text st e =
     let g = guard_ok (nat_lt MAX_TEXT (length text)) TooLong (run initial (items between 0 text) >>= finish (length text)) st e in
     let b = bind_ok (run initial (items between 0 text)) (finish (length text)) st g.1 in
     let d = sound_tokens (items between 0 text) b.0 (length text) st b.1 b.2 in
-    record { equations = d.equations; grammar = d.grammar; allowed = d.allowed; start = d.start }
+    record { profile = d.profile; equations = d.equations; grammar = d.grammar; allowed = d.allowed; start = d.start }
 
 -- the same of what a function returned
 pub found : (text : List ℕ) (r : Result Start TextFault) → Gives (λ s. s) r (read_of text) → IfOk r (λ s. Denotes text s)

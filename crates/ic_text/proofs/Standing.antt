@@ -9,6 +9,7 @@ use Rattle.std.proofs.lemmas.Bool.Decides.{nat_tests}
 use Rattle.ic_name.specs.declared.kinds.Kind.{Kind}
 use Rattle.ic_name.specs.declared.kinds.Kind.TheVariants.{Gamma, Delta, Eps}
 use Rattle.ic_name.specs.declared.ports.Port.{Port}
+use Rattle.ic_name.specs.declared.rules.Profile.TheVariants.{Classic}
 use Rattle.ic_grammar.specs.declared.refusal.Refusal.{Refusal}
 use Rattle.ic_grammar.specs.declared.refusal.Refusal.TheVariants.{NameTooLong, Thrice, TooManyAgents, TooNested}
 use Rattle.ic_text.specs.declared.builder.Phase.{Phase}
@@ -16,13 +17,13 @@ use Rattle.ic_text.specs.declared.builder.Phase.TheVariants as phases
 use Rattle.ic_text.specs.declared.builder.Frame.{Frame}
 use Rattle.ic_text.specs.Sides.{Side}
 use Rattle.ic_text.specs.Sides as sides
-use Rattle.ic_grammar.specs.Tokens.{Token, symbol, name, opening, closing, comma, equals, semicolon, digit, bad, Item, items, between}
+use Rattle.ic_grammar.specs.Tokens.{Token, symbol, name, opening, closing, comma, equals, semicolon, profile, stray, digit, bad, Item, items, between}
 use Rattle.ic_text.specs.Names.{times}
 use Rattle.ic_grammar.specs.Grammar.{eps, text_of, names, occurs, port_of}
 use Rattle.ic_grammar.specs.Faults.{At, IsFront, is_fork, is_closing, depth, Stands}
-use Rattle.ic_text.specs.Reading.{◌>>=◌, State, initial, step, over, advance, run, judge, misplaced, put, put_at, put_on, put_in, put_symbol, push_open, mark_at, mark_on, mark_in, with_stack, with_side}
+use Rattle.ic_text.specs.Reading.{◌>>=◌, State, initial, step, over, advance, run, judge, misplaced, put, put_at, put_on, put_in, put_symbol, put_profile_on, put_profile_in, push_open, mark_at, mark_on, mark_in, with_stack, with_side}
 use Rattle.ic_text.proofs.Steps.{some_is}
-use Rattle.ic_text.proofs.Pending.{Rest, pend, rest_links}
+use Rattle.ic_text.proofs.Pending.{Rest, pend, rest_links, rest_profile}
 use Rattle.ic_text.proofs.Taken.{forth}
 use Rattle.ic_text.proofs.Sound.{Runs, runs, runs_back, runs_fold, runs_symbols, tokens_of, numbers, bind_ok, times_enter}
 
@@ -82,23 +83,23 @@ forth_all (i ∷ is) s m g r ts e =
 -- a token with which no step goes on begins no text with the tokens in front of it
 pub no_front : (before : List Item) (m : State) (o : ℕ) (t : Token) → Runs initial before m → step m o t ≡ None → IsFront (tokens_of before ++ t ∷ []) → ⊥
 no_front before m o t g e f =
-    let parts : text_of f.equations ≡ tokens_of before ++ (t ∷ f.rest) = f.parts ∙ append_assoc (tokens_of before) (t ∷ []) f.rest in
-    let c = forth_all before initial m g (eps, f.equations) (t ∷ f.rest) parts in
+    let parts : text_of f.profile f.equations ≡ tokens_of before ++ (t ∷ f.rest) = f.parts ∙ append_assoc (tokens_of before) (t ∷ []) f.rest in
+    let c = forth_all before initial m g (f.profile, eps, f.equations) (t ∷ f.rest) parts in
     let h = forth m c.0 o t f.rest c.1 in
     let z : None ≡ Some h.after = sym e ∙ h.went in
     absurd cc
 
 -- some rest completes what was read so far
 any_rest : (fs : List Frame) → Rest fs
-any_rest [] = (eps, [])
+any_rest [] = (Classic, eps, [])
 any_rest (f ∷ fs) = (eps, eps, any_rest fs)
 
 -- tokens that were taken begin a text
 pub is_front : (before : List Item) (m : State) → Runs initial before m → IsFront (tokens_of before)
 is_front before m g =
     let r = any_rest m.stack in
-    let c = runs_back before initial m g (pend m.stack m.side r) (m.joins ++ rest_links (numbers m) (length m.kinds) m.stack m.side r) (record { rest = r; tokens = refl; joins = refl }) in
-    record { equations = c.rest.1; rest = pend m.stack m.side r; parts = c.tokens }
+    let c = runs_back before initial m g (pend m.stack m.side r) (m.joins ++ rest_links (numbers m) (length m.kinds) m.stack m.side r) (rest_profile m.stack m.side r m.profile) (record { rest = r; tokens = refl; joins = refl; profile = refl }) in
+    record { profile = c.rest.0; equations = c.rest.2; rest = pend m.stack m.side r; parts = c.tokens }
 
 -- ---- how deep the symbols are
 
@@ -119,6 +120,8 @@ put_in_depth : (fs : List Frame) (root : Port) (s s' : State) → s.stack ≡ fs
 put_in_depth [] root s s' h e = on s.side e
   where
     on : (x : Side) → put_on x root s ≡ Some s' → length s'.stack ≡ 0
+    on sides.Beginning f = same_length 0 _ s' (ap length h) f
+    on sides.Heading f = absurd cc
     on sides.Left f = same_length 0 _ s' (ap length h) f
     on (sides.Right l) f = same_length 0 _ s' (ap length h) f
     on (sides.Equals l) f = absurd cc
@@ -146,15 +149,31 @@ symbol_depth k s s' e = by_kind k (put (port_of (length s.kinds) 0) (record s { 
     by_kind Gamma (Some m) h f = omega (arith, same_length (length m.stack + 1) _ s' (omega arith) f, put_depth _ _ m h)
     by_kind Delta (Some m) h f = omega (arith, same_length (length m.stack + 1) _ s' (omega arith) f, put_depth _ _ m h)
 
+-- nor does the profile
+put_profile_in_depth : (fs : List Frame) (s s' : State) → s.stack ≡ fs → put_profile_in fs s ≡ Some s' → length s'.stack ≡ length s.stack
+put_profile_in_depth [] s s' h e = on s.side e
+  where
+    on : (x : Side) → put_profile_on x s ≡ Some s' → length s'.stack ≡ length s.stack
+    on sides.Beginning f = same_length (length s.stack) _ s' refl f
+    on sides.Heading f = absurd cc
+    on sides.Left f = absurd cc
+    on (sides.Equals l) f = absurd cc
+    on (sides.Right l) f = absurd cc
+    on sides.Semicolon f = absurd cc
+put_profile_in_depth (f ∷ fs) s s' h e = absurd cc
+
 -- the closing mark closes one
 mark_in_depth : (fs : List Frame) (t : Token) (s s' : State) → s.stack ≡ fs → mark_in fs t s ≡ Some s' → length s'.stack + closings t ≡ length fs
 mark_in_depth [] t s s' h e = on s.side t e
   where
     on : (x : Side) (u : Token) → with_side (mark_on x u) s ≡ Some s' → length s'.stack + closings u ≡ 0
+    on sides.Heading semicolon f = omega (arith, same_length 0 _ s' (ap length h) f)
     on (sides.Equals l) equals f = omega (arith, same_length 0 _ s' (ap length h) f)
     on sides.Semicolon semicolon f = omega (arith, same_length 0 _ s' (ap length h) f)
+    on sides.Heading u f = absurd cc
     on (sides.Equals l) u f = absurd cc
     on sides.Semicolon u f = absurd cc
+    on sides.Beginning u f = absurd cc
     on sides.Left u f = absurd cc
     on (sides.Right l) u f = absurd cc
 mark_in_depth (f ∷ fs) t s s' h e = at f.phase t e
@@ -179,6 +198,8 @@ step_depth s m o closing e = omega (arith, mark_in_depth s.stack closing s m ref
 step_depth s m o comma e = omega (arith, mark_in_depth s.stack comma s m refl e)
 step_depth s m o equals e = omega (arith, mark_in_depth s.stack equals s m refl e)
 step_depth s m o semicolon e = omega (arith, mark_in_depth s.stack semicolon s m refl e)
+step_depth s m o profile e = omega (arith, put_profile_in_depth s.stack s m refl e)
+step_depth s m o stray e = omega (arith, mark_in_depth s.stack stray s m refl e)
 step_depth s m o digit e = omega (arith, mark_in_depth s.stack digit s m refl e)
 step_depth s m o bad e = omega (arith, mark_in_depth s.stack bad s m refl e)
 
@@ -220,6 +241,8 @@ misplaced_stands text before m o closing h e = inl (tokens_of before, closing, h
 misplaced_stands text before m o comma h e = inl (tokens_of before, comma, h.at, no_front before m o comma h.runs e)
 misplaced_stands text before m o equals h e = inl (tokens_of before, equals, h.at, no_front before m o equals h.runs e)
 misplaced_stands text before m o semicolon h e = inl (tokens_of before, semicolon, h.at, no_front before m o semicolon h.runs e)
+misplaced_stands text before m o profile h e = inl (tokens_of before, profile, h.at, no_front before m o profile h.runs e)
+misplaced_stands text before m o stray h e = inl (tokens_of before, stray, h.at, no_front before m o stray h.runs e)
 misplaced_stands text before m o digit h e = inl (tokens_of before, digit, h.at, no_front before m o digit h.runs e)
 
 -- a name occurs as often as the table says
@@ -254,6 +277,8 @@ over_stands text before m o closing g h e = absurd cc
 over_stands text before m o comma g h e = absurd cc
 over_stands text before m o equals g h e = absurd cc
 over_stands text before m o semicolon g h e = absurd cc
+over_stands text before m o profile g h e = absurd cc
+over_stands text before m o stray g h e = absurd cc
 over_stands text before m o digit g h e = absurd cc
 over_stands text before m o bad g h e = absurd cc
 

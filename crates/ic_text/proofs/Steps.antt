@@ -16,10 +16,10 @@ use Rattle.ic_text.specs.declared.builder.Phase.TheVariants as phases
 use Rattle.ic_text.specs.declared.builder.Frame.{Frame}
 use Rattle.ic_text.specs.Sides.{Side}
 use Rattle.ic_text.specs.Sides as sides
-use Rattle.ic_grammar.specs.Tokens.{Token, symbol, name, opening, closing, comma, equals, semicolon, digit, bad, Item, items, between}
+use Rattle.ic_grammar.specs.Tokens.{Token, symbol, name, opening, closing, comma, equals, semicolon, profile, stray, digit, bad, Item, items, between}
 use Rattle.ic_grammar.specs.Grammar.{port_of}
 use Rattle.ic_text.specs.Names.{Entry, enter}
-use Rattle.ic_text.specs.Reading.{State, put, put_at, put_on, put_in, push_open, mark_at, mark_on, mark_in, with_stack, with_side, step, over, judge, advance, run, Fails, initial, read_of}
+use Rattle.ic_text.specs.Reading.{State, put, put_at, put_on, put_in, put_profile_on, put_profile_in, push_open, mark_at, mark_on, mark_in, with_stack, with_side, step, over, judge, advance, run, Fails, initial, read_of}
 use Rattle.ic_text.specs.declared.fault.TextFault.{TextFault}
 use Rattle.ic_text.specs.declared.fault.TextFault.TheVariants as faults
 
@@ -50,6 +50,8 @@ put_at_keeps phases.Closing n fs root s s' e = absurd cc
 
 -- a term outside all parentheses
 put_on_keeps : (x : Side) (root : Port) (s s' : State) → put_on x root s ≡ Some s' → Keeps s s'
+put_on_keeps sides.Beginning root s s' e = same s _ s' refl refl e
+put_on_keeps sides.Heading root s s' e = absurd cc
 put_on_keeps sides.Left root s s' e = same s _ s' refl refl e
 put_on_keeps (sides.Right left) root s s' e = same s _ s' refl refl e
 put_on_keeps (sides.Equals left) root s s' e = absurd cc
@@ -63,6 +65,20 @@ put_in_keeps (f ∷ fs) root s s' e = put_at_keeps f.phase f.agent fs root s s' 
 -- a term in a state
 pub put_keeps : (root : Port) (s s' : State) → put root s ≡ Some s' → Keeps s s'
 put_keeps root s s' e = put_in_keeps s.stack root s s' e
+
+-- the profile outside all parentheses
+put_profile_on_keeps : (x : Side) (s s' : State) → put_profile_on x s ≡ Some s' → Keeps s s'
+put_profile_on_keeps sides.Beginning s s' e = same s _ s' refl refl e
+put_profile_on_keeps sides.Heading s s' e = absurd cc
+put_profile_on_keeps sides.Left s s' e = absurd cc
+put_profile_on_keeps (sides.Equals left) s s' e = absurd cc
+put_profile_on_keeps (sides.Right left) s s' e = absurd cc
+put_profile_on_keeps sides.Semicolon s s' e = absurd cc
+
+-- the profile, by the open symbols
+put_profile_in_keeps : (fs : List Frame) (s s' : State) → put_profile_in fs s ≡ Some s' → Keeps s s'
+put_profile_in_keeps [] s s' e = put_profile_on_keeps s.side s s' e
+put_profile_in_keeps (f ∷ fs) s s' e = absurd cc
 
 -- other open symbols
 with_stack_keeps : (o : Option (List Frame)) (s s' : State) → with_stack o s ≡ Some s' → Keeps s s'
@@ -115,6 +131,8 @@ step_adds s s' o closing e = let b = mark_in_keeps s.stack closing s s' e in rec
 step_adds s s' o comma e = let b = mark_in_keeps s.stack comma s s' e in record { kinds = b.kinds; seen = b.seen }
 step_adds s s' o equals e = let b = mark_in_keeps s.stack equals s s' e in record { kinds = b.kinds; seen = b.seen }
 step_adds s s' o semicolon e = let b = mark_in_keeps s.stack semicolon s s' e in record { kinds = b.kinds; seen = b.seen }
+step_adds s s' o profile e = let b = put_profile_in_keeps s.stack s s' e in record { kinds = b.kinds; seen = b.seen }
+step_adds s s' o stray e = let b = mark_in_keeps s.stack stray s s' e in record { kinds = b.kinds; seen = b.seen }
 step_adds s s' o digit e = let b = mark_in_keeps s.stack digit s s' e in record { kinds = b.kinds; seen = b.seen }
 step_adds s s' o bad e = let b = mark_in_keeps s.stack bad s s' e in record { kinds = b.kinds; seen = b.seen }
 
@@ -147,6 +165,8 @@ seen_more closing o ns = omega arith
 seen_more comma o ns = omega arith
 seen_more equals o ns = omega arith
 seen_more semicolon o ns = omega arith
+seen_more profile o ns = omega arith
+seen_more stray o ns = omega arith
 seen_more digit o ns = omega arith
 seen_more bad o ns = omega arith
 
@@ -168,6 +188,8 @@ kinds_fit s o closing e h = h
 kinds_fit s o comma e h = h
 kinds_fit s o equals e h = h
 kinds_fit s o semicolon e h = h
+kinds_fit s o profile e h = h
+kinds_fit s o stray e h = h
 kinds_fit s o digit e h = h
 kinds_fit s o bad e h = h
 

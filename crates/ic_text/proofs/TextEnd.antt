@@ -2,6 +2,7 @@
 use Rattle.std.proofs.Common.{◌≡◌, ℕ, Bool, true, false, List, [], ◌∷◌, length, Some, refl, sym, ap, ◌∙◌, eqb}
 use Rattle.std.specs.Prelude.{count_by, find}
 use Rattle.std.proofs.lemmas.List.{append-nil}
+use Rattle.ic_name.specs.declared.rules.Profile.{Profile}
 use Rattle.ic_grammar.specs.declared.refusal.Refusal.TheVariants.{ReservedFree}
 use Rattle.ic_grammar.specs.Tokens.{Token, Item, items, between}
 use Rattle.ic_grammar.specs.Grammar.{Term, eps, Equation, text_of, tokens, names, distinct, occurs, add}
@@ -29,24 +30,26 @@ frame_pends phases.Closing u v below e = absurd cc
 
 -- where no tokens are to come, the text may end
 ends : (fs : List Frame) (x : Side) (r : Rest fs) → pend fs x r ≡ [] → is_at_rest fs x ≡ true
+ends [] sides.Beginning r e = refl
+ends [] sides.Heading r e = absurd cc
 ends [] sides.Left r e = refl
 ends [] (sides.Equals l) r e = absurd cc
-ends [] (sides.Right l) r e = absurd (starts r.0 _ e)
+ends [] (sides.Right l) r e = absurd (starts r.1 _ e)
 ends [] sides.Semicolon r e = absurd cc
 ends (f ∷ fs) x r e = absurd (frame_pends f.phase r.0 r.1 (pend fs x r.2) e)
 
 -- where the text may not end, its tokens are no text
-pub no_text : (is : List Item) (s : State) → Runs initial is s → is_at_rest s.stack s.side ≡ false → (es : List Equation) → tokens_of is ≡ text_of es → ⊥
-no_text is s g h es e =
-    let c = forth_all is initial s g (eps, es) [] (sym e ∙ sym (append-nil (tokens_of is))) in
+pub no_text : (is : List Item) (s : State) → Runs initial is s → is_at_rest s.stack s.side ≡ false → (p : Profile) (es : List Equation) → tokens_of is ≡ text_of p es → ⊥
+no_text is s g h p es e =
+    let c = forth_all is initial s g (p, eps, es) [] (sym e ∙ sym (append-nil (tokens_of is))) in
     let z : true ≡ false = sym (ends s.stack s.side c.0 c.1) ∙ h in
     absurd cc
 
 -- where the text may end, they are one
-pub is_text : (is : List Item) (s : State) → Runs initial is s → is_at_rest s.stack s.side ≡ true → (es : List Equation) × (tokens_of is ≡ text_of es)
+pub is_text : (is : List Item) (s : State) → Runs initial is s → is_at_rest s.stack s.side ≡ true → (p : Profile) × (es : List Equation) × (tokens_of is ≡ text_of p es)
 is_text is s g h =
-    let c = runs_back is initial s g [] s.joins (end_in (numbers s) (length s.kinds) s.kinds s.joins s.seen s.stack s.side h) in
-    (c.rest.1, sym (append-nil (tokens_of is)) ∙ sym c.tokens)
+    let c = runs_back is initial s g [] s.joins s.profile (end_in (numbers s) (length s.kinds) s.kinds s.joins s.seen s.stack s.side s.profile h) in
+    (c.rest.0, c.rest.2, sym (append-nil (tokens_of is)) ∙ sym c.tokens)
 
 -- a reserved name of the table that occurs once does so in the text
 pub reserved_stands : (text : List ℕ) (s : State) (n : Entry) → Runs initial (items between 0 text) s → find is_reserved_free s.seen ≡ Some n → Stands text (ReservedFree n.first)

@@ -3,14 +3,14 @@ use Rattle.std.proofs.Common.{◌≡◌, ℕ, ◌+◌, ◌≤◌, ◌<◌, List,
 use Rattle.ic_name.specs.declared.kinds.Kind.{Kind}
 use Rattle.ic_name.specs.declared.kinds.Kind.TheVariants.{Gamma, Delta, Eps}
 use Rattle.ic_name.specs.declared.ports.Port.{Port}
-use Rattle.ic_grammar.specs.Tokens.{Token, symbol, name, opening, closing, comma, equals, semicolon, digit, bad}
+use Rattle.ic_grammar.specs.Tokens.{Token, symbol, name, opening, closing, comma, equals, semicolon, profile, stray, digit, bad}
 use Rattle.ic_grammar.specs.Grammar.{port_of}
 use Rattle.ic_text.specs.declared.builder.Phase.{Phase}
 use Rattle.ic_text.specs.declared.builder.Phase.TheVariants as phases
 use Rattle.ic_text.specs.declared.builder.Frame.{Frame}
 use Rattle.ic_text.specs.Sides.{Side}
 use Rattle.ic_text.specs.Sides as sides
-use Rattle.ic_text.specs.Reading.{State, initial, put, put_at, put_on, put_in, push_open, mark_at, mark_on, mark_in, with_stack, with_side, step, advance, IsWithin}
+use Rattle.ic_text.specs.Reading.{State, initial, put, put_at, put_on, put_in, put_profile_on, put_profile_in, push_open, mark_at, mark_on, mark_in, with_stack, with_side, step, advance, IsWithin}
 use Rattle.ic_text.proofs.Steps.{some_is, step_adds, advance_ok, agents_fit, names_fit}
 use Rattle.ic_text.proofs.Sound.{twice_step}
 
@@ -28,6 +28,8 @@ put_at_adds phases.Closing n fs root s s' e = absurd cc
 
 -- a term outside all parentheses
 put_on_adds : (x : Side) (root : Port) (s s' : State) → put_on x root s ≡ Some s' → length s'.joins ≤ length s.joins + 1
+put_on_adds sides.Beginning root s s' e = go_on (length s.joins + 1) _ s' (omega arith) e
+put_on_adds sides.Heading root s s' e = absurd cc
 put_on_adds sides.Left root s s' e = go_on (length s.joins + 1) _ s' (omega arith) e
 put_on_adds (sides.Right left) root s s' e = go_on (length s.joins + 1) _ s' (omega (arith, length-append s.joins ((left, root) ∷ []))) e
 put_on_adds (sides.Equals left) root s s' e = absurd cc
@@ -37,6 +39,20 @@ put_on_adds sides.Semicolon root s s' e = absurd cc
 put_in_adds : (fs : List Frame) (root : Port) (s s' : State) → put_in fs root s ≡ Some s' → length s'.joins ≤ length s.joins + 1
 put_in_adds [] root s s' e = put_on_adds s.side root s s' e
 put_in_adds (f ∷ fs) root s s' e = put_at_adds f.phase f.agent fs root s s' e
+
+-- the profile outside all parentheses
+put_profile_on_adds : (x : Side) (s s' : State) → put_profile_on x s ≡ Some s' → length s'.joins ≤ length s.joins + 1
+put_profile_on_adds sides.Beginning s s' e = go_on (length s.joins + 1) _ s' (omega arith) e
+put_profile_on_adds sides.Heading s s' e = absurd cc
+put_profile_on_adds sides.Left s s' e = absurd cc
+put_profile_on_adds (sides.Equals left) s s' e = absurd cc
+put_profile_on_adds (sides.Right left) s s' e = absurd cc
+put_profile_on_adds sides.Semicolon s s' e = absurd cc
+
+-- the profile, by the open symbols
+put_profile_in_adds : (fs : List Frame) (s s' : State) → put_profile_in fs s ≡ Some s' → length s'.joins ≤ length s.joins + 1
+put_profile_in_adds [] s s' e = put_profile_on_adds s.side s s' e
+put_profile_in_adds (f ∷ fs) s s' e = absurd cc
 
 -- other open symbols
 with_stack_adds : (o : Option (List Frame)) (s s' : State) → with_stack o s ≡ Some s' → length s'.joins ≤ length s.joins + 1
@@ -72,6 +88,8 @@ step_links s s' o closing e = mark_in_adds s.stack closing s s' e
 step_links s s' o comma e = mark_in_adds s.stack comma s s' e
 step_links s s' o equals e = mark_in_adds s.stack equals s s' e
 step_links s s' o semicolon e = mark_in_adds s.stack semicolon s s' e
+step_links s s' o profile e = put_profile_in_adds s.stack s s' e
+step_links s s' o stray e = mark_in_adds s.stack stray s s' e
 step_links s s' o digit e = mark_in_adds s.stack digit s s' e
 step_links s s' o bad e = mark_in_adds s.stack bad s s' e
 

@@ -5,3 +5,4 @@ pub mod Table
 pub mod Links
 pub mod Ends
 pub mod Views
+pub mod Faults

@@ -4,7 +4,8 @@ use Rattle.ic_name.specs.declared.kinds.Kind.{Kind}
 use Rattle.ic_name.specs.declared.kinds.Kind.TheVariants.{Eps}
 use Rattle.ic_name.specs.declared.ports.Port.{Port}
 use Rattle.ic_name.specs.declared.ports.Port.TheVariants as ports
-use Rattle.ic_name.specs.declared.rules.Profile.TheVariants.{Classic}
+use Rattle.ic_name.specs.declared.rules.Profile.{Profile}
+use Rattle.ic_name.specs.declared.rules.Profile.TheVariants.{Classic, Straight}
 use Rattle.ic_name.specs.declared.limits.TheConstants.{MAX_START_AGENTS}
 use Rattle.ic_theory.specs.Starts.{Start}
 use Rattle.ic_grammar.specs.declared.limits.TheConstants.{MAX_TEXT, MAX_FREE_NAMES, MAX_NAME, MAX_NESTING}
@@ -18,7 +19,7 @@ use Rattle.ic_text.specs.declared.builder.Frame.{Frame}
 use Rattle.ic_text.specs.Sides.{Side}
 use Rattle.ic_text.specs.Sides as sides
 use Rattle.ic_grammar.specs.Grammar.{port_of}
-use Rattle.ic_grammar.specs.Tokens.{Token, symbol, name, opening, closing, comma, equals, semicolon, bad, Item, items, between}
+use Rattle.ic_grammar.specs.Tokens.{Token, symbol, name, opening, closing, comma, equals, semicolon, profile, bad, Item, items, between}
 use Rattle.ic_text.specs.Names.{Entry, enter, number, times, is_free, is_reserved_free}
 
 -- what goes on where reading has not failed
@@ -37,18 +38,19 @@ abbrev pub Gives : {X Y : Type 0} → (X → Y) → Result X TextFault → Resul
 Gives view (Ok x) read = read ≡ Ok (view x)
 Gives view (Err e) read = Fails e read
 
--- What has been read: the symbols, the links, the names, the open symbols, innermost first, and what
--- comes next in the equation once those are closed.
+-- What has been read: the symbols, the links, the names, the open symbols, innermost first, what comes next in
+-- the text once those are closed, and the profile.
 pub record State : Type 0 where
   pub kinds : List Kind
   pub joins : List (Port × Port)
   pub seen : List Entry
   pub stack : List Frame
   pub side : Side
+  pub profile : Profile
 
--- nothing has been read
+-- nothing has been read; where no profile comes, it is the classic one
 abbrev pub initial : State
-initial = record { kinds = []; joins = []; seen = []; stack = []; side = sides.Left }
+initial = record { kinds = []; joins = []; seen = []; stack = []; side = sides.Beginning; profile = Classic }
 
 -- an open symbol
 abbrev pub frame : ℕ → Phase → Frame
@@ -66,6 +68,7 @@ put_at _ n fs root s = None
 
 -- the same outside all parentheses
 abbrev pub put_on : Side → Port → State → Option State
+put_on sides.Beginning root s = Some (record s { side = sides.Equals root })
 put_on sides.Left root s = Some (record s { side = sides.Equals root })
 put_on (sides.Right left) root s = Some (record (with_join left root s) { side = sides.Semicolon })
 put_on _ root s = None
@@ -88,6 +91,7 @@ mark_at _ _ n fs = None
 
 -- the same outside all parentheses
 abbrev pub mark_on : Side → Token → Option Side
+mark_on sides.Heading semicolon = Some sides.Left
 mark_on (sides.Equals left) equals = Some (sides.Right left)
 mark_on sides.Semicolon semicolon = Some sides.Left
 mark_on _ _ = None
@@ -111,6 +115,20 @@ mark_in (f ∷ fs) t s = with_stack (mark_at f.phase t f.agent fs) s
 abbrev pub mark : Token → State → Option State
 mark t s = mark_in s.stack t s
 
+-- the profile comes, outside all parentheses
+abbrev pub put_profile_on : Side → State → Option State
+put_profile_on sides.Beginning s = Some (record s { side = sides.Heading; profile = Straight })
+put_profile_on _ s = None
+
+-- the same within these parentheses
+abbrev pub put_profile_in : List Frame → State → Option State
+put_profile_in [] s = put_profile_on s.side s
+put_profile_in (f ∷ fs) s = None
+
+-- the same in a state
+abbrev pub put_profile : State → Option State
+put_profile s = put_profile_in s.stack s
+
 -- a symbol with arguments is open
 abbrev pub push_open : Kind → ℕ → Option State → Option State
 push_open k n None = None
@@ -129,6 +147,7 @@ put_name x o s = put (ports.Name (number x s.seen)) (record s { seen = enter x o
 unfoldable pub step : State → ℕ → Token → Option State
 step s o (symbol k) = put_symbol k s
 step s o (name x) = put_name x o s
+step s o profile = put_profile s
 step s o t = mark t s
 
 -- the limit that a token passes
@@ -159,13 +178,14 @@ run s (i ∷ is) = advance s i.at i.token >>= λ s'. run s' is
 
 -- the text may end here
 abbrev pub is_at_rest : List Frame → Side → Bool
+is_at_rest [] sides.Beginning = true
 is_at_rest [] sides.Left = true
 is_at_rest _ _ = false
 
 -- the names' faults, and else the start
 abbrev pub finish_names : Option Entry → State → Result Start Refusal
 finish_names (Some n) s = Err (ReservedFree n.first)
-finish_names None s = if nat_lt MAX_FREE_NAMES (count_by is_free s.seen) then Err TooManyFree else Ok (record { kinds = s.kinds; joins = s.joins; names = map (λ n. n.text) s.seen; profile = Classic })
+finish_names None s = if nat_lt MAX_FREE_NAMES (count_by is_free s.seen) then Err TooManyFree else Ok (record { kinds = s.kinds; joins = s.joins; names = map (λ n. n.text) s.seen; profile = s.profile })
 
 -- the text ends
 unfoldable pub finish : ℕ → State → Result Start Refusal

@@ -10,7 +10,7 @@ use Rattle.ic_text.specs.declared.builder.Side.TheVariants as declared_sides
 use Rattle.ic_text.specs.Sides.{Side}
 use Rattle.ic_text.specs.Sides as sides
 use Rattle.ic_text.specs.Ends.{port_of_end}
-use Rattle.ic_grammar.specs.Tokens.{Token, symbol, name, opening, closing, comma, equals, semicolon, digit, bad, Mode, between, in_comment, Item, items}
+use Rattle.ic_grammar.specs.Tokens.{Token, symbol, name, opening, closing, comma, equals, semicolon, profile, stray, digit, bad, Mode, between, in_comment, Item, items}
 
 -- the token that a lexeme is
 abbrev pub token_of : Lexeme → Token
@@ -21,6 +21,8 @@ token_of lexemes.Closing = closing
 token_of lexemes.Comma = comma
 token_of lexemes.Equals = equals
 token_of lexemes.Semicolon = semicolon
+token_of lexemes.Profile = profile
+token_of lexemes.Stray = stray
 token_of lexemes.Digit = digit
 token_of lexemes.Bad = bad
 
@@ -38,8 +40,10 @@ abbrev pub Takes : List Item → List Item → Option (ℕ × Lexeme) → Type 0
 Takes old new None = old ≡ []
 Takes old new (Some x) = old ≡ record { at = x.0; token = token_of x.1 } ∷ new
 
--- what comes next in an equation
+-- what comes next in a text
 abbrev pub side_of : declared.Side → Side
+side_of declared_sides.Beginning = sides.Beginning
+side_of declared_sides.Heading = sides.Heading
 side_of declared_sides.Left = sides.Left
 side_of (declared_sides.Equals root) = sides.Equals (port_of_end root)
 side_of (declared_sides.Right root) = sides.Right (port_of_end root)
@@ -47,7 +51,7 @@ side_of declared_sides.Semicolon = sides.Semicolon
 
 -- what a builder has read
 abbrev pub state_of : Builder → State
-state_of b = record { kinds = b.kinds.items; joins = b.links; seen = b.names; stack = reverse b.stack.items; side = side_of b.side }
+state_of b = record { kinds = b.kinds.items; joins = b.links; seen = b.names; stack = reverse b.stack.items; side = side_of b.side; profile = b.profile }
 
 -- the builder went on as the reading does, or the reading doesn't go on
 abbrev pub GoesOn : Option State → State → Bool → Type 0

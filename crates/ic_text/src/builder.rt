@@ -1,6 +1,6 @@
 ghost use Rattle.std.specs.Prelude.{◌≡◌, ◌<◌, ◌≤◌, ◌^◌, [], length, IfOk};
 ghost use Rattle.ic_grammar.specs.declared.limits.TheConstants.{MAX_TEXT};
-ghost use Rattle.ic_grammar.specs.Tokens.{symbol, name, items, between};
+ghost use Rattle.ic_grammar.specs.Tokens.{symbol, name, profile, items, between};
 ghost use Rattle.ic_text.specs.Reading.{Gives, initial, put, mark, advance, run, finish, is_at_rest, IsWithin};
 ghost use Rattle.ic_text.specs.Ends.{port_of_end};
 ghost use Rattle.ic_text.specs.Views.{token_of, side_of, state_of, GoesOn};
@@ -33,9 +33,12 @@ pub struct Frame {
     pub phase: Phase,
 }
 
-/// What comes next in an equation, outside all parentheses.
+/// What comes next in a text, outside all parentheses: where nothing has been read, the profile or an equation; behind the
+/// profile a semicolon; and so on in an equation.
 #[derive(Clone, Copy)]
 pub enum Side {
+    Beginning,
+    Heading,
     Left,
     Equals(End),
     Right(End),
@@ -50,6 +53,7 @@ pub struct Builder<'a> {
     names: Names<'a>,
     stack: Vec<Frame>,
     side: Side,
+    profile: Profile,
 }
 
 impl<'a> Builder<'a> {
@@ -62,7 +66,8 @@ impl<'a> Builder<'a> {
             links: Links::new(alloc),
             names: Names::new(alloc),
             stack: Vec::new(alloc),
-            side: Side::Left,
+            side: Side::Beginning,
+            profile: Profile::Classic,
         }
     }
 
@@ -74,7 +79,7 @@ impl<'a> Builder<'a> {
     {
         match self.stack.pop() {
             None => match self.side {
-                Side::Left => {
+                Side::Beginning | Side::Left => {
                     self.side = Side::Equals(root);
                     Ok(true)
                 }
@@ -83,7 +88,7 @@ impl<'a> Builder<'a> {
                     self.side = Side::Semicolon;
                     Ok(true)
                 }
-                Side::Equals(_) | Side::Semicolon => Ok(false),
+                Side::Heading | Side::Equals(_) | Side::Semicolon => Ok(false),
             },
             Some(Frame { agent, phase }) => match phase {
                 Phase::First => {
@@ -118,7 +123,7 @@ impl<'a> Builder<'a> {
                     self.side = Side::Right(left);
                     Ok(true)
                 }
-                (Side::Semicolon, Lexeme::Semicolon) => {
+                (Side::Heading | Side::Semicolon, Lexeme::Semicolon) => {
                     self.side = Side::Left;
                     Ok(true)
                 }
@@ -197,6 +202,21 @@ impl<'a> Builder<'a> {
         Ok(())
     }
 
+    /// The profile comes.
+    #[tactic(auto, unfolding(crate::specs::Reading::advance, crate::specs::Reading::step, crate::specs::Reading::over))]
+    fn take_profile(&mut self, at: usize) -> Result<(), TextFault>
+        ensures { Gives (λ _. state_of self.new) result (advance (state_of self.old) at profile) }
+    {
+        match (self.stack.is_empty(), self.side) {
+            (true, Side::Beginning) => {
+                self.side = Side::Heading;
+                self.profile = Profile::Straight;
+                Ok(())
+            }
+            _ => Err(TextFault::Refused(Refusal::Syntax(at))),
+        }
+    }
+
     /// A token comes, which begins at the byte `at`.
     #[tactic(auto, unfolding(crate::specs::Reading::advance, crate::specs::Reading::step, crate::specs::Reading::over))]
     pub fn take(&mut self, at: usize, piece: Lexeme<'a>) -> Result<(), TextFault>
@@ -207,12 +227,14 @@ impl<'a> Builder<'a> {
         match piece {
             Lexeme::Symbol(kind) => self.take_symbol(at, kind),
             Lexeme::Name(text) => self.take_name(at, text),
+            Lexeme::Profile => self.take_profile(at),
             Lexeme::Bad => Err(TextFault::Refused(Refusal::BadByte(at))),
             Lexeme::Opening
             | Lexeme::Closing
             | Lexeme::Comma
             | Lexeme::Equals
             | Lexeme::Semicolon
+            | Lexeme::Stray
             | Lexeme::Digit => {
                 if self.mark(piece)? {
                     Ok(())
@@ -231,7 +253,7 @@ impl<'a> Builder<'a> {
         requires short { length text.now ≤ MAX_TEXT }
         ensures { Gives (λ s. s) result (finish (length text.now) (state_of self.entry)) }
     {
-        if !self.stack.is_empty() || !self.side.is_left() {
+        if !self.stack.is_empty() || !self.side.is_at_rest() {
             return Err(TextFault::Refused(Refusal::Syntax(text.len())));
         }
         if let Some(first) = self.names.reserved() {
@@ -242,15 +264,15 @@ impl<'a> Builder<'a> {
         }
         let names = self.names.texts(alloc)?;
         let links = self.links.into_vec();
-        Ok(Start::make(self.kinds, links, names, Profile::Classic))
+        Ok(Start::make(self.kinds, links, names, self.profile))
     }
 }
 
 impl Side {
-    /// Whether an equation may begin.
-    fn is_left(&self) -> bool
+    /// Whether an equation may begin, or the text end.
+    fn is_at_rest(&self) -> bool
         ensures { result ≡ is_at_rest [] (side_of self.now) }
     {
-        matches!(self, Side::Left)
+        matches!(self, Side::Beginning | Side::Left)
     }
 }

@@ -1,7 +1,9 @@
 ghost use Rattle.std.specs.Prelude.{◌≡◌};
+ghost use Rattle.ic_text.specs.Faults.{text_number};
 ghost use Rattle.ic_text.specs.declared.fault.TextFault.TheVariants.{Memory};
 
 use ic_grammar::Refusal;
+use ic_name::numbers;
 use std::alloc::{AllocError, AllocFailed};
 use thiserror::Error;
 
@@ -14,6 +16,18 @@ pub enum TextFault {
     /// The text says nothing: this is the first thing that is wrong with it.
     #[error("{0}")]
     Refused(Refusal),
+}
+
+impl TextFault {
+    /// The number of the fault: 25 where there was no memory, else that of what is wrong with the text, from 1 to 9.
+    pub fn number(self) -> u8
+        ensures { result ≡ text_number self }
+    {
+        match self {
+            TextFault::Memory => numbers::MEMORY,
+            TextFault::Refused(refusal) => refusal.number(),
+        }
+    }
 }
 
 impl From<AllocError> for TextFault {

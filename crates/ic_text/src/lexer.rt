@@ -1,13 +1,15 @@
-ghost use Rattle.std.specs.Prelude.{◌≡◌, ◌+◌, ◌<◌, ◌≤◌, ◌^◌, [], ◌∷◌, length, MatchOption, IfSome};
+ghost use Rattle.std.specs.Prelude.{◌≡◌, ◌+◌, ◌<◌, ◌≤◌, ◌^◌, [], ◌∷◌, length, MatchOption, IfSome, if◌then◌else◌, codes};
+ghost use Rattle.std.specs.Str.{bytes_eq};
 ghost use Rattle.std.specs.List.{prefix_len};
 ghost use Rattle.ic_grammar.specs.Texts.{is_name_byte};
-ghost use Rattle.ic_grammar.specs.Tokens.{is_gap, is_comment_byte, single, between, items};
+ghost use Rattle.ic_grammar.specs.Tokens.{is_gap, is_comment_byte, profile, stray, single, between, items};
 ghost use Rattle.ic_text.specs.Views.{token_of, Takes, left};
 
 use ic_grammar::bytes::{is_letter, is_name_byte};
 use ic_name::Kind;
 
-/// A token of a text. A digit that no name runs over, and a byte that may not stand where it does, count too.
+/// A token of a text. An `@` that begins no profile, a digit that no name runs over, and a byte that may not stand where
+/// it does count too.
 #[derive(Clone, Copy)]
 pub enum Lexeme<'a> {
     Symbol(Kind),
@@ -17,6 +19,8 @@ pub enum Lexeme<'a> {
     Comma,
     Equals,
     Semicolon,
+    Profile,
+    Stray,
     Digit,
     Bad,
 }
@@ -59,6 +63,17 @@ fn first_of(bytes: &[u8]) -> Option<(u8, &[u8])>
     match bytes {
         [] => None,
         [byte, rest @ ..] => Some((*byte, rest)),
+    }
+}
+
+/// The token of an `@`, by the letters behind it.
+fn at_sign(letters: &[u8]) -> Lexeme<'static>
+    ensures { token_of result ≡ (if bytes_eq letters.now (codes "straight") then profile else stray) }
+{
+    if letters == b"straight".as_slice() {
+        Lexeme::Profile
+    } else {
+        Lexeme::Stray
     }
 }
 
@@ -118,6 +133,11 @@ impl<'a> Lexer<'a> {
                 self.rest = behind;
                 self.at += len;
                 return Some((at, Lexeme::Name(name)));
+            } else if byte == b'@' {
+                let (letters, behind) = after.split_at(name_len(after));
+                self.rest = behind;
+                self.at += letters.len() + 1;
+                return Some((at, at_sign(letters)));
             } else {
                 self.rest = after;
                 self.at += 1;

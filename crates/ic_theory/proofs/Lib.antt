@@ -24,5 +24,6 @@ pub mod Restored
 pub mod NormalEnds
 pub mod Neighbours
 pub mod Exchanging
+pub mod CausalOrders
 pub mod LastUndone
 pub mod LinkOrder

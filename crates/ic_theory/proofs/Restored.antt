@@ -70,7 +70,7 @@ pub restored_net : (s : Start) → IsProper s → {lines : List Line} {st mid ne
 restored_net s ok h a u = net-alike s ok (history_kept s ok h).sound (alike-map (λ x. x.event) (restored_standing s ok h a u))
 
 -- ranks of a set are ranks in any order of it
-rank-alike : (s : Start) {es fs : List Event} (rank : Event → ℕ) → Alike es fs → IsRank s es rank → IsRank s fs rank
+pub rank-alike : (s : Start) {es fs : List Event} (rank : Event → ℕ) → Alike es fs → IsRank s es rank → IsRank s fs rank
 rank-alike s rank a h = record {
   above = λ e c i k. h.above e c (in_alike i (alike_back a)) (cause_included s (same_set (alike_back a)) k);
   least = λ e i. elim (h.least e (in_alike i (alike_back a))) [ inl z ↦ inl z | inr c ↦ inr (c.0, cause_included s (same_set a) c.1, c.2) ];

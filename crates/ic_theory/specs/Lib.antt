@@ -9,6 +9,7 @@ pub mod Sound
 pub mod Nets
 pub mod Steps
 pub mod Firings
+pub mod CausalOrders
 pub mod Future
 pub mod Letters
 pub mod Exchanges

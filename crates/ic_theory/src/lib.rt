@@ -2,6 +2,7 @@
 #![tactic(auto)]
 
 ghost use Rattle.std.specs.Prelude.{◌≡◌, ◌≢◌, ◌+◌, ◌<◌, ℕ, ◌⊎◌, ◌↔◌, List, [], ◌∷◌, ◌++◌, length, Some};
+ghost use Rattle.std.specs.List.Sorted.{IsStrictlySortedBy};
 ghost use Rattle.ic_name.specs.Names.{Name};
 ghost use Rattle.ic_name.specs.Events.{Event};
 ghost use Rattle.ic_name.specs.declared.lines.Call.{Call};
@@ -18,7 +19,8 @@ ghost use Rattle.ic_theory.specs.Sets.{links};
 ghost use Rattle.ic_theory.specs.Seals.{comes_before};
 ghost use Rattle.ic_theory.specs.Wires.{IsLoose, IsWire};
 ghost use Rattle.ic_theory.specs.Active.{IsActive};
-ghost use Rattle.ic_theory.specs.Causes.{IsCause, IsRank};
+ghost use Rattle.ic_theory.specs.Causes.{IsCause, IsRank, canonical_cmp};
+ghost use Rattle.ic_theory.specs.CausalOrders.{IsCausalOrder, AreIndependent, Reorders};
 ghost use Rattle.ic_theory.specs.Sound.{IsSound};
 ghost use Rattle.ic_theory.specs.Nets.{IsSameNet, net_of};
 ghost use Rattle.ic_theory.specs.Steps.{Meets, plain_step, steps, AreDefined};
@@ -51,10 +53,12 @@ pub fn steps_agree()
     ensures same { (s : Start) (es : List Event) (e : Event) → IsProper s → IsFired s es → IsActive s es e → IsSameNet (plain_step (net_of s es) e) (net_of s (e ∷ es)) }
 {}
 
-/// Steps are defined along the causal orders of sound sets and along no other list, and end in the net of the set.
+/// Steps are defined along the causal orders of sound sets and along no other list, and end in the net of the set. So
+/// whatever causal order of a sound set they take, they are defined, and end in the one net of that set.
 pub fn orders()
     ensures defined { (s : Start) (list : List Event) → IsProper s → let set = then_fired [] list in AreDefined (net_of s []) list ↔ (IsSound s set × AreAfterCauses s set set) }
     ensures ends { (s : Start) (list : List Event) → IsProper s → AreDefined (net_of s []) list → steps (net_of s []) list ≡ net_of s (then_fired [] list) }
+    ensures every { (s : Start) (es list : List Event) → IsProper s → IsSound s es → Alike es (then_fired [] list) → AreAfterCauses s (then_fired [] list) (then_fired [] list) → AreDefined (net_of s []) list × IsSameNet (steps (net_of s []) list) (net_of s es) }
 {}
 
 /// Of two firings over one start there is a common one, and events of both that share an agent are one.
@@ -63,11 +67,14 @@ pub fn one_future()
     ensures partner { (s : Start) (es fs : List Event) (e f : Event) (n : Name) → IsProper s → IsFired s es → IsFired s fs → IsIn e es → IsIn f fs → (n ≡ e.lead) ⊎ (n ≡ e.other) → (n ≡ f.lead) ⊎ (n ≡ f.other) → e ≡ f }
 {}
 
-/// A firing leaves a sound set, and each sound set can be fired in some order; any order gives one net. Of two sound
+/// A firing leaves a sound set, and each sound set can be fired in some order. In any order the set is sound, and gives
+/// one net; fired are those of its orders, and no others, in which each event comes after its direct causes. Of two sound
 /// sets there is a sound set with the events of both and no others, and in it an event has the causes that it had.
 pub fn sound_sets()
     ensures left { (s : Start) (es : List Event) → IsProper s → IsFired s es → IsSound s es }
     ensures fired { (s : Start) (es : List Event) → IsProper s → IsSound s es → (order : List Event) × Alike es order × IsFired s order }
+    ensures firing { (s : Start) (es : List Event) → IsProper s → IsFired s es ↔ (IsSound s es × AreAfterCauses s es es) }
+    ensures order { (s : Start) (es fs : List Event) → IsProper s → IsSound s es → Alike es fs → IsSound s fs }
     ensures net { (s : Start) (es fs : List Event) → IsProper s → IsSound s es → Alike es fs → IsSameNet (net_of s es) (net_of s fs) }
     ensures union { (s : Start) (es fs : List Event) → IsProper s → IsSound s es → IsSound s fs → (all : List Event) × IsSound s all × Includes all es × Includes all fs × ((e : Event) → IsIn e all → IsIn e es ⊎ IsIn e fs) }
     ensures causes { (s : Start) (all es : List Event) (e c : Event) → IsProper s → IsSound s all → Includes all es → IsSound s es → IsIn e es → IsCause s all e c ↔ IsCause s es e c }
@@ -82,6 +89,15 @@ pub fn exchange()
     ensures net { (s : Start) (later es : List Event) (e f : Event) → IsProper s → IsFired s (later ++ f ∷ e ∷ es) → IsSameNet (net_of s (later ++ f ∷ e ∷ es)) (net_of s (later ++ e ∷ f ∷ es)) }
     ensures along { (s : Start) (es gs : List Event) → IsProper s → IsFired s es → Exchanges s es gs → IsFired s gs × IsSameNet (net_of s es) (net_of s gs) × Alike es gs }
     ensures canonical { (s : Start) (es : List Event) (rank : Event → ℕ) → IsProper s → IsFired s es → IsRank s es rank → (order : List Event) × Exchanges s es order × IsFired s order × IsCanonical rank order × Alike es order }
+{}
+
+/// Neighbours in a causal order of which neither is a direct cause of the other change places, and the list is a causal
+/// order still; the steps along both end in the same net. So it is along exchanges in any number, and by them any causal
+/// order reaches the canonical order of its events.
+pub fn causal_orders()
+    ensures exchanged { (s : Start) (front back : List Event) (e f : Event) → IsProper s → IsCausalOrder s (front ++ e ∷ f ∷ back) → AreIndependent s (then_fired [] (front ++ e ∷ f ∷ back)) e f → IsCausalOrder s (front ++ f ∷ e ∷ back) × IsSameNet (steps (net_of s []) (front ++ e ∷ f ∷ back)) (steps (net_of s []) (front ++ f ∷ e ∷ back)) }
+    ensures along { (s : Start) (list order : List Event) → IsProper s → IsCausalOrder s list → Reorders s (then_fired [] list) list order → IsCausalOrder s order × IsSameNet (steps (net_of s []) list) (steps (net_of s []) order) × Alike list order }
+    ensures canonical { (s : Start) (list : List Event) (rank : Event → ℕ) → IsProper s → IsCausalOrder s list → IsRank s (then_fired [] list) rank → (order : List Event) × Reorders s (then_fired [] list) list order × IsCausalOrder s order × IsStrictlySortedBy (canonical_cmp rank) order × Alike list order × IsSameNet (steps (net_of s []) list) (steps (net_of s []) order) }
 {}
 
 /// A sound set in which no pair is active has every sound set over its start as a part, and two such sets are one.

@@ -1,5 +1,5 @@
 -- Lists read from their ends, and standing events that are told apart by their lines.
-use Rattle.std.proofs.Common.{◌≡◌, List, [], ◌∷◌, ◌++◌, ◌⊎◌, inl, inr, Some, map, reverse, refl, sym, ap, subst, ◌∙◌}
+use Rattle.std.proofs.Common.{◌≡◌, List, [], ◌∷◌, ◌++◌, ◌⊎◌, inl, inr, Option, Some, None, map, reverse, refl, sym, ap, subst, ◌∙◌}
 use Rattle.std.proofs.lemmas.List.{map-append, reverse-append}
 use Rattle.ic_name.specs.Events.{Event}
 use Rattle.ic_name.specs.declared.ids.EventId.{EventId}
@@ -42,6 +42,11 @@ pub one_under : (v : BenchView) (d : EventId) (e : Event) → HaveOwnLines v.eve
 one_under v d e own under x s =
     let same : under.0 ≡ x = one_in_line v own under.0 x under.1.0 s.0 (under.1.1 ∙ sym s.1) in
     sym under.2 ∙ ap (λ (y : Stander). y.event) same
+
+-- where an event stands in the line of an id, one is found under it
+pub found_under : (v : BenchView) (d : EventId) (r : Option Event) → IsEventUnder v d r → (x : Stander) × StandsIn v d x → ((e : Event) → r ≡ Some e → ⊥) → ⊥
+found_under v d None under x absent = under x.0 x.1.0 x.1.1
+found_under v d (Some e) under x absent = absent e refl
 
 -- no event stands in two parts of the set
 pub apart : (v : BenchView) → HaveOwnLines v.events → (xs ys : List Stander) → Alike v.events (xs ++ ys) → (z : Stander) → IsIn z xs → IsIn z ys → ⊥

@@ -43,7 +43,7 @@ pub record ChosenIds (P : Stander → Type 0) (first : List Stander) (ids : List
 pub chosen_none : (P : Stander → Type 0) → ChosenIds P [] []
 chosen_none P = record { those = []; chosen = nothing; named = refl }
 
-module _ (v : BenchView) (P : Stander → Type 0) (all : List EventId) (h : AreInOrder (set_of v) IsAny all) (k : ℕ) (d : EventId) (below : k < length all) (ids : List EventId) (c : ChosenIds P (take k h.order) ids) where
+module _ (v : BenchView) (all : List EventId) (h : AreInOrder (set_of v) IsAny all) (k : ℕ) (d : EventId) (below : k < length all) where
   -- the event at the next place
   pub place : At (λ (x : Stander). x.id) h.order k d
   place = at (λ (x : Stander). x.id) h.order k d (subst (λ es. k < length es) (sym h.named) below)
@@ -59,17 +59,18 @@ module _ (v : BenchView) (P : Stander → Type 0) (all : List EventId) (h : AreI
     ap (λ (e : EventId). e.line) (sym under),
   )
 
-  -- it is chosen where it has the property
-  pub chosen_next : P place.item → ChosenIds P (take (k + 1) h.order) (ids ++ get_or all k d ∷ [])
-  chosen_next p = subst (λ xs. ChosenIds P xs (ids ++ get_or all k d ∷ [])) (sym place.next) (record {
-    those = c.those ++ place.item ∷ [];
-    chosen = chosen_more place.item p c.chosen;
-    named = map-append (λ (x : Stander). x.id) c.those (place.item ∷ []) ∙ ap (λ es. es ++ place.item.id ∷ []) c.named ∙ ap (λ e. ids ++ e ∷ []) (sym under);
-  })
+  module _ (P : Stander → Type 0) (ids : List EventId) (c : ChosenIds P (take k h.order) ids) where
+    -- it is chosen where it has the property
+    pub chosen_next : P place.item → ChosenIds P (take (k + 1) h.order) (ids ++ get_or all k d ∷ [])
+    chosen_next p = subst (λ xs. ChosenIds P xs (ids ++ get_or all k d ∷ [])) (sym place.next) (record {
+      those = c.those ++ place.item ∷ [];
+      chosen = chosen_more place.item p c.chosen;
+      named = map-append (λ (x : Stander). x.id) c.those (place.item ∷ []) ∙ ap (λ es. es ++ place.item.id ∷ []) c.named ∙ ap (λ e. ids ++ e ∷ []) (sym under);
+    })
 
-  -- and left out where it hasn't
-  pub left_next : (P place.item → ⊥) → ChosenIds P (take (k + 1) h.order) ids
-  left_next q = subst (λ xs. ChosenIds P xs ids) (sym place.next) (record { those = c.those; chosen = chosen_same place.item q c.chosen; named = c.named })
+    -- and left out where it hasn't
+    pub left_next : (P place.item → ⊥) → ChosenIds P (take (k + 1) h.order) ids
+    left_next q = subst (λ xs. ChosenIds P xs ids) (sym place.next) (record { those = c.those; chosen = chosen_same place.item q c.chosen; named = c.named })
 
 -- where all events have been looked at, those that have the property are in order
 pub all_chosen : (v : SetView) (P : Stander → Type 0) (all : List EventId) (h : AreInOrder v IsAny all) (k : ℕ) → length all ≤ k → (ids : List EventId) → ChosenIds P (take k h.order) ids → AreInOrder v P ids

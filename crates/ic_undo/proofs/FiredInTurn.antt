@@ -1,5 +1,5 @@
 -- One event more that is fired.
-use Rattle.std.proofs.Common.{◌≡◌, ◌≢◌, ◌+◌, ◌≤◌, List, [], ◌∷◌, ◌++◌, map, length, Ok, Err, refl, sym, ap, subst, arith, ◌∙◌, append_assoc}
+use Rattle.std.proofs.Common.{◌≡◌, ◌≢◌, ◌+◌, ◌≤◌, List, [], ◌∷◌, ◌++◌, map, length, Ok, Err, refl, sym, ap, subst, arith, ◌∙◌, append_assoc, length-append}
 use Rattle.std.proofs.lemmas.List.{append-nil, map-append}
 use Rattle.ic_name.specs.Events.{Event}
 use Rattle.ic_name.specs.declared.ids.EventId.{EventId}
@@ -28,11 +28,18 @@ use Rattle.ic_undo.proofs.FirableEvents.{firable-alike}
 
 -- none is fired at first
 pub none_fired : (v : BenchView) → AreFired v [] v
-none_fired v = record { came = []; start = refl; fired = refl; events = alike_self v.events; lines = sym (append-nil v.lines) }
+none_fired v = record { came = []; start = refl; fired = refl; events = alike_self v.events; lines = sym (append-nil v.lines); room = omega arith }
 
 -- where only the room changes no more are fired
 pub fired_still : (old mid new : BenchView) (es : List Event) → AreFired old es mid → Stays mid new → AreFired old es new
-fired_still old mid new es f s = record { came = f.came; start = s.same.start ∙ f.start; fired = f.fired; events = alike_then f.events s.same.events; lines = s.lines ∙ f.lines }
+fired_still old mid new es f s = record {
+  came = f.came;
+  start = s.same.start ∙ f.start;
+  fired = f.fired;
+  events = alike_then f.events s.same.events;
+  lines = s.lines ∙ f.lines;
+  room = (let r = f.room in let q = s.room in omega (arith, r, q));
+}
 
 module _ (mid new : BenchView) (e : Event) (id : EventId) (h : Fires mid e (Ok id) new) where
   -- one more is fired
@@ -44,6 +51,7 @@ module _ (mid new : BenchView) (e : Event) (id : EventId) (h : Fires mid e (Ok i
     events = subst (λ xs. Alike xs new.events) (sym (append_assoc f.came (h.1.entry ∷ []) old.events))
         (alike_then (alike_past f.came (h.1.entry ∷ []) old.events) (alike_then (alike-cons h.1.entry f.events) h.1.events));
     lines = h.0.lines ∙ ap (λ ls. ls ++ firing e ∷ []) f.lines ∙ append_assoc old.lines (map firing es) (firing e ∷ []) ∙ ap (λ ls. old.lines ++ ls) (sym (map-append firing es (e ∷ [])));
+    room = (let r = f.room in let q = h.0.room in let l = length-append es (e ∷ []) in omega (arith, r, q, l));
   }
 
   -- and those that come later can be fired still
@@ -71,9 +79,9 @@ module _ (mid new : BenchView) (lawful : IsBench mid) (e : Event) (later : List 
       let a = events_at mid at in
       fires_reply e refl other (active-alike mid.start a r.0) r.1 (λ f. r.2 (full-alike mid.start e (alike_back a) f)) (s.step lawful.running.state at).1
 
-  pub only_memory : (f : FireFault) → length mid.lines + length (e ∷ later) ≤ MAX_LINES → Fires mid e (Err f) new → Stays mid new
-  only_memory fire.NotActive fit h = absurd (never NotActive (λ q. cc) h.0)
-  only_memory fire.Deep fit h = absurd (never Deep (λ q. cc) h.0)
-  only_memory fire.Full fit h = absurd (never Full (λ q. cc) h.0)
-  only_memory (fire.HistoryFull g) fit h = let n = h.0 in absurd (omega (arith, n, fit))
-  only_memory (fire.Memory g) fit h = h.2
+  pub only_memory : (f : FireFault) → length mid.lines + length (e ∷ later) ≤ MAX_LINES → ((x : Event) → f ≢ fire.Memory x) → Fires mid e (Err f) new → ⊥
+  only_memory fire.NotActive fit other h = never NotActive (λ q. cc) h.0
+  only_memory fire.Deep fit other h = never Deep (λ q. cc) h.0
+  only_memory fire.Full fit other h = never Full (λ q. cc) h.0
+  only_memory (fire.HistoryFull g) fit other h = let n = h.0 in omega (arith, n, fit)
+  only_memory (fire.Memory g) fit other h = other g refl

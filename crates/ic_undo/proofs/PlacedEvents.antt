@@ -1,7 +1,6 @@
 -- The events of an order by their places, and their names read from the end.
-use Rattle.std.proofs.Common.{◌≡◌, ℕ, ◌+◌, ◌<◌, List, [], ◌∷◌, ◌++◌, take, drop, get_or, length, map, reverse, Some, arith, sym, ap, ◌∙◌}
+use Rattle.std.proofs.Common.{◌≡◌, ℕ, ◌+◌, ◌<◌, List, [], ◌∷◌, ◌++◌, take, drop, get_or, length, map, reverse, arith, sym, ap, ◌∙◌}
 use Rattle.std.proofs.lemmas.List.{map-append, drop_more, take-append-drop, get_or-map, length-map}
-use Rattle.std.proofs.lemmas.Option.{same_Some}
 use Rattle.ic_name.specs.Events.{Pair, pair}
 use Rattle.ic_name.specs.declared.ids.EventId.{EventId}
 use Rattle.ic_path.specs.Orders.{IsIn}
@@ -37,12 +36,11 @@ pub in_place : (order : List Stander) (k : ℕ) (d : EventId) → (p : IsAtPlace
 in_place order k d p = let i : IsIn p.placed (take k order ++ p.placed ∷ drop (k + 1) order) = in_behind (take k order) (in_first p.placed (drop (k + 1) order)) in rw p.parts i
 
 -- one name more, read from the end
-pub names_more : (order : List Stander) (k : ℕ) (d : EventId) (p : IsAtPlace order k d) (names : List Pair) (name : Pair) → Some (pair p.placed.event) ≡ Some name → map (λ x. pair x.event) (reverse (drop (k + 1) order)) ≡ names
+pub names_more : (order : List Stander) (k : ℕ) (d : EventId) (p : IsAtPlace order k d) (names : List Pair) (name : Pair) → name ≡ pair p.placed.event → map (λ x. pair x.event) (reverse (drop (k + 1) order)) ≡ names
     → map (λ x. pair x.event) (reverse (drop k order)) ≡ names ++ name ∷ []
-names_more order k d p names name e h =
-    let is : pair p.placed.event ≡ name = same_Some (pair p.placed.event) name e in
+names_more order k d p names name is h =
     ap (λ xs. map (λ (x : Stander). pair x.event) (reverse xs)) p.left
     ∙ ap (map (λ (x : Stander). pair x.event)) (reverse_more p.placed (drop (k + 1) order))
     ∙ map-append (λ (x : Stander). pair x.event) (reverse (drop (k + 1) order)) (p.placed ∷ [])
     ∙ ap (λ ys. ys ++ pair p.placed.event ∷ []) h
-    ∙ ap (λ n. names ++ n ∷ []) is
+    ∙ ap (λ n. names ++ n ∷ []) (sym is)

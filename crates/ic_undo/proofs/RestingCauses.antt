@@ -1,5 +1,6 @@
 -- Events that rest on a line, by the lines of their direct causes.
-use Rattle.std.proofs.Common.{◌≡◌, ◌↔◌, ℕ, Bool, IsTrue, List, inl, inr, sym, ap, subst, ◌∙◌}
+use Rattle.std.proofs.Common.{◌≡◌, ◌↔◌, ℕ, Bool, IsTrue, List, Option, Some, None, inl, inr, refl, sym, ap, subst, ◌∙◌}
+use Rattle.std.specs.Prelude.{option_map}
 use Rattle.std.specs.List.{list_any}
 use Rattle.ic_name.specs.declared.ids.EventId.{EventId}
 use Rattle.ic_path.specs.Orders.{IsIn}
@@ -8,13 +9,18 @@ use Rattle.ic_theory.specs.Causes.{IsCause}
 use Rattle.ic_roster.specs.Rosters.{Stander, HaveOwnLines}
 use Rattle.ic_set.specs.Orders.{AreInOrder, IsCauseOf}
 use Rattle.ic_set.specs.Views.{standing}
-use Rattle.ic_journal.specs.Reads.{StandsIn}
+use Rattle.ic_journal.specs.Reads.{StandsIn, AreCausesOf}
 use Rattle.ic_journal.specs.Views.{BenchView, set_of}
 use Rattle.ic_undo.proofs.Places.{any_image, image_any}
 
 -- events that were fired in one line are one
 pub same_line : (ss : List Stander) (x y : Stander) → HaveOwnLines ss → IsIn x ss → IsIn y ss → x.id.line ≡ y.id.line → x ≡ y
 same_line ss x y own i j e = elim (in_others i.1 j) [ inl s ↦ sym s | inr r ↦ absurd (own.lines x y i.0 i.1 r (sym e)) ]
+
+-- where an event stands in the line of an id, its direct causes are found
+pub found_causes : {X : Type 0} (v : BenchView) (d : EventId) (f : X → List EventId) (r : Option X) → AreCausesOf v d (option_map f r) → (x : Stander) × StandsIn v d x → ((c : X) → r ≡ Some c → ⊥) → ⊥
+found_causes v d f None causes x absent = causes x.0 x.1.0 x.1.1
+found_causes v d f (Some c) causes x absent = absent c refl
 
 -- a direct cause of the event was fired in a line that passes
 abbrev pub HasCause : BenchView → (ℕ → Bool) → Stander → Type 0

@@ -25,6 +25,7 @@ none_undone old new s = record {
   events = s.same.events;
   agents = λ m i. alike-in (alike_back s.same.agents) i;
   lines = s.lines ∙ sym (append-nil old.lines);
+  room = (let r = s.room in omega (arith, r));
 }
 
 -- the same events stand
@@ -49,4 +50,5 @@ undone_still old mid new xs s u = record {
   events = alike_then s.same.events u.events;
   agents = λ m i. alike-in (alike_back s.same.agents) (u.agents m i);
   lines = rw (← s.lines) u.lines;
+  room = (let r = s.room in let q = u.room in omega (arith, r, q));
 }

@@ -1,5 +1,5 @@
 -- One event more that is undone: the last one of the order whose dependents are all undone.
-use Rattle.std.proofs.Common.{◌≡◌, ℕ, ◌≤◌, List, [], ◌∷◌, ◌++◌, ◌∙◌, inl, inr, map, reverse, Err, refl, sym, ap, subst, append_assoc, arith}
+use Rattle.std.proofs.Common.{◌≡◌, ℕ, ◌≤◌, List, [], ◌∷◌, ◌++◌, ◌∙◌, inl, inr, map, reverse, Err, refl, sym, ap, subst, append_assoc, length-append, arith}
 use Rattle.std.proofs.lemmas.List.{map-append}
 use Rattle.ic_name.specs.Events.{Event}
 use Rattle.ic_name.specs.declared.lines.Call.{Call}
@@ -123,6 +123,7 @@ module _ (old mid : BenchView) (front rest : List Stander) (x : Stander) (n : Is
     events = subst (λ xs. Alike old.events xs) (sym (append_assoc (reverse rest) (x ∷ []) new.events)) (alike_then n.did.events (alike_more (reverse rest) left));
     agents = λ m i. n.did.agents m (alike-in (alike_back t.2.agents) (in_behind t.2.children i));
     lines = s.lines ∙ ap (λ ls. ls ++ undoing x ∷ []) n.did.lines ∙ append_assoc old.lines (map undoing (reverse rest)) (undoing x ∷ []) ∙ ap (λ ls. old.lines ++ ls) (sym (map-append undoing (reverse rest) (x ∷ [])));
+    room = (let r = s.room in let q = n.did.room in let l = length-append (reverse rest) (x ∷ []) in omega (arith, r, q, l));
   })
     where
       same : t.2.entry ≡ x

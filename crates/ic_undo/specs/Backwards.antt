@@ -29,5 +29,5 @@ AreUndoneBack old ids names new = (order : List Stander) → AreFree old order �
 
 -- why they aren't
 abbrev pub ArentUndoneBack : BenchView → List EventId → BackwardsFault → BenchView → Type 0
-ArentUndoneBack old ids HistoryFull new = (MAX_LINES < length old.lines + length ids) × Stays old new
+ArentUndoneBack old ids HistoryFull new = (MAX_LINES < length old.lines + length ids) × (new ≡ old)
 ArentUndoneBack old ids Memory new = Stays old new

@@ -1,5 +1,6 @@
 -- The numbers of faults.
 use Rattle.std.specs.Prelude.{ℕ}
+use Rattle.ic_name.specs.declared.numbers.TheConstants.{HISTORY_FULL, MEMORY, NOT_STANDING}
 use Rattle.ic_undo.specs.declared.faults.UnwindFault.{UnwindFault}
 use Rattle.ic_undo.specs.declared.faults.UnwindFault.TheVariants as unwind
 use Rattle.ic_undo.specs.declared.faults.UndoAllFault.{UndoAllFault}
@@ -9,16 +10,16 @@ use Rattle.ic_undo.specs.declared.faults.BackFault.TheVariants as back
 
 -- the number of a refusal of `unwind`
 abbrev pub unwind_number : UnwindFault → ℕ
-unwind_number unwind.NotStanding = 31
-unwind_number unwind.HistoryFull = 24
-unwind_number unwind.Memory = 25
+unwind_number unwind.NotStanding = NOT_STANDING
+unwind_number unwind.HistoryFull = HISTORY_FULL
+unwind_number unwind.Memory = MEMORY
 
 -- the number of a refusal of `undo_all`
 abbrev pub undo_all_number : UndoAllFault → ℕ
-undo_all_number undo_all.HistoryFull = 24
-undo_all_number undo_all.Memory = 25
+undo_all_number undo_all.HistoryFull = HISTORY_FULL
+undo_all_number undo_all.Memory = MEMORY
 
 -- the number of a refusal of `back`
 abbrev pub back_number : BackFault → ℕ
-back_number back.HistoryFull = 24
-back_number (back.Memory counts) = 25
+back_number back.HistoryFull = HISTORY_FULL
+back_number (back.Memory counts) = MEMORY

@@ -1,5 +1,5 @@
 -- Going back to a mark.
-use Rattle.std.specs.Prelude.{◌≡◌, ◌≢◌, ℕ, ◌+◌, ◌<◌, ◌⊎◌, List, [], ◌∷◌, ◌++◌, length, map}
+use Rattle.std.specs.Prelude.{◌≡◌, ◌≢◌, ℕ, ◌+◌, ◌<◌, ◌≤◌, ◌⊎◌, List, [], ◌∷◌, ◌++◌, length, map}
 use Rattle.std.specs.List.Sorted.{IsStrictlySortedBy}
 use Rattle.ic_name.specs.Events.{Event}
 use Rattle.ic_name.specs.declared.limits.TheConstants.{MAX_LINES}
@@ -15,7 +15,6 @@ use Rattle.ic_theory.specs.Machine.{IsDeep, IsFull}
 use Rattle.ic_roster.specs.Rosters.{Stander}
 use Rattle.ic_set.specs.Views.{standing, events_of}
 use Rattle.ic_journal.specs.Views.{BenchView, set_of}
-use Rattle.ic_journal.specs.Calls.{Stays}
 use Rattle.ic_undo.specs.declared.faults.Counts.{Counts}
 use Rattle.ic_undo.specs.declared.faults.BackFault.{BackFault}
 use Rattle.ic_undo.specs.declared.faults.BackFault.TheVariants.{HistoryFull, Memory}
@@ -48,13 +47,15 @@ AreFirable s es (e ∷ later) = IsActive s es e × ¬ (IsDeep e) × ¬ (IsFull s
 abbrev pub firing : Event → Line
 firing e = record { call = Fire e; reply = Fired }
 
--- these events were fired, in this order, and nothing else was done; what stood stands under the ids that it had
+-- these events were fired, in this order, and nothing else was done; what stood stands under the ids that it had, and
+-- each line takes at most one line of room
 pub record AreFired (old : BenchView) (es : List Event) (new : BenchView) : Type 0 where
   pub came : List Stander
   pub start : new.start ≡ old.start
   pub fired : events_of came ≡ es
   pub events : Alike (came ++ old.events) new.events
   pub lines : new.lines ≡ old.lines ++ map firing es
+  pub room : old.room ≤ new.room + length es
 
 -- some of these events were fired, each from the first one on, but not all, and so many
 pub record AreSomeFired (old : BenchView) (es : List Event) (count : ℕ) (new : BenchView) : Type 0 where
@@ -99,5 +100,5 @@ DontFitBack v m = (gone : List Stander) × (came : List Event) × AreOutside v m
 
 -- why a bench isn't back
 abbrev pub IsntBack : BenchView → MarkView → BackFault → BenchView → Type 0
-IsntBack old m HistoryFull new = DontFitBack old m × Stays old new
+IsntBack old m HistoryFull new = DontFitBack old m × (new ≡ old)
 IsntBack old m (Memory counts) new = IsPartWay old m counts new

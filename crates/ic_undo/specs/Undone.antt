@@ -1,5 +1,5 @@
 -- Events that are undone one by one.
-use Rattle.std.specs.Prelude.{◌≡◌, ℕ, List, ◌++◌, map, reverse}
+use Rattle.std.specs.Prelude.{◌≡◌, ℕ, ◌+◌, ◌≤◌, List, ◌++◌, length, map, reverse}
 use Rattle.std.specs.List.Sorted.{IsStrictlySortedBy}
 use Rattle.ic_name.specs.Events.{Event, Pair, pair}
 use Rattle.ic_name.specs.declared.lines.Line.{Line}
@@ -26,12 +26,14 @@ pub record AreLastFirst (v : BenchView) (P : Stander → Type 0) (xs : List Stan
 abbrev pub undoing : Stander → Line
 undoing x = record { call = Undo x.id.line; reply = Undone }
 
--- these events were undone, in this order, and nothing else was done; the others stand under the ids that they had
+-- these events were undone, in this order, and nothing else was done; the others stand under the ids that they had, and
+-- each line takes at most one line of room
 pub record AreUndone (old : BenchView) (xs : List Stander) (new : BenchView) : Type 0 where
   pub start : new.start ≡ old.start
   pub events : Alike old.events (xs ++ new.events)
   pub agents : (m : Member) → IsIn m new.agents → IsIn m old.agents
   pub lines : new.lines ≡ old.lines ++ map undoing xs
+  pub room : old.room ≤ new.room + length xs
 
 -- the standing events with a property were undone, the last in canonical order first, and these are their names
 pub record IsUnwound (old : BenchView) (P : Stander → Type 0) (names : List Pair) (new : BenchView) : Type 0 where

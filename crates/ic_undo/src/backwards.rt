@@ -1,4 +1,4 @@
-ghost use Rattle.std.specs.Prelude.{◌≡◌, ◌≤◌, List, Some, length, map, reverse, IfErr, IfOk};
+ghost use Rattle.std.specs.Prelude.{◌≡◌, ◌≤◌, List, length, map, reverse, IfErr, IfOk};
 ghost use Rattle.ic_name.specs.Events.{pair};
 ghost use Rattle.ic_path.specs.Orders.{IsIn};
 ghost use Rattle.ic_roster.specs.Rosters.{Stander};
@@ -51,46 +51,49 @@ pub(crate) fn undo_each<L: LinkStore>(bench: &mut Bench<L>, ids: &[EventId])
     for place in (0..ids.len()).rev() {
         bench.lawful();
         let Ok(()) = bench.undo(ids[place]) else {
-            return;
+            unreachable!()
         };
     }
 }
 
-/// The names of these events, that of the last one first.
+/// The names of these events, which stand, that of the last one first.
 fn names_backwards<L: LinkStore>(
     alloc: Global,
     bench: &Bench<L>,
     ids: &[EventId],
 ) -> Result<Vec<EventName>, AllocError>
+    requires { AreIdsOfFree bench.now ids.now }
     ensures { IfOk result (λ names. (order : List Stander) → ((x : Stander) → IsIn x order → IsIn x bench.now.events) → map (λ x. x.id) order ≡ ids.now → map (λ x. pair x.event) (reverse order) ≡ names.items) }
 {
     let mut names = Vec::with_capacity(alloc, ids.len())?;
     for place in (0..ids.len()).rev() {
-        let Some(name) = name_under(bench, ids[place])? else {
-            continue;
-        };
+        let name = name_under(bench, ids[place])?;
         names.push(name)?;
     }
     Ok(names)
 }
 
 /// The name of the standing event whose firing is the line of the id.
-fn name_under<L: LinkStore>(bench: &Bench<L>, id: EventId) -> Result<Option<EventName>, AllocError>
-    ensures { IfOk result (λ name. (x : Stander) → StandsIn bench.now id x → name ≡ Some (pair x.event)) }
+fn name_under<L: LinkStore>(bench: &Bench<L>, id: EventId) -> Result<EventName, AllocError>
+    requires { (x : Stander) × StandsIn bench.now id x }
+    ensures { IfOk result (λ name. (x : Stander) → StandsIn bench.now id x → name ≡ pair x.event) }
 {
     bench.lawful();
-    match bench.event_of(id)? {
-        Some(event) => name_of(&event),
-        None => Ok(None),
-    }
+    let Some(event) = bench.event_of(id)? else {
+        unreachable!()
+    };
+    name_of(&event)
 }
 
-/// The name of an event.
-pub(crate) fn name_of(event: &Event) -> Result<Option<EventName>, AllocError>
-    ensures { IfOk result (λ name. name ≡ Some (pair event.now)) }
+/// The name of an event, whose two agents differ.
+pub(crate) fn name_of(event: &Event) -> Result<EventName, AllocError>
+    ensures { IfOk result (λ name. name ≡ pair event.now) }
 {
     event.lawful();
     let lead = event.lead().copy()?;
     let other = event.other().copy()?;
-    Ok(EventName::of(lead, other))
+    let Some(name) = EventName::of(lead, other) else {
+        unreachable!()
+    };
+    Ok(name)
 }

@@ -1,6 +1,7 @@
 ghost use Rattle.std.specs.Prelude.{◌≡◌};
 ghost use Rattle.ic_undo.specs.Faults.{back_number, undo_all_number, unwind_number};
 
+use ic_name::numbers;
 use thiserror::Error;
 
 /// Why an event isn't unwound.
@@ -52,9 +53,9 @@ impl UnwindFault {
         ensures { result ≡ unwind_number self }
     {
         match self {
-            UnwindFault::NotStanding => 31,
-            UnwindFault::HistoryFull => 24,
-            UnwindFault::Memory => 25,
+            UnwindFault::NotStanding => numbers::NOT_STANDING,
+            UnwindFault::HistoryFull => numbers::HISTORY_FULL,
+            UnwindFault::Memory => numbers::MEMORY,
         }
     }
 }
@@ -65,8 +66,8 @@ impl UndoAllFault {
         ensures { result ≡ undo_all_number self }
     {
         match self {
-            UndoAllFault::HistoryFull => 24,
-            UndoAllFault::Memory => 25,
+            UndoAllFault::HistoryFull => numbers::HISTORY_FULL,
+            UndoAllFault::Memory => numbers::MEMORY,
         }
     }
 }
@@ -77,8 +78,8 @@ impl BackFault {
         ensures { result ≡ back_number self }
     {
         match self {
-            BackFault::HistoryFull => 24,
-            BackFault::Memory(_) => 25,
+            BackFault::HistoryFull => numbers::HISTORY_FULL,
+            BackFault::Memory(_) => numbers::MEMORY,
         }
     }
 }

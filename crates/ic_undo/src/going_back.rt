@@ -10,7 +10,7 @@ use crate::faults::{BackFault, Counts};
 use crate::marks::Mark;
 use crate::missing::missing_events;
 use crate::outside::outside_events;
-use ic_journal::{Bench, LinkStore, Proposal, ReserveFault};
+use ic_journal::{Bench, FireFault, LinkStore, Proposal, ReserveFault};
 use std::alloc::Global;
 
 /// Nothing was undone, and nothing fired.
@@ -23,9 +23,10 @@ const NOTHING: Counts = Counts {
 /// first, then fires what is in the mark and doesn't stand, in canonical order. Then just the mark's events stand, and
 /// those that stood before have the ids that they had. Each undoing and each firing adds a line.
 ///
-/// `HistoryFull` exactly where a line for each of them doesn't fit into the history; nothing but the room has changed
-/// then. `Memory` may stand in place of each answer, with the numbers of the events that were undone and fired before
-/// memory ran out; these are done. The undoings take no memory, so it comes before all of them or after.
+/// `HistoryFull` exactly where a line for each of them doesn't fit into the history; nothing has changed then, the room
+/// included. `Memory` may stand in place of each answer, with the numbers of the events that were undone and fired
+/// before memory ran out; these are done. The undoings take no memory, so it comes before all of them or after. Each
+/// line takes at most one line of room.
 pub fn back<L: LinkStore>(
     alloc: Global,
     bench: &mut Bench<L>,
@@ -69,10 +70,14 @@ fn fire_each<L: LinkStore>(bench: &mut Bench<L>, events: Vec<Proposal>) -> Resul
     let mut fired = 0;
     for event in events {
         bench.lawful();
-        let Ok(_) = bench.fire(event) else {
-            return Err(fired);
-        };
-        fired += 1;
+        match bench.fire(event) {
+            Ok(_) => fired += 1,
+            Err(FireFault::Memory(_)) => return Err(fired),
+            Err(FireFault::NotActive) => unreachable!(),
+            Err(FireFault::Deep) => unreachable!(),
+            Err(FireFault::Full) => unreachable!(),
+            Err(FireFault::HistoryFull(_)) => unreachable!(),
+        }
     }
     Ok(fired)
 }

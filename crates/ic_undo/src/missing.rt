@@ -1,4 +1,4 @@
-ghost use Rattle.std.specs.Prelude.{◌≡◌, ◌↔◌, Some, IsTrue, IfOk};
+ghost use Rattle.std.specs.Prelude.{◌≡◌, ◌↔◌, IsTrue, IfOk};
 ghost use Rattle.ic_name.specs.Events.{pair};
 ghost use Rattle.ic_path.specs.Orders.{IsIn};
 ghost use Rattle.ic_roster.specs.Rosters.{Stander};
@@ -26,9 +26,7 @@ pub(crate) fn missing_events<L: LinkStore>(
         if stands(bench, event)? {
             continue;
         }
-        let Some(proposal) = proposal_of(event)? else {
-            continue;
-        };
+        let proposal = proposal_of(event)?;
         missing.push(proposal)?;
     }
     Ok(missing)
@@ -38,18 +36,19 @@ pub(crate) fn missing_events<L: LinkStore>(
 fn stands<L: LinkStore>(bench: &Bench<L>, event: &Event) -> Result<bool, AllocError>
     ensures { IfOk result (λ stands. IsTrue stands ↔ ((x : Stander) × IsIn x bench.now.events × (pair x.event ≡ pair event.now))) }
 {
-    match name_of(event)? {
-        Some(name) => Ok(bench.event(&name).is_some()),
-        None => Ok(false),
-    }
+    let name = name_of(event)?;
+    Ok(bench.event(&name).is_some())
 }
 
-/// The proposal to fire the event.
-fn proposal_of(event: &Event) -> Result<Option<Proposal>, AllocError>
-    ensures { IfOk result (λ proposal. proposal ≡ Some event.now) }
+/// The proposal to fire the event, whose two agents differ.
+fn proposal_of(event: &Event) -> Result<Proposal, AllocError>
+    ensures { IfOk result (λ proposal. proposal ≡ event.now) }
 {
     event.lawful();
     let lead = event.lead().copy()?;
     let other = event.other().copy()?;
-    Ok(Proposal::make(lead, event.lead_kind(), other, event.other_kind()))
+    let Some(proposal) = Proposal::make(lead, event.lead_kind(), other, event.other_kind()) else {
+        unreachable!()
+    };
+    Ok(proposal)
 }

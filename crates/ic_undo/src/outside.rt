@@ -56,11 +56,12 @@ fn is_led_by<L: LinkStore>(
     leads: &BTreeSet<AgentName>,
     id: EventId,
 ) -> Result<bool, AllocError>
+    requires { (x : Stander) × StandsIn bench.now id x }
     ensures { IfOk result (λ led. (x : Stander) → StandsIn bench.now id x → led ≡ contains name_cmp leads.now x.event.lead) }
 {
     bench.lawful();
-    match bench.event_of(id)? {
-        Some(event) => Ok(leads.contains(event.lead())),
-        None => Ok(false),
-    }
+    let Some(event) = bench.event_of(id)? else {
+        unreachable!()
+    };
+    Ok(leads.contains(event.lead()))
 }

@@ -43,13 +43,14 @@ fn has_cause_in<L: LinkStore>(
     lines: &BTreeSet<u32>,
     event: EventId,
 ) -> Result<bool, AllocError>
+    requires { (x : Stander) × StandsIn bench.now event x }
     ensures { IfOk result (λ among. (x : Stander) → StandsIn bench.now event x → IsTrue among ↔ ((y : Stander) × IsIn y bench.now.events × IsCause bench.now.start (standing (set_of bench.now)) x.event y.event × IsTrue (contains nat_cmp lines.now y.id.line))) }
 {
     bench.lawful();
-    match bench.causes(event)? {
-        Some(causes) => Ok(has_line_in(&causes, lines)),
-        None => Ok(false),
-    }
+    let Some(causes) = bench.causes(event)? else {
+        unreachable!()
+    };
+    Ok(has_line_in(&causes, lines))
 }
 
 /// Whether one of the events was fired in one of the lines.

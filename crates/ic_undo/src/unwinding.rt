@@ -1,4 +1,5 @@
 ghost use Rattle.std.specs.Prelude.{◌≡◌, [], IfErr, IfOk, OnOk};
+ghost use Rattle.ic_journal.specs.Reads.{NoneStands};
 ghost use Rattle.ic_set.specs.Orders.{IsAny};
 ghost use Rattle.ic_undo.specs.Undone.{IsUnwound, RestsOn};
 ghost use Rattle.ic_undo.specs.Unwinding.{ArentUndone, IsntUnwound};
@@ -11,16 +12,18 @@ use ic_name::{EventId, EventName};
 use std::alloc::Global;
 
 /// Undoes an event with all events that rest on it: those that depend on it directly or through others. They are undone
-/// the last in canonical order first, and their names are answered in that order. Each undoing adds a line.
+/// the last in canonical order first, and their names are answered in that order. Each undoing adds a line, and takes
+/// at most one line of room.
 ///
-/// `NotStanding` where no standing event was fired in the line of the id; else `HistoryFull` exactly where a line for
-/// each of them doesn't fit into the history; `Memory` may stand in its place. A refused call changes nothing but the
-/// room.
+/// `NotStanding` exactly where no standing event was fired in the line of the id; else `HistoryFull` exactly where a
+/// line for each of them doesn't fit into the history, and then nothing has changed; else `Memory` may stand in place
+/// of an answer. A refused call changes nothing but the room.
 pub fn unwind<L: LinkStore>(
     alloc: Global,
     bench: &mut Bench<L>,
     id: EventId,
 ) -> Result<Vec<EventName>, UnwindFault>
+    ensures stood { OnOk result (¬ (NoneStands bench.old id)) }
     ensures unwound { IfOk result (λ names. IsUnwound bench.old (RestsOn bench.old id.line) names.items bench.new) }
     ensures fault { IfErr result (λ fault. IsntUnwound bench.old id fault bench.new) }
 {
@@ -39,10 +42,10 @@ pub fn unwind<L: LinkStore>(
 }
 
 /// Undoes all events, the last in canonical order first, and answers their names in that order. The net is then that of
-/// the start.
+/// the start. Each undoing adds a line, and takes at most one line of room.
 ///
-/// `HistoryFull` exactly where a line for each of them doesn't fit into the history; `Memory` may stand in its place. A
-/// refused call changes nothing but the room.
+/// `HistoryFull` exactly where a line for each of them doesn't fit into the history, and then nothing has changed;
+/// `Memory` may stand in place of each answer, and then nothing but the room has changed.
 pub fn undo_all<L: LinkStore>(
     alloc: Global,
     bench: &mut Bench<L>,

@@ -65,7 +65,7 @@ module _ (v : BenchView) (bench : IsBench v) where
   ends_at st next budget by_workers left by_one Normal e at h = λ f a. h.2 f (active-alike v.start (events_at v at) a)
   ends_at st next budget by_workers left by_one Budget e at h = (let m = h.1 in omega (arith, m), (h.2.0, active-alike v.start (alike_back (events_at v at)) h.2.1))
   ends_at st next budget by_workers left by_one Limit e at h = (let l = h.2 in omega (arith, l), limit_at at h.3)
-  ends_at st next budget by_workers left by_one Memory e at h = let l = h.1 in omega (arith, l)
+  ends_at st next budget by_workers left by_one Memory e at h = (let l = h.1 in omega (arith, l), (h.2.0, active-alike v.start (alike_back (events_at v at)) h.2.1))
 
 -- the workers' part and the rest
 pub sweeps : (old mid new : BenchView) (budget by_workers left by_one : ℕ) (end : End) → IsBench mid → IsBench new → FiredByWorkers old budget by_workers mid

@@ -1,3 +1,4 @@
 pub mod Workers
 pub mod Firings
 pub mod Sweeps
+pub mod Faults

@@ -54,7 +54,7 @@ abbrev pub Ends : BenchView → ℕ → ℕ → End → Type 0
 Ends v budget fired Normal = IsNormal v.start (standing (set_of v))
 Ends v budget fired Budget = (fired ≡ budget) × HasActive v
 Ends v budget fired Limit = (fired < budget) × MeetsLimit v
-Ends v budget fired Memory = fired < budget
+Ends v budget fired Memory = (fired < budget) × HasActive v
 
 -- each sound set over the start is a part of what stands
 abbrev pub HasAll : BenchView → Type 0

@@ -3,7 +3,7 @@ ghost use Rattle.ic_work.specs.Workers.{IsFirst, IsGuest};
 
 use crate::floor::Floor;
 use crate::worker::Worker;
-use ic_claim::Claims;
+use ic_claim::{Claims, MAX_WORKERS};
 use ic_reduce::Gate;
 use ic_shared::Pass;
 use std::alloc::Global;
@@ -46,7 +46,7 @@ pub(crate) fn run_crew<B: Ledger + Send + Sync, G: Gate, R: Threads + Wait + Syn
 ) -> Crew<B>
     requires first { IsFirst floor.now.claims.now.table floor.now.claims.now.budget first.seat first.pass home.items }
     requires guests { All (λ w. IsGuest floor.now.claims.now.table w.seat w.pass) others.items }
-    requires few { vec_len others < 64 }
+    requires few { vec_len others < MAX_WORKERS }
     requires off { vec_len others ≤ length off.now }
     requires room { vec_len home + vec_len others ≤ vec_capacity home }
     ensures first { IsFirst floor.now.claims.now.table floor.now.claims.now.budget result.first.seat result.first.pass result.home.items }
@@ -69,7 +69,7 @@ pub(crate) fn run_crew<B: Ledger + Send + Sync, G: Gate, R: Threads + Wait + Syn
         move |scope| -> Crew<B>
             requires first { IsFirst floor.now.claims.now.table floor.now.claims.now.budget first.seat first.pass home.items }
             requires guests { All (λ w. IsGuest floor.now.claims.now.table w.seat w.pass) others.items }
-            requires few { vec_len others < 64 }
+            requires few { vec_len others < MAX_WORKERS }
             requires off { vec_len others ≤ length off.now }
             requires handles { (vec_len handles ≡ 0) × (vec_len others ≤ vec_capacity handles) }
             requires room { vec_len home + vec_len others ≤ vec_capacity home }

@@ -13,6 +13,7 @@ pub mod sweeping;
 pub mod swept;
 mod worker;
 
+pub use ic_claim::{MAX_BUDGET, MAX_WORKERS};
 pub use ic_reduce::{End, Gate, NoGate};
 pub use sweeping::sweep;
 pub use swept::{SweepFault, Swept};

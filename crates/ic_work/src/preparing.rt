@@ -3,7 +3,7 @@ ghost use Rattle.ic_claim.specs.Views.{new_view};
 
 use crate::worker::Worker;
 use crossbeam_deque::{Stealer, Worker as Deque};
-use ic_claim::{Claims, Seat};
+use ic_claim::{Claims, MAX_BUDGET, MAX_WORKERS, Seat};
 use ic_journal::{ActivePair, Bench, Store};
 use ic_shared::Pass;
 use std::alloc::{AllocError, Global};
@@ -37,8 +37,8 @@ pub(crate) fn prepare<B: Ledger>(
     workers: u32,
     budget: u32,
 ) -> Result<Prepared<B>, AllocError>
-    requires workers { (0 < workers) × (workers ≤ 64) }
-    requires budget { budget ≤ 1048576 }
+    requires workers { (0 < workers) × (workers ≤ MAX_WORKERS) }
+    requires budget { budget ≤ MAX_BUDGET }
     ensures seat { IfOk result (λ p. (p.seat.table ≡ p.claims.table) × (p.claims.budget ≡ budget) × (p.seat.view ≡ new_view budget 0)) }
     ensures hints { IfOk result (λ p. vec_len p.hints ≡ workers) }
     ensures off { IfOk result (λ p. vec_len p.off ≡ workers) }

@@ -10,7 +10,7 @@ use crate::preparing::{Prepared, prepare};
 use crate::swept::{SweepFault, Swept};
 use crate::worker::Worker;
 use crossbeam_deque::Worker as Deque;
-use ic_claim::{Claims, Seat};
+use ic_claim::{Claims, MAX_BUDGET, MAX_WORKERS, Seat};
 use ic_journal::{ActivePair, Bench, Store};
 use ic_reduce::{Gate, fire_least};
 use ic_shared::{Pass, settle, share};
@@ -20,15 +20,15 @@ use std::sync::Wait;
 use std::sync::ledger::{Blank, Ledger};
 use std::thread::Threads;
 
-/// Fires active pairs on a bench by so many workers, 1 to 64 of them, of which the first one is the caller; at most as
-/// many events as the budget says, which is at most 1,048,576. What the workers leave of the budget is fired in the
-/// order of one worker.
+/// Fires active pairs on a bench by so many workers, 1 to `MAX_WORKERS` of them, of which the first one is the caller; at
+/// most as many events as the budget says, which is at most `MAX_BUDGET`. What the workers leave of the budget is fired
+/// in the order of one worker.
 ///
 /// The start stays, and so does all that stood; just the events that are counted are new (Lafont 1997). The end is
 /// `Normal` exactly where no pair is active any more, and then each sound set over the start is a part of what stands,
-/// so that any two sweeps from one start that end so leave the same. Otherwise it is `Budget` where as many were fired
-/// as the budget says, `Limit` where the firing of the active pair with the least lead meets a limit, and `Memory`
-/// where memory was wanting.
+/// so that any two sweeps from one start that end so leave the same. Otherwise a pair is active still, and the end is
+/// `Budget` where as many were fired as the budget says, `Limit` where the firing of the active pair with the least
+/// lead meets a limit, and `Memory` where fewer were fired and memory was wanting.
 ///
 /// `SweepFault::Memory` comes only before anything is fired, and `SweepFault::Settle` where the workers' receipts
 /// aren't what the history says; each hands the bench back. The gate sees each commit; no lock is held then.
@@ -40,8 +40,8 @@ pub fn sweep<G: Gate, R: Threads + Wait + Sync>(
     budget: u32,
     gate: &G,
 ) -> Result<Swept, SweepFault>
-    requires workers { (0 < workers) × (workers ≤ 64) }
-    requires budget { budget ≤ 1048576 }
+    requires workers { (0 < workers) × (workers ≤ MAX_WORKERS) }
+    requires budget { budget ≤ MAX_BUDGET }
     ensures swept { IfOk result (λ s. Sweeps bench budget s.fired s.end s.bench) }
     ensures ran { IfOk result (λ s. (0 < s.ran) × (s.ran ≤ workers)) }
     ensures fault { IfErr result (λ f. IsGivenBack bench f) }
@@ -69,8 +69,8 @@ fn sweep_as<B: Ledger + Send + Sync, G: Gate, R: Threads + Wait + Sync>(
 ) -> Result<Swept, SweepFault>
     requires name { blank.name ≡ B.name }
     requires parts { (blank.parts ≡ B.parts) × (blank.parts ≡ workers + 1) }
-    requires workers { (0 < workers) × (workers ≤ 64) }
-    requires budget { budget ≤ 1048576 }
+    requires workers { (0 < workers) × (workers ≤ MAX_WORKERS) }
+    requires budget { budget ≤ MAX_BUDGET }
     ensures swept { IfOk result (λ s. Sweeps bench budget s.fired s.end s.bench) }
     ensures ran { IfOk result (λ s. (0 < s.ran) × (s.ran ≤ workers)) }
     ensures fault { IfErr result (λ f. IsGivenBack bench f) }
@@ -141,7 +141,7 @@ fn split_off_others<B: Ledger>(
     requires table { seat.old.table ≡ claims.now.table }
     requires new { seat.old.view ≡ new_view claims.now.budget 0 }
     requires hints { vec_len hints ≡ vec_len passes }
-    requires some { (0 < vec_len passes) × (vec_len passes ≤ 64) }
+    requires some { (0 < vec_len passes) × (vec_len passes ≤ MAX_WORKERS) }
     requires unused { passes.items ≡ replicate (vec_len passes) [] }
     requires room { (vec_len others.old ≡ 0) × (vec_len passes ≤ vec_capacity others.old) }
     ensures first { IsFirst claims.now.table claims.now.budget seat.new result.1 [] }
@@ -179,7 +179,7 @@ fn fire_rest<G: Gate>(
     gate: &G,
     ran: u32,
 ) -> Swept
-    requires { (by_workers ≤ budget) × (budget ≤ 1048576) }
+    requires { (by_workers ≤ budget) × (budget ≤ MAX_BUDGET) }
     ensures fired { (left by_one : ℕ) × (budget ≡ by_workers + left) × (result.fired ≡ by_workers + by_one) × Reduces bench left by_one result.end result.bench }
     ensures ran { result.ran ≡ ran }
 {

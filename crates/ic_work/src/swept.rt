@@ -1,4 +1,8 @@
+ghost use Rattle.std.specs.Prelude.{◌≡◌};
+ghost use Rattle.ic_work.specs.Faults.{sweep_number};
+
 use ic_journal::{Bench, Store};
+use ic_name::numbers;
 use ic_reduce::End;
 use ic_shared::SettleFault;
 
@@ -22,4 +26,16 @@ pub enum SweepFault {
     Memory(Bench<Store>),
     /// What the workers say that they did isn't what the history says.
     Settle(SettleFault),
+}
+
+impl SweepFault {
+    /// The number of the refusal: 25, or that of the settle fault, 61 or 62.
+    pub fn number(&self) -> u8
+        ensures { result ≡ sweep_number self.now }
+    {
+        match self {
+            SweepFault::Memory(_) => numbers::MEMORY,
+            SweepFault::Settle(fault) => fault.number(),
+        }
+    }
 }

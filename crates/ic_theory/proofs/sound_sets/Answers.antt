@@ -1,5 +1,5 @@
-use Rattle.ic_theory.proofs.Ranks.{sound_order, sound_union, cause_included}
-use Rattle.ic_theory.proofs.Sound.{fired_sound}
+use Rattle.ic_theory.proofs.Ranks.{sound_order, sound_union, sound-alike, cause_included}
+use Rattle.ic_theory.proofs.Sound.{fired_sound, sound_fired}
 use Rattle.ic_theory.proofs.AnyOrder.{net-alike}
 use Rattle.ic_theory.proofs.Closed.{cause_stays}
 use Rattle.ic_theory.proofs.sound_sets.Goals as goal
@@ -9,6 +9,12 @@ returns-clause-left c = λ s es ok f. (fired_sound s ok es f).0
 
 pub returns-clause-fired : goal.returns-clause-fired
 returns-clause-fired c = λ s es ok h. sound_order s ok es h
+
+pub returns-clause-firing : goal.returns-clause-firing
+returns-clause-firing c = λ s es ok. (λ f. fired_sound s ok es f, λ h. sound_fired s ok es h.0 h.1)
+
+pub returns-clause-order : goal.returns-clause-order
+returns-clause-order c = λ s es fs ok h a. sound-alike s a h
 
 pub returns-clause-net : goal.returns-clause-net
 returns-clause-net c = λ s es fs ok h a. net-alike s ok h a

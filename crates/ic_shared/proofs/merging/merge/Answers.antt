@@ -2,12 +2,13 @@ use Rattle.std.proofs.Common.{◌<◌, length, drop, sym, refl, ◌∙◌, arith
 use Rattle.std.proofs.Math.ListN.{length-set}
 use Rattle.ic_shared.proofs.Owned.{settles_start, settles_step, settles_end, get_drop, get_at, bounded_step, zeros, ends_more, get_length, next_of, second, none_in_order, left_over}
 use Rattle.std.proofs.Common.{true≢false}
+use Rattle.ic_shared.specs.declared.limits.TheConstants.{MAX_PASSES}
 use Rattle.ic_shared.specs.Settles.{differs}
 use Rattle.std.specs.Prelude.{replicate}
 use Rattle.ic_shared.proofs.merging.merge.Goals as goal
 
 pub loop-j-init : goal.loop-j-init
-loop-j-init g c = (settles_start c.args.base (drop c.args.base c.args.bench.now.lines) c.args.passes.now (replicate 64 0) (zeros 64), refl, λ p. let z = zeros 64 p in omega arith)
+loop-j-init g c = (settles_start c.args.base (drop c.args.base c.args.bench.now.lines) c.args.passes.now (replicate MAX_PASSES 0) (zeros MAX_PASSES), refl, λ p. let z = zeros MAX_PASSES p in omega arith)
 
 pub overflow_add-cursors : goal.overflow_add-cursors
 overflow_add-cursors g c = let b = c.loop-j.invariant.2 c.in-Some.p in omega arith

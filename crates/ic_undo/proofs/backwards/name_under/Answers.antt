@@ -1,25 +1,17 @@
-use Rattle.std.proofs.Common.{◌≡◌, Option, Some, None, ap, ◌∙◌}
+use Rattle.std.proofs.Common.{◌≡◌, Some, ap, ◌∙◌}
 use Rattle.std.proofs.lemmas.Result.{IfOk-weaker}
-use Rattle.ic_name.specs.Events.{Event, Pair, pair}
-use Rattle.ic_name.specs.declared.ids.EventId.{EventId}
-use Rattle.ic_roster.specs.Rosters.{Stander, HaveOwnLines}
-use Rattle.ic_journal.specs.Views.{BenchView}
+use Rattle.ic_name.specs.Events.{Event, pair}
+use Rattle.ic_roster.specs.Rosters.{Stander}
 use Rattle.ic_journal.specs.Reads.{StandsIn, IsEventUnder}
-use Rattle.ic_undo.proofs.Backs.{one_under}
+use Rattle.ic_undo.proofs.Backs.{found_under, one_under}
 use Rattle.ic_undo.proofs.backwards.name_under.Goals as goal
 
--- the name of the event under an id is that of each event that stands in its line
-one_name : (v : BenchView) (d : EventId) (e : Event) (name : Option Pair) → HaveOwnLines v.events → IsEventUnder v d (Some e) → name ≡ Some (pair e) → (x : Stander) → StandsIn v d x → name ≡ Some (pair x.event)
-one_name v d e name own under h x s = h ∙ ap (λ (f : Event). Some (pair f)) (one_under v d e own under x s)
+pub unreachable-requires : goal.unreachable-requires
+unreachable-requires g c = found_under c.args.bench.now c.args.id c.in_ok-event.field-0 c.in_ok-event.ensures c.requires c.in_default.not-Some
 
-pub returns-in-Some : goal.returns-in-Some
-returns-in-Some g c =
+pub returns : goal.returns
+returns g c =
     let under : IsEventUnder c.args.bench.now c.args.id (Some c.in-Some.event) = rw c.in-Some.is at c.in_ok-event.ensures in
-    IfOk-weaker c.name_of.result (λ name. name ≡ Some (pair c.in-Some.event)) (λ name. (x : Stander) → StandsIn c.args.bench.now c.args.id x → name ≡ Some (pair x.event))
-    (λ name h. one_name c.args.bench.now c.args.id c.in-Some.event name c.lawful.ensures.set.own_lines under h)
+    IfOk-weaker c.name_of.result (λ name. name ≡ pair c.in-Some.event) (λ name. (x : Stander) → StandsIn c.args.bench.now c.args.id x → name ≡ pair x.event)
+    (λ name h x s. h ∙ ap (λ (e : Event). pair e) (one_under c.args.bench.now c.args.id c.in-Some.event c.lawful.ensures.set.own_lines under x s))
     c.name_of.ensures
-
-pub returns-in-None : goal.returns-in-None
-returns-in-None g c =
-    let none : IsEventUnder c.args.bench.now c.args.id None = rw c.in-None.is at c.in_ok-event.ensures in
-    λ x s. absurd (none x s.0 s.1)

@@ -6,10 +6,10 @@ pub returns-in_default-clause-fault : goal.returns-in_default-clause-fault
 returns-in_default-clause-fault g c = unchanged c.args.bench.now
 
 pub returns-in-Err-HistoryFull-clause-fault : goal.returns-in-Err-HistoryFull-clause-fault
-returns-in-Err-HistoryFull-clause-fault g c = let e = rw c.in-Err-HistoryFull.field-0-is at c.in-Err-HistoryFull.ensures in (e.0, rw e.1 (unchanged c.args.bench.now))
+returns-in-Err-HistoryFull-clause-fault g c = rw c.in-Err-HistoryFull.field-0-is at c.in-Err-HistoryFull.ensures
 
 pub returns-in-Err-Memory-clause-fault : goal.returns-in-Err-Memory-clause-fault
-returns-in-Err-Memory-clause-fault g c = let e = rw c.in-Err-Memory.field-0-is at c.in-Err-Memory.ensures in rw e.1 (unchanged c.args.bench.now)
+returns-in-Err-Memory-clause-fault g c = let e = rw c.in-Err-Memory.field-0-is at c.in-Err-Memory.ensures in rw e.2 (unchanged c.args.bench.now)
 
 pub undo_each-requires : goal.undo_each-requires
 undo_each-requires g c = record {

@@ -29,8 +29,8 @@ loop-place-preserved g c =
       enough = omega (arith, room, more, enough);
     }
 
-pub returns-in_default : goal.returns-in_default
-returns-in_default g c =
+pub unreachable-requires : goal.unreachable-requires
+unreachable-requires g c =
     let end = c.loop-place.auto.place in
     let more = c.loop-place-test.true in
     let enough = c.loop-place.invariant.enough in
@@ -39,4 +39,4 @@ returns-in_default g c =
     let long = order_length order c.args.ids.now c.requires.free.2 in
     let at = at_place order c.args.ids.now (c.loop-place.place - 1) (record { slot = 0; line = 0 }) c.requires.free.2 (omega (arith, end, more, long)) in
     let did : AreUndone c.args.bench.now (reverse (drop (c.loop-place.place - 1 + 1) order)) c.loop-place.bench = subst (λ k. AreUndone c.args.bench.now (reverse (drop k order)) c.loop-place.bench) next (c.loop-place.invariant.did order c.requires.free.1 c.requires.free.2) in
-    absurd (none_refused c.args.bench.now c.loop-place.bench order (c.loop-place.place - 1) _ at c.requires.free.1 c.lawful.ensures.set.own_lines c.lawful-in-loop-place.ensures did c.undo.new.self c.in_default.field-0 (omega (arith, enough, more)) c.in_default.ensures)
+    none_refused c.args.bench.now c.loop-place.bench order (c.loop-place.place - 1) _ at c.requires.free.1 c.lawful.ensures.set.own_lines c.lawful-in-loop-place.ensures did c.undo.new.self c.in_default.field-0 (omega (arith, enough, more)) c.in_default.ensures

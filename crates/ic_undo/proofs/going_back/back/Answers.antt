@@ -18,13 +18,13 @@ returns-in-Err-HistoryFull-clause-fault g c =
     let three = c.in-Ok.gone.ok.0 in
     let four = c.in-Ok-missing_events.missing.ok.0 in (
       dont_fit_back c.args.bench.now c.lawful.ensures c.args.mark.now c.requires c.lawful-2.ensures c.in-Ok.gone.items c.in-Ok-missing_events.missing.items c.in-Ok.ensures c.in-Ok-missing_events.ensures (omega (arith, l, one, two, three, four)),
-      rw e.1 (unchanged c.args.bench.now),
+      e.1,
     )
 
 pub returns-in-Err-Memory-clause-fault : goal.returns-in-Err-Memory-clause-fault
 returns-in-Err-Memory-clause-fault g c =
     let e = rw c.in-Err-Memory.field-0-is at c.in-Err-Memory.ensures in
-    rw e.1 (nothing_done c.args.bench.now c.lawful.ensures c.args.mark.now c.requires c.lawful-2.ensures c.args.bench.now (unchanged c.args.bench.now))
+    rw e.2 (nothing_done c.args.bench.now c.lawful.ensures c.args.mark.now c.requires c.lawful-2.ensures c.args.bench.now (unchanged c.args.bench.now))
 
 pub undo_each-requires-clause-free : goal.undo_each-requires-clause-free
 undo_each-requires-clause-free g c = rw c.deref.ensures.value

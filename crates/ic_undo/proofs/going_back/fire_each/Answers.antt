@@ -16,18 +16,45 @@ loop-event-init g c =
       count = refl;
     }
 
-pub returns-in_default-clause-some : goal.returns-in_default-clause-some
-returns-in_default-clause-some g c =
+pub returns-in-Err-Memory-clause-some : goal.returns-in-Err-Memory-clause-some
+returns-in-Err-Memory-clause-some g c =
     let i = c.loop-event.invariant in
     let steps = c.in-Some.ensures.steps.0 in record {
       came = c.loop-event.yielded;
       behind = c.in-Some.event ∷ c.next.new.self.rest.items;
       parts = rw steps at i.whole;
       left = λ e. cc;
-      fired = fired_still c.args.bench.now c.loop-event.bench c.fire.new.self c.loop-event.yielded i.did
-          (only_memory c.loop-event.bench c.fire.new.self c.lawful.ensures c.in-Some.event c.next.new.self.rest.items (rw steps at i.firable) c.in_default.field-0 (rw steps at i.fit) c.in_default.ensures);
+      fired = fired_still c.args.bench.now c.loop-event.bench c.fire.new.self c.loop-event.yielded i.did (rw c.in-Err-Memory.field-0-is at c.in-Err-Memory.ensures).2;
       fired_count = i.count;
     }
+
+pub unreachable-requires : goal.unreachable-requires
+unreachable-requires g c =
+    let steps = c.in-Some.ensures.steps.0 in
+    let i = c.loop-event.invariant in
+    let is = c.in-Err-NotActive.field-0-is in
+    only_memory c.loop-event.bench c.fire.new.self c.lawful.ensures c.in-Some.event c.next.new.self.rest.items (rw steps at i.firable) c.in-Err-NotActive.field-0 (rw steps at i.fit) (λ x e. cc) c.in-Err-NotActive.ensures
+
+pub unreachable-requires-in-Err-Deep : goal.unreachable-requires-in-Err-Deep
+unreachable-requires-in-Err-Deep g c =
+    let steps = c.in-Some.ensures.steps.0 in
+    let i = c.loop-event.invariant in
+    let is = c.in-Err-Deep.field-0-is in
+    only_memory c.loop-event.bench c.fire.new.self c.lawful.ensures c.in-Some.event c.next.new.self.rest.items (rw steps at i.firable) c.in-Err-Deep.field-0 (rw steps at i.fit) (λ x e. cc) c.in-Err-Deep.ensures
+
+pub unreachable-requires-in-Err-Full : goal.unreachable-requires-in-Err-Full
+unreachable-requires-in-Err-Full g c =
+    let steps = c.in-Some.ensures.steps.0 in
+    let i = c.loop-event.invariant in
+    let is = c.in-Err-Full.field-0-is in
+    only_memory c.loop-event.bench c.fire.new.self c.lawful.ensures c.in-Some.event c.next.new.self.rest.items (rw steps at i.firable) c.in-Err-Full.field-0 (rw steps at i.fit) (λ x e. cc) c.in-Err-Full.ensures
+
+pub unreachable-requires-in-Err-HistoryFull : goal.unreachable-requires-in-Err-HistoryFull
+unreachable-requires-in-Err-HistoryFull g c =
+    let steps = c.in-Some.ensures.steps.0 in
+    let i = c.loop-event.invariant in
+    let is = c.in-Err-HistoryFull.field-0-is in
+    only_memory c.loop-event.bench c.fire.new.self c.lawful.ensures c.in-Some.event c.next.new.self.rest.items (rw steps at i.firable) c.in-Err-HistoryFull.field-0 (rw steps at i.fit) (λ x e. cc) c.in-Err-HistoryFull.ensures
 
 pub loop-event-preserved : goal.loop-event-preserved
 loop-event-preserved g c =

@@ -1,6 +1,5 @@
 use Rattle.std.proofs.Common.{◌≡◌, ◌++◌, ◌∷◌, [], take, true, sym, subst, arith, ◌∙◌}
 use Rattle.std.proofs.lemmas.List.{take_more, take_all}
-use Rattle.std.proofs.lemmas.Option.{same_Some}
 use Rattle.ic_path.specs.Orders.{IsIn}
 use Rattle.ic_path.proofs.Picks.{contains-in}
 use Rattle.ic_set.specs.Views.{standing}
@@ -31,10 +30,9 @@ loop-event-preserved g c =
     let e = c.event-item.result in
     let absent : IsIn e (standing (set_of v)) → ⊥ =
     (λ i. let t : c.in_ok-stands.field-0 ≡ true = c.in_ok-stands.ensures.1 (named_stands v c.lawful.ensures.set c.args.mark.now.events (over_start v c.args.mark.now c.requires c.lawful-2.ensures) e i) in let f = c.if-branch.false in absurd cc) in
-    let same : c.in-Some.proposal ≡ e = same_Some c.in-Some.proposal e (sym c.in-Some.is ∙ c.in_ok-proposal.ensures) in
     let more = take_more items c.loop-event.event-index e c.loop-event-test.true in
     rw (more, ← c.event-item.is, c.in_ok-push.ensures.items)
-    (subst (λ p. Chosen (λ f. IsIn f (standing (set_of v)) → ⊥) (take c.loop-event.event-index items ++ e ∷ []) (c.loop-event.missing.items ++ p ∷ [])) (sym same) (chosen_more e absent c.loop-event.invariant))
+    (subst (λ p. Chosen (λ f. IsIn f (standing (set_of v)) → ⊥) (take c.loop-event.event-index items ++ e ∷ []) (c.loop-event.missing.items ++ p ∷ [])) (sym c.in_ok-proposal.ensures) (chosen_more e absent c.loop-event.invariant))
 
 pub returns : goal.returns
 returns g c =

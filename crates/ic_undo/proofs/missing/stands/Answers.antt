@@ -1,7 +1,6 @@
 use Rattle.std.proofs.Common.{◌≡◌, ◌≢◌, ◌↔◌, IsTrue, Option, Some, None, IfSome, refl, sym, ◌∙◌}
 use Rattle.std.specs.Prelude.{IfNone}
 use Rattle.std.specs.Option.{is_some}
-use Rattle.std.proofs.lemmas.Option.{same_Some}
 use Rattle.ic_name.specs.Events.{Pair, pair}
 use Rattle.ic_name.specs.declared.ids.EventId.{EventId}
 use Rattle.ic_path.specs.Orders.{IsIn}
@@ -15,7 +14,6 @@ told : (v : BenchView) (n p : Pair) (r : Option EventId) → n ≡ p → IfSome 
 told v n p None e found absent = (λ t. absurd cc, λ h. absurd (absent h.0 h.1 (h.2 ∙ sym e)))
 told v n p (Some id) e found absent = (λ t. (found.0, found.1, found.3 ∙ e), λ h. refl)
 
-pub returns-in-Some : goal.returns-in-Some
-returns-in-Some g c =
-    let name : c.in-Some.name ≡ pair c.args.event.now = same_Some c.in-Some.name (pair c.args.event.now) (sym c.in-Some.is ∙ c.in_ok-name.ensures) in
-    rw c.is_some.ensures (told c.args.bench.now c.in-Some.name (pair c.args.event.now) c.event.result name c.event.ensures.found c.event.ensures.absent)
+pub returns : goal.returns
+returns g c =
+    rw c.is_some.ensures (told c.args.bench.now c.in_ok-name.name (pair c.args.event.now) c.event.result c.in_ok-name.ensures c.event.ensures.found c.event.ensures.absent)

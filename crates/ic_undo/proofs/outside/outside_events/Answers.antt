@@ -23,6 +23,13 @@ not_among test es e b tells same f i = let t : test e.lead ≡ true = (tells e.l
 pub loop-event-init : goal.loop-event-init
 loop-event-init g c = λ h. rw c.new-ids.ensures.items (chosen_none (IsOutside c.args.mark.now))
 
+pub is_led_by-requires : goal.is_led_by-requires
+is_led_by-requires g c =
+    let v = c.args.bench.now in
+    let all = c.deref-event-items.result.now in
+    let h = subst (λ es. AreInOrder (set_of v) IsAny es) (sym c.deref-event-items.ensures.value) c.in_ok-events.ensures in
+    ((place v all h c.loop-event.event-index no_id c.loop-event-test.true).item, item_stands v all h c.loop-event.event-index no_id c.loop-event-test.true)
+
 pub loop-event-preserved-then-branch : goal.loop-event-preserved-then-branch
 loop-event-preserved-then-branch g c = λ h.
     let v = c.args.bench.now in
@@ -33,13 +40,13 @@ loop-event-preserved-then-branch g c = λ h.
     let below = c.loop-event-test.true in
     let ids = c.loop-event.ids.items in
     let found = c.loop-event.invariant h in
-    let x = (place v P all h k no_id below ids found).item in
-    let stands = item_stands v P all h k no_id below ids found in
+    let x = (place v all h k no_id below).item in
+    let stands = item_stands v all h k no_id below in
     let test : Name → Bool = contains name_cmp c.in_ok-leads.leads in
     let tells : TellsLeads test es = subst (λ fs. TellsLeads test fs) c.events.ensures c.in_ok-leads.ensures in
     let told = c.in_ok-is_led_by.ensures x stands in
     let l = (tells x.event.lead).0 (sym told ∙ c.if-branch.true) in
-    left_next v P all h k no_id below ids found (λ out. out (led_inside v c.lawful.ensures.set es (over_start v c.args.mark.now c.requires c.lawful-2.ensures) x l.0 stands.0 l.1 l.2))
+    left_next v all h k no_id below P ids found (λ out. out (led_inside v c.lawful.ensures.set es (over_start v c.args.mark.now c.requires c.lawful-2.ensures) x l.0 stands.0 l.1 l.2))
 
 pub loop-event-preserved : goal.loop-event-preserved
 loop-event-preserved g c = λ h.
@@ -51,12 +58,12 @@ loop-event-preserved g c = λ h.
     let below = c.loop-event-test.true in
     let ids = c.loop-event.ids.items in
     let found = c.loop-event.invariant h in
-    let x = (place v P all h k no_id below ids found).item in
-    let stands = item_stands v P all h k no_id below ids found in
+    let x = (place v all h k no_id below).item in
+    let stands = item_stands v all h k no_id below in
     let test : Name → Bool = contains name_cmp c.in_ok-leads.leads in
     let tells : TellsLeads test es = subst (λ fs. TellsLeads test fs) c.events.ensures c.in_ok-leads.ensures in
     let told = c.in_ok-is_led_by.ensures x stands in
-    rw c.in_ok-push.ensures.items (chosen_next v P all h k no_id below ids found (not_among test es x.event c.in_ok-is_led_by.field-0 tells told c.if-branch.false))
+    rw c.in_ok-push.ensures.items (chosen_next v all h k no_id below P ids found (not_among test es x.event c.in_ok-is_led_by.field-0 tells told c.if-branch.false))
 
 pub returns : goal.returns
 returns g c =

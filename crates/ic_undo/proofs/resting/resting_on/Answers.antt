@@ -4,6 +4,7 @@ use Rattle.std.specs.Ordering.{nat_cmp}
 use Rattle.ic_name.specs.declared.ids.EventId.{EventId}
 use Rattle.ic_set.specs.Orders.{AreInOrder, IsAny}
 use Rattle.ic_journal.specs.Views.{set_of}
+use Rattle.ic_undo.proofs.ChosenOrders.{place, item_stands}
 use Rattle.ic_undo.proofs.RestingOrder.{found_none, found_all}
 use Rattle.ic_undo.proofs.RestingSteps.{found_next, found_still}
 use Rattle.ic_undo.proofs.resting.resting_on.Goals as goal
@@ -15,6 +16,13 @@ no_id = record { slot = 0; line = 0 }
 
 pub loop-event-init : goal.loop-event-init
 loop-event-init g c = λ h. rw c.new-ids.ensures.items (found_none c.args.bench.now c.args.id.line (contains nat_cmp c.new-lines.result) (λ n. rw c.new-lines.ensures.empty refl))
+
+pub has_cause_in-requires : goal.has_cause_in-requires
+has_cause_in-requires g c =
+    let v = c.args.bench.now in
+    let all = c.deref-event-items.result.now in
+    let h = subst (λ es. AreInOrder (set_of v) IsAny es) (sym c.deref-event-items.ensures.value) c.in_ok-events.ensures in
+    ((place v all h c.loop-event.event-index no_id c.loop-event-test.true).item, item_stands v all h c.loop-event.event-index no_id c.loop-event-test.true)
 
 pub loop-event-preserved : goal.loop-event-preserved
 loop-event-preserved g c = λ h.

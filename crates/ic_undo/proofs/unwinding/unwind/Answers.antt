@@ -20,6 +20,9 @@ returns-in-Ok-undo_back-clause-unwound g c =
     unwound c.args.bench.now c.undo_back.new.bench (RestsOn c.args.bench.now c.args.id.line) c.in-Ok.ids.items c.in-Ok-undo_back.names.items c.lawful.ensures (resting_with_dependents c.args.bench.now c.args.id.line) c.in-Ok.ensures
     (subst (λ ids. AreUndoneBack c.args.bench.now ids c.in-Ok-undo_back.names.items c.undo_back.new.bench) c.deref.ensures.value c.in-Ok-undo_back.ensures.undone)
 
+pub returns-in-Ok-undo_back-clause-stood : goal.returns-in-Ok-undo_back-clause-stood
+returns-in-Ok-undo_back-clause-stood g c = one_stands c.args.bench.now c.args.id c.rank.result c.if-is_none.ensures c.rank.ensures
+
 pub returns-in-Err-HistoryFull-clause-fault : goal.returns-in-Err-HistoryFull-clause-fault
 returns-in-Err-HistoryFull-clause-fault g c =
     let fault = rw (c.in-Err-HistoryFull.field-0-is, c.deref.ensures.value) at c.in-Err-HistoryFull.ensures.fault in (

@@ -1,4 +1,3 @@
-use Rattle.std.proofs.Common.{◌≡◌}
 use Rattle.ic_journal.specs.Views.{view_of}
 use Rattle.ic_journal.proofs.Answering.{opened}
 use Rattle.ic_journal.proofs.bench.Bench.over.Goals as goal

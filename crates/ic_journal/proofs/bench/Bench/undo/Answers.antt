@@ -25,12 +25,6 @@ returns-in_default-at_line g c =
     let room = c.note.ensures.room in
     rw (← c.self.view_is) (refused (view_of c.self.inside.set c.self.inside.history) (view_of c.self.inside.set c.note.new.self) (Undo c.args.id.line) reply.NotStanding refl lines (omega (arith, more, room)) (absent_answer (view_of c.self.inside.set c.self.inside.history) c.args.id.line none))
 
-pub invariant_of-self-in-Some-least_dependent : goal.invariant_of-self-in-Some-least_dependent
-invariant_of-self-in-Some-least_dependent g c =
-    let lines : c.note-in-Some-least_dependent.new.self.lines ≡ c.self.inside.history.lines ++ record { call = Undo c.args.id.line; reply = (reply.Held c.in-Some-least_dependent.holder.line) } ∷ [] = rw c.reserve.ensures.lines at c.note-in-Some-least_dependent.ensures.lines in
-    let in_line : c.in-Some.standing.line ≡ c.args.id.line = c.in-Some.ensures.found.3 in
-    refused_running (view_of c.self.inside.set c.self.inside.history) (view_of c.self.inside.set c.note-in-Some-least_dependent.new.self) (Undo c.args.id.line) (reply.Held c.in-Some-least_dependent.holder.line) c.self.invariant refl lines c.note-in-Some-least_dependent.ensures.few (subst (λ (l : ℕ). (st : State) → IsAt (view_of c.self.inside.set c.self.inside.history) st → Answers c.self.inside.set.start st (Undo l) (reply.Held c.in-Some-least_dependent.holder.line) (noted st)) in_line (held_answer (view_of c.self.inside.set c.self.inside.history) c.in-Some.standing c.in-Some-least_dependent.holder c.in-Some-least_dependent.ensures.found))
-
 pub returns-in-Some-least_dependent : goal.returns-in-Some-least_dependent
 returns-in-Some-least_dependent g c =
     let lines : c.note-in-Some-least_dependent.new.self.lines ≡ c.self.inside.history.lines ++ record { call = Undo c.args.id.line; reply = (reply.Held c.in-Some-least_dependent.holder.line) } ∷ [] = rw c.reserve.ensures.lines at c.note-in-Some-least_dependent.ensures.lines in
@@ -39,6 +33,12 @@ returns-in-Some-least_dependent g c =
     let room = c.note-in-Some-least_dependent.ensures.room in
     let least = c.in-Some-least_dependent.ensures.found in
     rw (← c.self.view_is) (refused (view_of c.self.inside.set c.self.inside.history) (view_of c.self.inside.set c.note-in-Some-least_dependent.new.self) (Undo c.args.id.line) (reply.Held c.in-Some-least_dependent.holder.line) refl lines (omega (arith, more, room)) (subst (λ (l : ℕ). (st : State) → IsAt (view_of c.self.inside.set c.self.inside.history) st → Answers c.self.inside.set.start st (Undo l) (reply.Held c.in-Some-least_dependent.holder.line) (noted st)) in_line (held_answer (view_of c.self.inside.set c.self.inside.history) c.in-Some.standing c.in-Some-least_dependent.holder c.in-Some-least_dependent.ensures.found)), (least.holder, least.holder_there, least.holder_id))
+
+pub invariant_of-self-in-Some-least_dependent : goal.invariant_of-self-in-Some-least_dependent
+invariant_of-self-in-Some-least_dependent g c =
+    let lines : c.note-in-Some-least_dependent.new.self.lines ≡ c.self.inside.history.lines ++ record { call = Undo c.args.id.line; reply = (reply.Held c.in-Some-least_dependent.holder.line) } ∷ [] = rw c.reserve.ensures.lines at c.note-in-Some-least_dependent.ensures.lines in
+    let in_line : c.in-Some.standing.line ≡ c.args.id.line = c.in-Some.ensures.found.3 in
+    refused_running (view_of c.self.inside.set c.self.inside.history) (view_of c.self.inside.set c.note-in-Some-least_dependent.new.self) (Undo c.args.id.line) (reply.Held c.in-Some-least_dependent.holder.line) c.self.invariant refl lines c.note-in-Some-least_dependent.ensures.few (subst (λ (l : ℕ). (st : State) → IsAt (view_of c.self.inside.set c.self.inside.history) st → Answers c.self.inside.set.start st (Undo l) (reply.Held c.in-Some-least_dependent.holder.line) (noted st)) in_line (held_answer (view_of c.self.inside.set c.self.inside.history) c.in-Some.standing c.in-Some-least_dependent.holder c.in-Some-least_dependent.ensures.found))
 
 pub invariant_of-self-in-None : goal.invariant_of-self-in-None
 invariant_of-self-in-None g c =

@@ -13,8 +13,10 @@ pub returns-in_err-causes-clause-unchanged : goal.returns-in_err-causes-clause-u
 returns-in_err-causes-clause-unchanged g c = at_error _ (same_self _)
 
 pub rank_over-requires : goal.rank_over-requires
-rank_over-requires g c =
-    ranks_fit c.args.self.now (subst IsStandingSet c.self.view_is c.self.invariant.set) c.requires.few_events
+rank_over-requires g c = record {
+  low = ranks_fit c.args.self.now (subst IsStandingSet c.self.view_is c.self.invariant.set) c.requires.few_events;
+  standing = λ d i. (let y = c.in_ok-causes.ensures.only d (rw c.deref.ensures.value at i) in (y.0, y.1, y.2));
+}
 
 pub returns-in_err-rank-clause-unchanged : goal.returns-in_err-rank-clause-unchanged
 returns-in_err-rank-clause-unchanged g c = at_error _ (same_self _)
@@ -69,7 +71,7 @@ invariant_of-self-in-Ok g c =
     put_keeps v c.args.self.now c.self.view_is ls kept c.self.invariant c.args.event.now c.args.pair c.requires.active c.args.line c.requires.new_line
     _ c.in_ok-children.ensures c.in_ok-born.born.items _ c.in_ok-born.ensures.entered c.lawful-2.ensures
     c.in_ok-rank.rank c.in_ok-causes.causes.items c.in_ok-causes.ensures over
-    c.in-Ok.id c.in-Ok.ensures.put.0 _ _ _ c.lawful-in-Ok.ensures puts
+    c.in-Ok.id c.in-Ok.ensures.put.0 _ _ _ c.lawful-in-Ok.ensures puts c.requires.shallow
 
 pub returns-in-Ok-clause-admitted : goal.returns-in-Ok-clause-admitted
 returns-in-Ok-clause-admitted g c =

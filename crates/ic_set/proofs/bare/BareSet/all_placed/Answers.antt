@@ -1,9 +1,15 @@
 use Rattle.std.proofs.lemmas.Result.{IfOk-weaker}
-use Rattle.ic_set.proofs.OrderedIds.{ids_once, any_of_all, placed_so}
+use Rattle.ic_set.specs.Views.{SetView}
+use Rattle.ic_set.proofs.OrderedIds.{ids_once, ids_stand, any_of_all, placed_so}
 use Rattle.ic_set.proofs.bare.BareSet.all_placed.Goals as goal
 
 pub in_order-requires : goal.in_order-requires
-in_order-requires g c = rw c.deref.ensures.value (ids_once _ _ c.self.invariant.set.own_lines c.in_ok-ids.ensures)
+in_order-requires g c =
+    let v : SetView = record { start = c.self.inside.start; agents = c.self.inside.agents; events = c.self.inside.events } in
+    rw c.deref.ensures.value (record {
+      once = ids_once _ _ c.self.invariant.set.own_lines c.in_ok-ids.ensures;
+      standing = rw (← c.self.view_is) (ids_stand v _ c.in_ok-ids.ensures);
+    })
 
 pub returns : goal.returns
 returns g c =

@@ -4,7 +4,17 @@ use Rattle.ic_set.specs.Removal.{Stands}
 use Rattle.ic_set.specs.Views.{SetView}
 use Rattle.ic_path.specs.Orders.{IsIn}
 use Rattle.ic_set.proofs.OrderedIds.{ids_in_order, placed_so, dependents_of}
+use Rattle.ic_set.proofs.LeastDependents.{dependents_stand}
 use Rattle.ic_set.proofs.bare.BareSet.dependents.Goals as goal
+
+pub in_order-requires : goal.in_order-requires
+in_order-requires g c =
+    let v : SetView = record { start = c.self.inside.start; agents = c.self.inside.agents; events = c.self.inside.events } in
+    let stands : Stands v c.args.id = rw (← c.self.view_is) at c.requires in
+    record {
+      once = c.dependents.ensures.once;
+      standing = rw (← c.self.view_is) (dependents_stand v _ _ c.self.invariant _ stands _ c.dependents.ensures);
+    }
 
 pub returns : goal.returns
 returns g c =

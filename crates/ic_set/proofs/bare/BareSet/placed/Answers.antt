@@ -3,7 +3,14 @@ use Rattle.std.proofs.lemmas.List.{take_more, map-append}
 use Rattle.std.proofs.lemmas.List.Elements.{All-push}
 use Rattle.ic_name.specs.declared.ids.EventId.{EventId}
 use Rattle.ic_set.specs.Placed.{IsPlaced}
+use Rattle.ic_set.proofs.InPlace.{in_at}
 use Rattle.ic_set.proofs.bare.BareSet.placed.Goals as goal
+
+pub unreachable-requires : goal.unreachable-requires
+unreachable-requires g c =
+    let none : EventId = record { slot = 0; line = 0 } in
+    let stands = rw (← c.self.view_is) at (c.requires _ (in_at c.args.ids.now c.loop-id.id-index none c.loop-id-test.true)) in
+    c.in_default.ensures.absent stands.0 stands.1 stands.2
 
 pub loop-id-preserved : goal.loop-id-preserved
 loop-id-preserved g c =

@@ -6,6 +6,7 @@ use Rattle.ic_cause.specs.Ranks.{IsRankAbove}
 use Rattle.ic_roster.specs.Rosters.{Stander, HaveOwnLines}
 use Rattle.ic_set.specs.Views.{SetView}
 use Rattle.ic_set.proofs.CauseRanks.{AreRanksOf, no_ranks, rank_more, low_ranks, rank_over}
+use Rattle.ic_set.proofs.InPlace.{in_at}
 use Rattle.ic_set.proofs.bare.BareSet.rank_over.Goals as goal
 
 pub loop-cause-init : goal.loop-cause-init
@@ -22,8 +23,14 @@ loop-cause-preserved g c =
     let more = rank_more c.args.self.now.events (take i ids) c.loop-cause.ranks.items x c.loop-cause.invariant there in
     rw (take_more ids i none c.loop-cause-test.true, c.in_ok-push.ensures.items) more
 
+pub unreachable-requires : goal.unreachable-requires
+unreachable-requires g c =
+    let none : EventId = record { slot = 0; line = 0 } in
+    let stands = rw (← c.self.view_is) at (c.requires.standing _ (in_at c.args.causes.now c.loop-cause.cause-index none c.loop-cause-test.true)) in
+    c.in_default.ensures.absent stands.0 stands.1 stands.2
+
 pub rank_of-requires : goal.rank_of-requires
-rank_of-requires g c = rw c.deref.ensures.value (low_ranks c.args.self.now.events _ _ c.loop-cause.invariant c.requires)
+rank_of-requires g c = rw c.deref.ensures.value (low_ranks c.args.self.now.events _ _ c.loop-cause.invariant c.requires.low)
 
 pub returns : goal.returns
 returns g c =

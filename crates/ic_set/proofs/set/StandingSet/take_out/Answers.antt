@@ -12,6 +12,13 @@ invariant_of-self g c =
     let some : None ≡ Some stands.0.event.lead = c.in_default.ensures.lead stands.0 stands.1 stands.2 in
     absurd cc
 
+pub put-requires : goal.put-requires
+put-requires g c =
+    let stands : Stands c.self.inside.bare c.args.id = rw c.self.view_is c.requires.standing in
+    let one = one_less c.self.inside.bare c.take_out.new.self c.lawful.ensures c.lawful-2.ensures c.args.id c.take_out.ensures.out stands.0 stands.1 stands.2 in
+    let room = c.self.invariant.room in
+    record { room = omega (arith, one, room) }
+
 pub drop_stale-requires : goal.drop_stale-requires
 drop_stale-requires g c =
     let stands : Stands c.self.inside.bare c.args.id = rw c.self.view_is c.requires.standing in

@@ -12,7 +12,7 @@ pub make-requires : goal.make-requires
 make-requires c =
     let s = state_of c.args.self in
     let rest : is_at_rest s.stack s.side ≡ true =
-    rests c.args.self.stack.items _ s.side c.args.self.stack.ok.0 (sym c.is_empty.ensures ∙ c.if-not-is_empty.false) (sym c.is_left.ensures ∙ c.if-not-is_left.false) in
+    rests c.args.self.stack.items _ s.side c.args.self.stack.ok.0 (sym c.is_empty.ensures ∙ c.if-not-is_empty.false) (sym c.is_at_rest.ensures ∙ c.if-not-is_at_rest.false) in
     let none : option_map first_of (find is_reserved_free s.seen) ≡ None = sym c.reserved.ensures ∙ c.in_default.is in
     let few : count_by is_free s.seen ≤ MAX_FREE_NAMES = omega (arith, c.free.ensures, c.if-free-gt-MAX_FREE_NAMES.false) in
     let joins = c.into_vec-links.ensures.joins in
@@ -24,7 +24,7 @@ pub returns : goal.returns
 returns c =
     let s = state_of c.args.self in
     let rest : is_at_rest s.stack s.side ≡ true =
-    rests c.args.self.stack.items _ s.side c.args.self.stack.ok.0 (sym c.is_empty.ensures ∙ c.if-not-is_empty.false) (sym c.is_left.ensures ∙ c.if-not-is_left.false) in
+    rests c.args.self.stack.items _ s.side c.args.self.stack.ok.0 (sym c.is_empty.ensures ∙ c.if-not-is_empty.false) (sym c.is_at_rest.ensures ∙ c.if-not-is_at_rest.false) in
     let none : option_map first_of (find is_reserved_free s.seen) ≡ None = sym c.reserved.ensures ∙ c.in_default.is in
     let few : count_by is_free s.seen ≤ MAX_FREE_NAMES = omega (arith, c.free.ensures, c.if-free-gt-MAX_FREE_NAMES.false) in
     let joins = c.into_vec-links.ensures.joins in

@@ -1,0 +1,41 @@
+-- Lists in strict order that have the same elements are one.
+use Rattle.std.proofs.Common.{◌≡◌, List, [], ◌∷◌, ◌⊎◌, inl, inr, refl, sym, subst}
+use Rattle.std.specs.Cmp.{IsTotalOrder}
+use Rattle.std.specs.List.{AllByRecursion}
+use Rattle.std.specs.List.Sorted.{IsStrictlySortedBy}
+use Rattle.std.specs.Ordering.{ordering_reverse}
+use Rattle.std.specs.declared.cmp.Ordering.{Ordering}
+use Rattle.std.specs.declared.cmp.Ordering.TheVariants.{Less, Equal, Greater}
+use Rattle.ic_path.specs.Orders.{Pick, here, there, Alike, IsIn}
+use Rattle.ic_path.proofs.Alikes.{alike_back, alike-in, alike-cancel}
+use Rattle.ic_path.proofs.Picks.{none_in, in_first, in-cons_cases}
+
+-- what holds of all holds of each
+all_at : {X : Type 0} (P : X → Type 0) {x : X} {xs rest : List X} → AllByRecursion P xs → Pick x xs rest → P x
+all_at P all here = all.0
+all_at P all (there k) = all_at P all.1 k
+
+-- no two are less than one another
+never_both : (a b : Ordering) → a ≡ ordering_reverse b → a ≡ Less → b ≡ Less → ⊥
+never_both Less Less r h k = cc
+never_both Less Equal r h k = cc
+never_both Less Greater r h k = cc
+never_both Equal b r h k = cc
+never_both Greater b r h k = cc
+
+module _ {K : Type 0} {cmp : K → K → Ordering} (total : IsTotalOrder cmp) where
+  -- two lists in strict order with the same elements are one
+  pub sorted_same : (xs ys : List K) → Alike xs ys → IsStrictlySortedBy cmp xs → IsStrictlySortedBy cmp ys → xs ≡ ys
+  unfolding IsStrictlySortedBy
+  sorted_same [] [] a h k = refl
+  sorted_same [] (y ∷ ys) a h k = absurd (none_in (alike-in (alike_back a) (in_first y ys)))
+  sorted_same (x ∷ xs) [] a h k = absurd (none_in (alike-in a (in_first x xs)))
+  sorted_same (x ∷ xs) (y ∷ ys) a h k = by (in-cons_cases (alike-in a (in_first x xs))) (in-cons_cases (alike-in (alike_back a) (in_first y ys))) (λ b. sorted_same xs ys b h.1 k.1)
+    where
+      same_first : x ≡ y → (Alike xs ys → xs ≡ ys) → x ∷ xs ≡ y ∷ ys
+      same_first e rec = let r = rec (alike-cancel (subst (λ z. Alike (z ∷ xs) (y ∷ ys)) e a)) in λ i. e i ∷ r i
+
+      by : (x ≡ y) ⊎ IsIn x ys → (y ≡ x) ⊎ IsIn y xs → (Alike xs ys → xs ≡ ys) → x ∷ xs ≡ y ∷ ys
+      by (inl e) q rec = same_first e rec
+      by (inr i) (inl e) rec = same_first (sym e) rec
+      by (inr i) (inr j) rec = absurd (never_both _ _ (total.antisymm x y) (all_at (λ z. cmp x z ≡ Less) h.0 j.1) (all_at (λ z. cmp y z ≡ Less) k.0 i.1))
