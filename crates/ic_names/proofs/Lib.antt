@@ -1,0 +1,10 @@
+pub mod Fronts
+pub mod KeyOrders
+pub mod RowNames
+pub mod RowReads
+pub mod Grown
+pub mod GrownRows
+pub mod PutRows
+pub mod Fronted
+pub mod DigitOrders
+pub mod Growing

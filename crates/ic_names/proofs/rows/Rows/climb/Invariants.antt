@@ -1,0 +1,13 @@
+use Rattle.std.proofs.Common.{◌≡◌, ◌<◌, ◌++◌, length, reverse}
+use Rattle.ic_names.specs.Tables.{name_at}
+use Rattle.ic_names.proofs.rows.Rows.climb.Given as goal
+
+abbrev pub invariant-loop-number : goal.invariant-loop-number
+invariant-loop-number l = record {
+  inside : l.at < length l.self.names;
+  start : (name_at l.self.names l.at).start ≡ (name_at l.self.names l.place).start;
+  digits : (name_at l.self.names l.at).digits ++ reverse l.digits.items ≡ (name_at l.self.names l.place).digits;
+}
+
+abbrev pub decreases-loop-number : goal.decreases-loop-number
+decreases-loop-number l = l.at

@@ -1,0 +1,55 @@
+-- How a table of names is kept: an entry for each name, which says where it comes from.
+use Rattle.std.specs.Prelude.{◌≡◌, ℕ, ◌<◌, List, [], ◌∷◌, ◌++◌, length, Option, None, slice_index_or}
+use Rattle.ic_name.specs.Names.{Name, start_name, child_name}
+use Rattle.ic_names.specs.declared.entry.Origin.{Origin}
+use Rattle.ic_names.specs.declared.entry.Origin.TheVariants.{Start, Child}
+use Rattle.ic_names.specs.declared.entry.Entry.{Entry}
+use Rattle.ic_names.specs.Keys.{key_of}
+use Rattle.ic_names.specs.Tables.{name_at, IsPlaceOf, IsTable}
+
+-- the names, for how many further ones there is room, and for how many start numbers
+pub record RowsView : Type 0 where
+  pub names : List Name
+  pub room : ℕ
+  pub starts : ℕ
+
+-- the name of this origin, beside these names
+abbrev pub name_from : List Name → Origin → Name
+name_from ns (Start k) = start_name k
+name_from ns (Child d p) = child_name (name_at ns p) d
+
+-- the origin speaks of places before this one
+abbrev pub IsBefore : ℕ → Origin → Type 0
+IsBefore k (Start n) = Unit {0}
+IsBefore k (Child d p) = (p < k) × (d < 4)
+
+-- names, and behind them those of the entries, each of its origin
+abbrev pub names_with : List Name → List Entry → List Name
+names_with ns [] = ns
+names_with ns (e ∷ es) = names_with (ns ++ name_from ns e.origin ∷ []) es
+
+-- the names of the entries
+abbrev pub names_of : List Entry → List Name
+names_of es = names_with [] es
+
+-- the entry at a place
+abbrev pub entry_at : List Entry → ℕ → Entry
+entry_at es k = slice_index_or es k (record { key = record { 0 = 0 }; children = []; origin = Start 0 })
+
+-- where an entry says that a child stands
+abbrev pub child_at : List Entry → ℕ → ℕ → Option ℕ
+child_at es k d = slice_index_or (entry_at es k).children d None
+
+-- where the name of a start agent is said to stand
+abbrev pub start_at : List (Option ℕ) → ℕ → Option ℕ
+start_at ss k = slice_index_or ss k None
+
+-- the entries and the places of start agents say of the names what holds
+pub record AreRows (ns : List Name) (es : List Entry) (ss : List (Option ℕ)) : Type 0 where
+  pub table : IsTable ns
+  pub named : (k : ℕ) → k < length es → name_at ns k ≡ name_from ns (entry_at es k).origin
+  pub parents : (k : ℕ) → k < length es → IsBefore k (entry_at es k).origin
+  pub keys : (k : ℕ) → k < length es → (entry_at es k).key.0 ≡ key_of (name_at ns k)
+  pub four : (k : ℕ) → k < length es → length (entry_at es k).children ≡ 4
+  pub children : (k d : ℕ) → k < length es → d < 4 → IsPlaceOf ns (child_name (name_at ns k) d) (child_at es k d)
+  pub starts : (k : ℕ) → IsPlaceOf ns (start_name k) (start_at ss k)

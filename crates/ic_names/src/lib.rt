@@ -1,0 +1,11 @@
+// Names of agents as links in one table, in which each name stands once.
+#![tactic(auto)]
+
+mod entry;
+mod key;
+pub mod laws;
+mod place;
+mod rows;
+pub mod table;
+
+pub use table::{NameId, NameTable};

@@ -1,0 +1,280 @@
+ghost use Rattle.std.specs.Prelude.{◌≡◌, ◌+◌, ◌<◌, ◌≤◌, ◌^◌, ◌++◌, ◌∷◌, [], length, reverse, Some, None, IfOk, OnOk, OnErr};
+ghost use Rattle.std.specs.Ordering.{nat_cmp};
+ghost use Rattle.std.specs.Cmp.Lexicographic.{slice_cmp};
+ghost use Rattle.ic_name.specs.Names.{depth as depth_of, start_name, child_name};
+ghost use Rattle.ic_names.specs.Keys.{key_of};
+ghost use Rattle.ic_names.specs.Tables.{name_at, StandsAt, IsAbsent, IsPlaceOf, IsTable, Enters, GrowsUpTo};
+ghost use Rattle.ic_names.specs.Rows.{name_from, IsBefore};
+
+use crate::entry::{Entry, Origin};
+use crate::key::NameKey;
+use crate::place::OptionalPlace;
+use ic_name::AgentName;
+use ic_name::limits::{MAX_DEPTH, MAX_START_AGENTS};
+use std::alloc::{AllocError, Global};
+use std::cmp::Ordering;
+use std::marker::Model;
+
+/// The names of a table with the room that there is for more.
+#[derive(Drop)]
+pub struct Rows {
+    entries: Vec<Entry>,
+    starts: Vec<OptionalPlace>,
+}
+
+impl Model for Rows {
+    ghost use Rattle.std.specs.Prelude.{length, vec_len, vec_capacity, ◌-◌};
+    ghost use Rattle.ic_names.specs.Rows.{RowsView, AreRows, names_of};
+
+    ghost Value = { RowsView };
+
+    ghost view = { λ r. record { names = names_of r.entries.items; room = vec_capacity r.entries - vec_len r.entries; starts = length r.starts.items } };
+
+    ghost invariant = { λ r. AreRows (names_of r.entries.items) r.entries.items r.starts.items };
+}
+
+impl Rows {
+    /// No names. It takes no memory yet.
+    pub fn new(alloc: Global) -> Rows
+        ensures { result.names ≡ [] }
+    {
+        Rows {
+            entries: Vec::new(alloc),
+            starts: Vec::new(alloc),
+        }
+    }
+
+    /// What holds of every table, for whoever has to show it.
+    pub fn lawful(&self)
+        ensures { IsTable self.now.names }
+    {
+        let _ = &self.entries;
+    }
+
+    /// The number of names.
+    pub fn len(&self) -> usize
+        ensures { result ≡ length self.now.names }
+    {
+        self.entries.len()
+    }
+
+    /// The allocator.
+    pub fn alloc(&self) -> Global {
+        *self.entries.allocator()
+    }
+
+    /// Where the name of the start agent of this number stands.
+    pub fn start(&self, number: u16) -> Option<u32>
+        ensures { IsPlaceOf self.now.names (start_name number) result }
+    {
+        self.starts.get(usize::from(number))?.get()
+    }
+
+    /// Where the child with this digit stands.
+    pub fn child(&self, place: u32, digit: u8) -> Option<u32>
+        requires inside { place < length self.now.names }
+        requires small { digit < 4 }
+        ensures { IsPlaceOf self.now.names (child_name (name_at self.now.names place) digit) result }
+    {
+        self.entries[place as usize].children[usize::from(digit)].get()
+    }
+
+    /// The key of the name at a place.
+    pub fn key(&self, place: u32) -> NameKey
+        requires { place < length self.now.names }
+        ensures { result.0 ≡ key_of (name_at self.now.names place) }
+    {
+        self.entries[place as usize].key
+    }
+
+    /// Where the name at a place comes from.
+    pub fn origin(&self, place: u32) -> Origin
+        requires { place < length self.now.names }
+        ensures named { name_at self.now.names place ≡ name_from self.now.names result }
+        ensures before { IsBefore place result }
+    {
+        self.entries[place as usize].origin
+    }
+
+    /// The order of the digits of two names of one depth, in time that grows as the depth at most. It takes no memory.
+    pub fn digit_order(&self, a: u32, b: u32) -> Ordering
+        requires left { a < length self.now.names }
+        requires right { b < length self.now.names }
+        requires depth { depth_of (name_at self.now.names a) ≡ depth_of (name_at self.now.names b) }
+        ensures { result ≡ slice_cmp nat_cmp (name_at self.now.names a).digits (name_at self.now.names b).digits }
+    {
+        let mut order = Ordering::Equal;
+        let mut left = a;
+        let mut right = b;
+        while left != right {
+            let Origin::Child { digit, parent } = self.origin(left) else {
+                return order;
+            };
+            let Origin::Child {
+                digit: other,
+                parent: other_parent,
+            } = self.origin(right)
+            else {
+                return order;
+            };
+            order = digit.cmp(&other).then(order);
+            left = parent;
+            right = other_parent;
+        }
+        order
+    }
+
+    /// Makes room for so many further names. It is an error where memory runs out, or where there would be more names
+    /// than places in four bytes. The names stay as they are.
+    pub fn reserve(&mut self, names: usize) -> Result<(), AllocError>
+        ensures same { self.new.names ≡ self.old.names }
+        ensures starts { self.new.starts ≡ self.old.starts }
+        ensures reserved { OnOk result (names ≤ self.new.room) }
+        ensures few { OnOk result (length self.old.names + names < 2 ^ 32) }
+    {
+        if names > u32::MAX as usize - self.entries.len() {
+            return Err(AllocError);
+        }
+        self.entries.reserve(names)
+    }
+
+    /// Makes room for the place of the start agent of this number. The names stay as they are.
+    pub fn reserve_start(&mut self, number: u16) -> Result<(), AllocError>
+        ensures same { self.new.names ≡ self.old.names }
+        ensures room { self.new.room ≡ self.old.room }
+        ensures reserved { OnOk result (number < self.new.starts) }
+    {
+        let starts = usize::from(number) + 1;
+        if starts <= self.starts.len() {
+            return Ok(());
+        }
+        self.starts.resize(starts, OptionalPlace::none())
+    }
+
+    /// The name of a start agent behind the others, in the room there is. It takes no memory.
+    pub fn put_start(&mut self, number: u16) -> u32
+        requires proper { number < MAX_START_AGENTS }
+        requires absent { IsAbsent self.old.names (start_name number) }
+        requires room { 0 < self.old.room }
+        requires few { length self.old.names + 1 < 2 ^ 32 }
+        requires reserved { number < self.old.starts }
+        ensures names { self.new.names ≡ self.old.names ++ start_name number ∷ [] }
+        ensures place { result ≡ length self.old.names }
+        ensures room { self.old.room ≤ self.new.room + 1 }
+    {
+        let place = self.entries.len() as u32;
+        let entry = Entry::new(NameKey::start(number), Origin::Start(number));
+        let Ok(_) = self.entries.push(entry) else {
+            unreachable!()
+        };
+        self.starts[usize::from(number)] = OptionalPlace::some(place);
+        place
+    }
+
+    /// The name of a child behind the others, in the room there is. It takes no memory.
+    pub fn put_child(&mut self, parent: u32, digit: u8) -> u32
+        requires inside { parent < length self.old.names }
+        requires small { digit < 4 }
+        requires shallow { depth_of (name_at self.old.names parent) < MAX_DEPTH }
+        requires absent { IsAbsent self.old.names (child_name (name_at self.old.names parent) digit) }
+        requires room { 0 < self.old.room }
+        requires few { length self.old.names + 1 < 2 ^ 32 }
+        ensures names { self.new.names ≡ self.old.names ++ child_name (name_at self.old.names parent) digit ∷ [] }
+        ensures place { result ≡ length self.old.names }
+        ensures room { self.old.room ≤ self.new.room + 1 }
+    {
+        let place = self.entries.len() as u32;
+        let key = self.entries[parent as usize].key.child(digit);
+        let entry = Entry::new(key, Origin::Child { digit, parent });
+        let Ok(_) = self.entries.push(entry) else {
+            unreachable!()
+        };
+        let entry = &mut self.entries[parent as usize];
+        entry.children[usize::from(digit)] = OptionalPlace::some(place);
+        place
+    }
+
+    /// The name of a start agent, entered where it wasn't there, in the room there is. It takes no memory.
+    pub fn enter_start(&mut self, number: u16) -> u32
+        requires proper { number < MAX_START_AGENTS }
+        requires room { 0 < self.old.room }
+        requires few { length self.old.names + 1 < 2 ^ 32 }
+        requires reserved { number < self.old.starts }
+        ensures entered { StandsAt self.new.names (start_name number) result }
+        ensures grown { Enters self.old.names (start_name number) self.new.names }
+        ensures room { self.old.room ≤ self.new.room + 1 }
+    {
+        if let Some(place) = self.start(number) {
+            return place;
+        }
+        self.put_start(number)
+    }
+
+    /// The name of a child, entered where it wasn't there, in the room there is. It takes no memory.
+    pub fn enter_child(&mut self, parent: u32, digit: u8) -> u32
+        requires inside { parent < length self.old.names }
+        requires small { digit < 4 }
+        requires shallow { depth_of (name_at self.old.names parent) < MAX_DEPTH }
+        requires room { 0 < self.old.room }
+        requires few { length self.old.names + 1 < 2 ^ 32 }
+        ensures entered { StandsAt self.new.names (child_name (name_at self.old.names parent) digit) result }
+        ensures grown { Enters self.old.names (child_name (name_at self.old.names parent) digit) self.new.names }
+        ensures room { self.old.room ≤ self.new.room + 1 }
+    {
+        if let Some(place) = self.child(parent, digit) {
+            return place;
+        }
+        self.put_child(parent, digit)
+    }
+
+    /// The name, entered with its ancestors where they weren't there, in the room there is. It takes no memory.
+    pub fn enter(&mut self, name: &AgentName) -> u32
+        requires room { depth_of name.now < self.old.room }
+        requires few { length self.old.names + depth_of name.now + 1 < 2 ^ 32 }
+        requires reserved { name.now.start < self.old.starts }
+        ensures entered { StandsAt self.new.names name.now result }
+        ensures grown { GrowsUpTo self.old.names name.now self.new.names }
+    {
+        name.lawful();
+        let mut place = self.enter_start(name.start_number());
+        let digits = name.digits();
+        for digit in digits {
+            place = self.enter_child(place, *digit);
+        }
+        place
+    }
+
+    /// The name at a place, in time that grows as its depth.
+    pub fn name(&self, place: u32) -> Result<AgentName, AllocError>
+        requires { place < length self.now.names }
+        ensures { IfOk result (λ name. name ≡ name_at self.now.names place) }
+    {
+        self.lawful();
+        let (start, mut digits) = self.climb(place)?;
+        let Some(mut name) = AgentName::start(self.alloc(), start) else {
+            unreachable!()
+        };
+        while let Some(digit) = digits.pop() {
+            name = name.into_child(digit)?;
+        }
+        Ok(name)
+    }
+
+    /// The start number of the name at a place, and its digits, the last one first.
+    fn climb(&self, place: u32) -> Result<(u16, Vec<u8>), AllocError>
+        requires { place < length self.now.names }
+        ensures { IfOk result (λ r. name_at self.now.names place ≡ record { start = r.0; digits = reverse r.1.items }) }
+    {
+        let mut digits = Vec::new(self.alloc());
+        let mut at = place;
+        loop {
+            match self.origin(at) {
+                Origin::Start(number) => return Ok((number, digits)),
+                Origin::Child { digit, parent } => {
+                    digits.push(digit)?;
+                    at = parent;
+                }
+            }
+        }
+    }
+}

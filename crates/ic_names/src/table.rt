@@ -1,0 +1,174 @@
+ghost use Rattle.std.specs.Prelude.{◌≡◌, ◌<◌, ◌↔◌, ◌++◌, ◌∷◌, [], length, slice_get, Some, None, IsTrue, IfSome, IfNone, IfOk, IsErrOf, OnErr};
+ghost use Rattle.ic_name.specs.Names.{depth as depth_of, name_cmp, child_name};
+ghost use Rattle.ic_names.specs.Tables.{name_at, StandsAt, IsAbsent, IsTable, Enters, GrowsUpTo};
+
+use crate::rows::Rows;
+use ic_name::limits::MAX_DEPTH;
+use ic_name::{AgentName, ChildFault};
+use std::alloc::{AllocError, Global};
+use std::cmp::Ordering;
+use std::marker::Model;
+
+/// The place of a name in its table. The names of a table are numbered from 0 on, in the order in which they were
+/// entered.
+#[derive(Clone, Copy, Debug, PartialEq, Eq)]
+pub struct NameId {
+    pub place: u32,
+}
+
+/// Names of agents, each under its place: a list that only grows, in which each name stands once.
+///
+/// A name is kept as a link to its parent and takes 32 bytes, however many digits it has. So it can be found, compared
+/// and extended without a copy of its digits.
+#[derive(Drop)]
+pub struct NameTable {
+    rows: Rows,
+}
+
+impl Model for NameTable {
+    ghost use Rattle.std.specs.Prelude.{List};
+    ghost use Rattle.ic_name.specs.Names.{Name};
+
+    ghost Value = { List Name };
+
+    ghost view = { λ t. t.rows.names };
+}
+
+impl NameTable {
+    /// No names. It takes no memory yet.
+    pub fn new(alloc: Global) -> NameTable
+        ensures { result ≡ [] }
+    {
+        NameTable {
+            rows: Rows::new(alloc),
+        }
+    }
+
+    /// What holds of every table, for whoever has to show it.
+    pub fn lawful(&self)
+        ensures { IsTable self.now }
+    {
+        self.rows.lawful();
+    }
+
+    /// The number of names.
+    pub fn len(&self) -> usize
+        ensures { result ≡ length self.now }
+    {
+        self.rows.len()
+    }
+
+    /// The number of digits of the name at a place, in constant time. It takes no memory.
+    pub fn depth(&self, id: NameId) -> usize
+        requires { id.place < length self.now }
+        ensures { result ≡ depth_of (name_at self.now id.place) }
+    {
+        self.rows.lawful();
+        self.rows.key(id.place).depth() as usize
+    }
+
+    /// Where the child with this digit stands, in constant time; `None` where it isn't there. It takes no memory.
+    pub fn child(&self, parent: NameId, digit: u8) -> Option<NameId>
+        requires inside { parent.place < length self.now }
+        requires small { digit < 4 }
+        ensures found { IfSome result (λ id. StandsAt self.now (child_name (name_at self.now parent.place) digit) id.place) }
+        ensures absent { IfNone result (IsAbsent self.now (child_name (name_at self.now parent.place) digit)) }
+    {
+        let place = self.rows.child(parent.place, digit)?;
+        Some(NameId { place })
+    }
+
+    /// The place of the name, which is entered with its ancestors where they weren't there, in time that grows as its depth
+    /// but for the growth of the table. It is an error where memory runs out, or where the table has fewer than `depth + 1`
+    /// places left of the 2^32 - 1 that there are. All memory is taken before anything changes, so at an error nothing
+    /// changes.
+    pub fn enter(&mut self, name: &AgentName) -> Result<NameId, AllocError>
+        ensures entered { IfOk result (λ id. StandsAt self.new name.now id.place) }
+        ensures grown { IfOk result (λ id. GrowsUpTo self.old name.now self.new) }
+        ensures unchanged { OnErr result (self.new ≡ self.old) }
+    {
+        self.rows.reserve(name.depth() + 1)?;
+        self.rows.reserve_start(name.start_number())?;
+        let place = self.rows.enter(name);
+        Ok(NameId { place })
+    }
+
+    /// The place of the child with this digit, which is entered where it wasn't there, in constant time but for the
+    /// growth of the table. It is `Deep` where the parent has `MAX_DEPTH` digits, and only there, and `Memory` where
+    /// memory runs out or there would be 2^32 names. At an error nothing changes.
+    pub fn enter_child(&mut self, parent: NameId, digit: u8) -> Result<NameId, ChildFault>
+        requires inside { parent.place < length self.old }
+        requires small { digit < 4 }
+        ensures entered { IfOk result (λ id. StandsAt self.new (child_name (name_at self.old parent.place) digit) id.place) }
+        ensures grown { IfOk result (λ id. Enters self.old (child_name (name_at self.old parent.place) digit) self.new) }
+        ensures deep { IsErrOf result ChildFault.Deep ↔ (depth_of (name_at self.old parent.place) ≡ MAX_DEPTH) }
+        ensures unchanged { OnErr result (self.new ≡ self.old) }
+    {
+        self.rows.lawful();
+        if let Some(place) = self.rows.child(parent.place, digit) {
+            return Ok(NameId { place });
+        }
+        if self.rows.key(parent.place).depth() as usize == MAX_DEPTH {
+            return Err(ChildFault::Deep);
+        }
+        self.rows.reserve(1).map_err(|_| ChildFault::Memory)?;
+        let place = self.rows.put_child(parent.place, digit);
+        Ok(NameId { place })
+    }
+
+    /// Where the name stands, in time that grows as its depth; `None` where it isn't there. It takes no memory.
+    pub fn find(&self, name: &AgentName) -> Option<NameId>
+        ensures found { IfSome result (λ id. StandsAt self.now name.now id.place) }
+        ensures absent { IfNone result (IsAbsent self.now name.now) }
+    {
+        name.lawful();
+        self.rows.lawful();
+        let mut place = self.rows.start(name.start_number())?;
+        let digits = name.digits();
+        for digit in digits {
+            place = self.rows.child(place, *digit)?;
+        }
+        Some(NameId { place })
+    }
+
+    /// Whether the place is of the table and its name is this one, in time that grows as the depth. It takes no memory.
+    pub fn is(&self, id: NameId, name: &AgentName) -> bool
+        ensures { IsTrue result ↔ StandsAt self.now name.now id.place }
+    {
+        self.rows.lawful();
+        match self.find(name) {
+            Some(found) => found.place == id.place,
+            None => false,
+        }
+    }
+
+    /// The name at a place, in time that grows as its depth; `None` where the place isn't of the table, and only there.
+    pub fn name(&self, id: NameId) -> Result<Option<AgentName>, AllocError>
+        ensures { IfOk result (λ name. name ≡ slice_get self.now id.place) }
+    {
+        if id.place as usize >= self.rows.len() {
+            return Ok(None);
+        }
+        let name = self.rows.name(id.place)?;
+        Ok(Some(name))
+    }
+
+    /// The order of the names at two places. It takes no memory, and constant time for names that differ in depth, in start
+    /// number or in one of the first 17 digits; for others time that grows as the depth at most.
+    pub fn cmp(&self, a: NameId, b: NameId) -> Ordering
+        requires left { a.place < length self.now }
+        requires right { b.place < length self.now }
+        ensures { result ≡ name_cmp (name_at self.now a.place) (name_at self.now b.place) }
+    {
+        self.rows.lawful();
+        let left = self.rows.key(a.place).number();
+        let right = self.rows.key(b.place).number();
+        if left < right {
+            return Ordering::Less;
+        }
+        if right < left {
+            return Ordering::Greater;
+        }
+        self.rows.digit_order(a.place, b.place)
+    }
+}

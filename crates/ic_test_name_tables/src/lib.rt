@@ -1,0 +1,5 @@
+// Tests of public calls: tables of names.
+#![tactic(auto)]
+
+#[cfg(test)]
+mod tables;

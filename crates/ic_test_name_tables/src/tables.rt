@@ -1,0 +1,194 @@
+ghost use Rattle.std.specs.Prelude.{◌<◌};
+
+use ic_name::limits::MAX_DEPTH;
+use ic_name::{AgentName, ChildFault};
+use ic_names::{NameId, NameTable};
+use std::alloc::Global;
+use std::test::Fail;
+
+/// The deepest descendant of start agent 7 by children 2.
+fn deepest_name(alloc: Global) -> Option<AgentName> {
+    let mut name = AgentName::start(alloc, 7)?;
+    for _ in 0..MAX_DEPTH {
+        let Ok(child) = name.child(2) else {
+            return None;
+        };
+        name = child;
+    }
+    Some(name)
+}
+
+/// Texts of names of several depths, of which many share their first 17 digits.
+const NAMES: [&[u8]; 20] = [
+    b"0",
+    b"7",
+    b"65534",
+    b"0.0",
+    b"0.3",
+    b"7.0",
+    b"7.1.2",
+    b"12.3.0",
+    b"7.1.2.3.0.1.2.3.0.1.2.3.0.1.2.3.0",
+    b"7.1.2.3.0.1.2.3.0.1.2.3.0.1.2.3.0.1",
+    b"7.1.2.3.0.1.2.3.0.1.2.3.0.1.2.3.0.2",
+    b"8.1.2.3.0.1.2.3.0.1.2.3.0.1.2.3.0.1",
+    b"7.1.2.3.0.1.2.3.0.1.2.3.0.1.2.3.0.1.0",
+    b"7.1.2.3.0.1.2.3.0.1.2.3.0.1.2.3.0.1.3",
+    b"8.1.2.3.0.1.2.3.0.1.2.3.0.1.2.3.0.1.2",
+    b"7.1.2.3.0.1.2.3.0.1.2.3.0.1.2.3.0.1.0.3",
+    b"7.1.2.3.0.1.2.3.0.1.2.3.0.1.2.3.0.1.1.0",
+    b"7.1.2.3.0.1.2.3.0.1.2.3.0.1.2.3.0.1.1.2",
+    b"7.1.2.3.0.1.2.3.0.1.2.3.0.1.2.3.0.2.0.0",
+    b"8.1.2.3.0.1.2.3.0.1.2.3.0.1.2.3.0.1.1.1",
+];
+
+/// Where the name that a text writes is entered.
+fn entered(alloc: Global, table: &mut NameTable, text: &[u8]) -> Option<NameId> {
+    let name = AgentName::read(alloc, text).ok()?;
+    table.enter(&name).ok()
+}
+
+/// A table of the names.
+fn table_of_names(alloc: Global) -> Option<NameTable> {
+    let mut table = NameTable::new(alloc);
+    for text in &NAMES {
+        entered(alloc, &mut table, text)?;
+    }
+    Some(table)
+}
+
+/// Whether the name that a text writes is there.
+fn is_found(alloc: Global, table: &NameTable, text: &[u8]) -> Option<bool> {
+    let name = AgentName::read(alloc, text).ok()?;
+    let id = table.find(&name)?;
+    Some(table.is(id, &name))
+}
+
+/// Whether a text is that of the name at the place where the name that it writes is found.
+fn is_read_back(alloc: Global, table: &NameTable, text: &[u8]) -> Option<bool> {
+    let name = AgentName::read(alloc, text).ok()?;
+    let id = table.find(&name)?;
+    let there = table.name(id).ok()?;
+    let found = there?;
+    let mut written = Vec::new(alloc);
+    found.write_to(&mut written).ok()?;
+    Some(written.as_slice() == text)
+}
+
+#[test]
+fn names_are_found_and_read_back(rt: HostRuntime) -> Result<(), Fail> {
+    let table = table_of_names(rt.alloc()).ok_or("a table")?;
+    for text in &NAMES {
+        assert_eq!(rt; is_found(rt.alloc(), &table, text), Some(true));
+        assert_eq!(rt; is_read_back(rt.alloc(), &table, text), Some(true));
+    }
+    assert_eq!(rt; is_found(rt.alloc(), &table, b"7.1.3"), None);
+    Ok(())
+}
+
+/// Whether the names that two texts write compare in the table as they do by themselves.
+fn compare_alike(alloc: Global, table: &NameTable, a: &[u8], b: &[u8]) -> Option<bool> {
+    let first = AgentName::read(alloc, a).ok()?;
+    let second = AgentName::read(alloc, b).ok()?;
+    let one = table.find(&first)?;
+    let other = table.find(&second)?;
+    Some(table.cmp(one, other) == first.cmp(&second))
+}
+
+#[test]
+fn names_compare_as_by_themselves(rt: HostRuntime) -> Result<(), Fail> {
+    let table = table_of_names(rt.alloc()).ok_or("a table")?;
+    for a in &NAMES {
+        for b in &NAMES {
+            assert_eq!(rt; compare_alike(rt.alloc(), &table, a, b), Some(true));
+        }
+    }
+    Ok(())
+}
+
+#[test]
+fn names_are_entered_once(rt: HostRuntime) -> Result<(), Fail> {
+    let mut table = table_of_names(rt.alloc()).ok_or("a table")?;
+    let names = table.len();
+    for text in &NAMES {
+        assert!(rt; entered(rt.alloc(), &mut table, text).is_some());
+    }
+    assert_eq!(rt; table.len(), names);
+    Ok(())
+}
+
+/// The place where the name that a text writes is entered.
+fn place(alloc: Global, table: &mut NameTable, text: &[u8]) -> Option<u32> {
+    Some(entered(alloc, table, text)?.place)
+}
+
+#[test]
+fn places_are_in_the_order_of_entering(rt: HostRuntime) {
+    let mut table = NameTable::new(rt.alloc());
+    assert_eq!(rt; place(rt.alloc(), &mut table, b"5.0.1"), Some(2));
+    assert_eq!(rt; place(rt.alloc(), &mut table, b"3"), Some(3));
+    assert_eq!(rt; place(rt.alloc(), &mut table, b"5.0"), Some(1));
+    assert_eq!(rt; place(rt.alloc(), &mut table, b"5.0.2"), Some(4));
+    assert_eq!(rt; table.len(), 5);
+}
+
+/// Whether no name is read at a place.
+fn has_no_name(table: &NameTable, place: u32) -> Option<bool> {
+    let name = table.name(NameId { place }).ok()?;
+    Some(name.is_none())
+}
+
+#[test]
+fn places_beyond_the_names_have_none(rt: HostRuntime) -> Result<(), Fail> {
+    let mut table = NameTable::new(rt.alloc());
+    assert_eq!(rt; has_no_name(&table, 0), Some(true));
+    assert_eq!(rt; place(rt.alloc(), &mut table, b"0.3"), Some(1));
+    assert_eq!(rt; has_no_name(&table, 1), Some(false));
+    assert_eq!(rt; has_no_name(&table, 2), Some(true));
+    Ok(())
+}
+
+/// Whether the child of agent 7 with a digit comes into the table, and is then the one that is found.
+fn child_comes(alloc: Global, table: &mut NameTable, digit: u8) -> Option<bool>
+    requires { digit < 4 }
+{
+    let name = AgentName::start(alloc, 7)?;
+    let child = name.child(digit).ok()?;
+    let Ok(parent) = table.enter(&name) else {
+        return None;
+    };
+    let absent = table.child(parent, digit).is_none();
+    let id = table.enter_child(parent, digit).ok()?;
+    Some(absent && table.find(&child) == Some(id))
+}
+
+#[test]
+fn children_come_once(rt: HostRuntime) {
+    let mut table = NameTable::new(rt.alloc());
+    for digit in 0..4 {
+        assert_eq!(rt; child_comes(rt.alloc(), &mut table, digit), Some(true));
+        assert_eq!(rt; child_comes(rt.alloc(), &mut table, digit), Some(false));
+    }
+    assert_eq!(rt; table.len(), 5);
+}
+
+/// The depth of a name in a table of its own, and why it has no child 0 there.
+fn depth_and_fault(alloc: Global, name: &AgentName) -> Option<(usize, ChildFault)> {
+    let mut table = NameTable::new(alloc);
+    let Ok(id) = table.enter(name) else {
+        return None;
+    };
+    let depth = table.depth(id);
+    let fault = table.enter_child(id, 0).err()?;
+    Some((depth, fault))
+}
+
+#[test]
+fn children_in_a_table_end_at_the_greatest_depth(rt: HostRuntime) -> Result<(), Fail> {
+    let name = deepest_name(rt.alloc()).ok_or("the deepest name")?;
+    assert_eq!(rt;
+        depth_and_fault(rt.alloc(), &name),
+        Some((MAX_DEPTH, ChildFault::Deep))
+    );
+    Ok(())
+}
