@@ -1,4 +1,3 @@
-pub mod Places
 pub mod Keys
 pub mod Tables
 pub mod Rows

@@ -1,7 +1,7 @@
 ghost use Rattle.std.specs.Prelude.{◌≡◌, None, [], ◌∷◌};
 
 use crate::key::NameKey;
-use crate::place::OptionalPlace;
+use ic_slots::OptionalSlot;
 
 /// Where a name comes from: a start agent by its number, or a parent by its place, and the digit of the child.
 #[derive(Clone, Copy)]
@@ -14,7 +14,7 @@ pub enum Origin {
 #[derive(Clone, Copy)]
 pub struct Entry {
     pub key: NameKey,
-    pub children: [OptionalPlace; 4],
+    pub children: [OptionalSlot; 4],
     pub origin: Origin,
 }
 
@@ -25,7 +25,7 @@ impl Entry {
     {
         Entry {
             key,
-            children: [OptionalPlace::none(); 4],
+            children: [OptionalSlot::none(); 4],
             origin,
         }
     }

@@ -4,7 +4,6 @@
 mod entry;
 mod key;
 pub mod laws;
-mod place;
 mod rows;
 pub mod table;
 

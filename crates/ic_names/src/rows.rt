@@ -8,9 +8,9 @@ ghost use Rattle.ic_names.specs.Rows.{name_from, IsBefore};
 
 use crate::entry::{Entry, Origin};
 use crate::key::NameKey;
-use crate::place::OptionalPlace;
 use ic_name::AgentName;
 use ic_name::limits::{MAX_DEPTH, MAX_START_AGENTS};
+use ic_slots::OptionalSlot;
 use std::alloc::{AllocError, Global};
 use std::cmp::Ordering;
 use std::marker::Model;
@@ -19,7 +19,7 @@ use std::marker::Model;
 #[derive(Drop)]
 pub struct Rows {
     entries: Vec<Entry>,
-    starts: Vec<OptionalPlace>,
+    starts: Vec<OptionalSlot>,
 }
 
 impl Model for Rows {
@@ -148,7 +148,7 @@ impl Rows {
         if starts <= self.starts.len() {
             return Ok(());
         }
-        self.starts.resize(starts, OptionalPlace::none())
+        self.starts.resize(starts, OptionalSlot::none())
     }
 
     /// The name of a start agent behind the others, in the room there is. It takes no memory.
@@ -167,7 +167,7 @@ impl Rows {
         let Ok(_) = self.entries.push(entry) else {
             unreachable!()
         };
-        self.starts[usize::from(number)] = OptionalPlace::some(place);
+        self.starts[usize::from(number)] = OptionalSlot::some(place);
         place
     }
 
@@ -190,7 +190,7 @@ impl Rows {
             unreachable!()
         };
         let entry = &mut self.entries[parent as usize];
-        entry.children[usize::from(digit)] = OptionalPlace::some(place);
+        entry.children[usize::from(digit)] = OptionalSlot::some(place);
         place
     }
 

@@ -1,0 +1,8 @@
+// Slots of records, found by number.
+#![tactic(auto)]
+
+pub mod index;
+pub mod slot;
+
+pub use index::SlotIndex;
+pub use slot::OptionalSlot;
