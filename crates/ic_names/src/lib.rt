@@ -7,4 +7,5 @@ pub mod laws;
 mod rows;
 pub mod table;
 
+pub use key::NameKey;
 pub use table::{NameId, NameTable};

@@ -115,7 +115,7 @@ impl Rows {
                 parent: other_parent,
             } = self.origin(right)
             else {
-                return order;
+                unreachable!()
             };
             order = digit.cmp(&other).then(order);
             left = parent;

@@ -1,7 +1,9 @@
 ghost use Rattle.std.specs.Prelude.{◌≡◌, ◌<◌, ◌↔◌, ◌++◌, ◌∷◌, [], length, slice_get, Some, None, IsTrue, IfSome, IfNone, IfOk, IsErrOf, OnErr};
 ghost use Rattle.ic_name.specs.Names.{depth as depth_of, name_cmp, child_name};
+ghost use Rattle.ic_names.specs.Keys.{key_of};
 ghost use Rattle.ic_names.specs.Tables.{name_at, StandsAt, IsAbsent, IsTable, Enters, GrowsUpTo};
 
+use crate::key::NameKey;
 use crate::rows::Rows;
 use ic_name::limits::MAX_DEPTH;
 use ic_name::{AgentName, ChildFault};
@@ -65,6 +67,17 @@ impl NameTable {
     {
         self.rows.lawful();
         self.rows.key(id.place).depth() as usize
+    }
+
+    /// The key of the name at a place, in constant time; of a place beyond the table that of the least name, which is the
+    /// name of start agent 0. It takes no memory.
+    pub fn key(&self, id: NameId) -> NameKey
+        ensures { result.0 ≡ key_of (name_at self.now id.place) }
+    {
+        if id.place as usize >= self.rows.len() {
+            return NameKey::start(0);
+        }
+        self.rows.key(id.place)
     }
 
     /// Where the child with this digit stands, in constant time; `None` where it isn't there. It takes no memory.
@@ -153,21 +166,23 @@ impl NameTable {
         Ok(Some(name))
     }
 
-    /// The order of the names at two places. It takes no memory, and constant time for names that differ in depth, in start
-    /// number or in one of the first 17 digits; for others time that grows as the depth at most.
+    /// The order of the names at two places, of which one beyond the table counts as the least name. It takes no memory,
+    /// and constant time for names that differ in depth, in start number or in one of the first 17 digits; for others time
+    /// that grows as the depth at most.
     pub fn cmp(&self, a: NameId, b: NameId) -> Ordering
-        requires left { a.place < length self.now }
-        requires right { b.place < length self.now }
         ensures { result ≡ name_cmp (name_at self.now a.place) (name_at self.now b.place) }
     {
         self.rows.lawful();
-        let left = self.rows.key(a.place).number();
-        let right = self.rows.key(b.place).number();
+        let left = self.key(a).number();
+        let right = self.key(b).number();
         if left < right {
             return Ordering::Less;
         }
         if right < left {
             return Ordering::Greater;
+        }
+        if left == 0 {
+            return Ordering::Equal;
         }
         self.rows.digit_order(a.place, b.place)
     }

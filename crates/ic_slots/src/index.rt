@@ -37,6 +37,13 @@ impl SlotIndex {
         self.slots.get(number as usize)?.get()
     }
 
+    /// How many numbers there is room for, from 0 on.
+    pub fn len(&self) -> usize
+        ensures { result ≡ length self.now }
+    {
+        self.slots.len()
+    }
+
     /// Makes room for the slot of this number. It is an error where memory runs out. Each number keeps its slot, and at
     /// an error nothing changes.
     pub fn reserve(&mut self, number: u32) -> Result<(), AllocError>
