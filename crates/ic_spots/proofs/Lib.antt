@@ -1,0 +1,3 @@
+pub mod LookUps
+pub mod RowOrMap
+pub mod SameEvents
