@@ -1,4 +1,8 @@
+pub mod Ends
 pub mod Records
+pub mod Chains
+pub mod Changes
 pub mod Tables
 pub mod Splices
-pub mod KeyOrder
+pub mod Steps
+pub mod Taking

@@ -1,7 +1,9 @@
-// A store of links by port records: each spot finds its links at once, and a loose one its far end.
+// A store of links by port records: each spot finds its record at once, and from there on all goes by slots.
 #![tactic(auto)]
 
+mod changes;
 mod records;
+mod slots;
 mod splices;
 pub mod table;
 mod walks;
