@@ -4,7 +4,7 @@ use Rattle.ic_path.specs.Orders.{Pick, IsIn}
 use Rattle.ic_path.specs.Rings.{HasEachOnce}
 use Rattle.ic_path.proofs.Picks.{in_picked}
 use Rattle.ic_shown.proofs.Elements.{in-map, map_cases}
-use Rattle.ic_roster.proofs.Slots.{picked_image}
+use Rattle.ic_roster.proofs.Images.{picked_image}
 
 -- the images of a list are all different where equal images come from one element
 once_image : {X Y : Type 0} (f : X → Y) (P : X → Type 0) (xs : List X) → HasEachOnce P xs → ((x y : X) → P x → P y → f x ≡ f y → x ≡ y) → (c : Y) (rest : List Y) → Pick c (map f xs) rest → IsIn c rest → ⊥

@@ -133,7 +133,7 @@ impl<L: LinkStore> Bench<L> {
             return Err(UndoFault::Memory);
         };
         let call = Call::Undo(id.line);
-        let Some(standing) = self.set.events().at_line(id.line) else {
+        let Some(standing) = self.set.roster().at_line(id.line) else {
             self.history.note(call, Reply::NotStanding);
             return Err(UndoFault::NotStanding);
         };

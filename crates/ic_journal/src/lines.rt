@@ -16,7 +16,7 @@ impl<L: LinkStore> Bench<L> {
     pub fn standing_count(&self) -> usize
         ensures { result ≡ length self.now.events }
     {
-        self.set.events().len()
+        self.set.roster().event_count()
     }
 
     /// Whether the history has a line with this number, and it is this call with this reply. It takes no memory.

@@ -1,6 +1,7 @@
-ghost use Rattle.std.specs.Prelude.{◌≡◌, ◌≢◌, ◌≤◌, All, List, [], length, option_map, IfSome, IfNone, IfOk};
+ghost use Rattle.std.specs.Prelude.{◌≡◌, ◌≢◌, ◌<◌, ◌≤◌, All, List, [], length, option_map, IfSome, IfNone, IfOk};
 ghost use Rattle.ic_name.specs.Events.{Event as AnEvent, event_of, pair};
 ghost use Rattle.ic_name.specs.declared.kinds.Kind.{Kind as AKind};
+ghost use Rattle.ic_names.specs.Tables.{name_at};
 ghost use Rattle.ic_path.specs.Orders.{Alike, IsIn};
 ghost use Rattle.ic_theory.specs.Active.{IsActive};
 ghost use Rattle.ic_theory.specs.Firings.{AreAfterCauses, then_fired};
@@ -21,7 +22,9 @@ use crate::proposal::Proposal;
 use ic_cause::RankedEvent;
 use ic_link::LinkStore;
 use ic_name::{AgentId, AgentName, Event, EventId, EventName, Kind, Line};
+use ic_names::NameTable;
 use ic_net::Net;
+use ic_roster::AgentEntry;
 use ic_set::{ActivePair, StandingSet};
 use std::alloc::{AllocError, Global};
 
@@ -31,7 +34,7 @@ impl<L: LinkStore> Bench<L> {
         ensures found { IfSome result (λ id. (kind : AKind) × IsIn (record { id = id; name = name.now; kind = kind }) self.now.agents) }
         ensures absent { IfNone result (IsNewName self.now.agents name.now) }
     {
-        self.set.agents().find(name)
+        self.set.roster().find(name)
     }
 
     /// The id of the standing event of this name; `None` where no such event stands. It takes no memory.
@@ -39,14 +42,14 @@ impl<L: LinkStore> Bench<L> {
         ensures found { IfSome result (λ id. (x : Stander) × IsIn x self.now.events × (x.id ≡ id) × (pair x.event ≡ name.now)) }
         ensures absent { IfNone result ((x : Stander) → IsIn x self.now.events → pair x.event ≢ name.now) }
     {
-        self.set.events().find(name)
+        self.set.roster().find_event(name)
     }
 
     /// The kind of an agent; `None` for an id that holds no more. It takes no memory.
     pub fn kind_of(&self, id: AgentId) -> Option<Kind>
         ensures { IsKindOf self.now id result }
     {
-        match self.set.agents().get(id) {
+        match self.set.roster().agent(id) {
             Some(agent) => Some(agent.kind),
             None => None,
         }
@@ -56,8 +59,9 @@ impl<L: LinkStore> Bench<L> {
     pub fn name_of(&self, id: AgentId) -> Result<Option<AgentName>, AllocError>
         ensures { IfOk result (λ name. IsNameOf self.now id name) }
     {
-        match self.set.agents().get(id) {
-            Some(agent) => Ok(Some(agent.name.copy()?)),
+        let roster = self.set.roster();
+        match roster.agent(id) {
+            Some(agent) => roster.names().name(agent.name),
             None => Ok(None),
         }
     }
@@ -66,13 +70,14 @@ impl<L: LinkStore> Bench<L> {
     pub fn event_of(&self, id: EventId) -> Result<Option<Event>, AllocError>
         ensures { IfOk result (λ event. IsEventUnder self.now id event) }
     {
-        let Some(standing) = self.set.events().at_line(id.line) else {
+        let roster = self.set.roster();
+        let Some(standing) = roster.at_line(id.line) else {
             return Ok(None);
         };
-        match self.set.events().get(standing) {
-            Some(entry) => Ok(Some(entry.event.copy()?)),
-            None => Ok(None),
-        }
+        let Some(entry) = roster.event(standing) else {
+            unreachable!()
+        };
+        Ok(Some(roster.read(entry.interaction)?))
     }
 
     /// The rank of a standing event: one more than the greatest rank of a direct cause, and 0 without causes; `None` for
@@ -81,11 +86,12 @@ impl<L: LinkStore> Bench<L> {
         ensures { IsRankOf self.now id result }
     {
         self.set.lawful();
-        let Some(standing) = self.set.events().at_line(id.line) else {
+        let roster = self.set.roster();
+        let Some(standing) = roster.at_line(id.line) else {
             return None;
         };
-        let Some(entry) = self.set.events().get(standing) else {
-            return None;
+        let Some(entry) = roster.event(standing) else {
+            unreachable!()
         };
         Some(entry.rank)
     }
@@ -99,13 +105,14 @@ impl<L: LinkStore> Bench<L> {
         if a == b {
             return Err(ProposeFault::NotActive);
         }
-        let Some(left) = self.set.agents().get(a) else {
+        let roster = self.set.roster();
+        let Some(left) = roster.agent(a) else {
             return Err(ProposeFault::NotActive);
         };
-        let Some(right) = self.set.agents().get(b) else {
+        let Some(right) = roster.agent(b) else {
             return Err(ProposeFault::NotActive);
         };
-        match meeting(left.name, left.kind, right.name, right.kind) {
+        match meeting(roster.names(), left, right) {
             Ok(Some(proposal)) => Ok(proposal),
             Ok(None) => Err(ProposeFault::NotActive),
             Err(_) => Err(ProposeFault::Memory),
@@ -116,7 +123,7 @@ impl<L: LinkStore> Bench<L> {
     pub fn causes(&self, id: EventId) -> Result<Option<Vec<EventId>>, AllocError>
         ensures { IfOk result (λ causes. AreCausesOf self.now id (option_map (λ ids. ids.items) causes)) }
     {
-        match self.set.events().at_line(id.line) {
+        match self.set.roster().at_line(id.line) {
             Some(standing) => Ok(Some(self.set.causes(standing)?)),
             None => Ok(None),
         }
@@ -126,7 +133,7 @@ impl<L: LinkStore> Bench<L> {
     pub fn dependents(&self, id: EventId) -> Result<Option<Vec<EventId>>, AllocError>
         ensures { IfOk result (λ dependents. AreDependentsOf self.now id (option_map (λ ids. ids.items) dependents)) }
     {
-        match self.set.events().at_line(id.line) {
+        match self.set.roster().at_line(id.line) {
             Some(standing) => Ok(Some(self.set.dependents(standing)?)),
             None => Ok(None),
         }
@@ -168,13 +175,14 @@ impl<L: LinkStore> Bench<L> {
         ensures few { IfOk result (λ pairs. length pairs.items ≤ 4) }
     {
         self.set.lawful();
-        let Some(standing) = self.set.events().at_line(id.line) else {
+        let roster = self.set.roster();
+        let Some(standing) = roster.at_line(id.line) else {
             return Ok(Vec::new(self.alloc));
         };
-        match self.set.events().get(standing) {
-            Some(entry) => pairs_of(self.alloc, &self.set, entry.born),
-            None => Ok(Vec::new(self.alloc)),
-        }
+        let Some(entry) = roster.event(standing) else {
+            unreachable!()
+        };
+        pairs_of(self.alloc, &self.set, entry.born)
     }
 
     /// The net of what stands: the one in which the steps of its events end, in each causal order of them (Lafont 1997).
@@ -195,18 +203,19 @@ impl<L: LinkStore> Bench<L> {
 }
 
 /// A proposal that two agents meet; `None` where both have one name.
-fn meeting(
-    a: &AgentName,
-    a_kind: Kind,
-    b: &AgentName,
-    b_kind: Kind,
-) -> Result<Option<Proposal>, AllocError>
-    ensures made { IfOk result (λ made. IfSome made (λ event. event ≡ event_of a.now a_kind b.now b_kind)) }
-    ensures none { IfOk result (λ made. IfNone made (a.now ≢ b.now → ⊥)) }
+fn meeting(names: &NameTable, a: AgentEntry, b: AgentEntry) -> Result<Option<Proposal>, AllocError>
+    requires left { a.name.place < length names.now }
+    requires right { b.name.place < length names.now }
+    ensures made { IfOk result (λ made. IfSome made (λ event. event ≡ event_of (name_at names.now a.name.place) a.kind (name_at names.now b.name.place) b.kind)) }
+    ensures none { IfOk result (λ made. IfNone made (name_at names.now a.name.place ≢ name_at names.now b.name.place → ⊥)) }
 {
-    let first = a.copy()?;
-    let second = b.copy()?;
-    Ok(Proposal::make(first, a_kind, second, b_kind))
+    let Some(first) = names.name(a.name)? else {
+        unreachable!()
+    };
+    let Some(second) = names.name(b.name)? else {
+        unreachable!()
+    };
+    Ok(Proposal::make(first, a.kind, second, b.kind))
 }
 
 /// The active pairs that these agents are of.

@@ -74,7 +74,7 @@ fn is_full<L: LinkStore>(set: &StandingSet<L>, event: &Event) -> bool
     ensures { IsTrue result ↔ IsFull set.now.start (standing set.now) event.now }
 {
     set.lawful();
-    set.agents().len() > MAX_AGENTS - children(event, set.start().profile())
+    set.roster().agent_count() > MAX_AGENTS - children(event, set.start().profile())
 }
 
 /// How many children the event makes, whatever the profile.

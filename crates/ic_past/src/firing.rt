@@ -12,7 +12,7 @@ ghost use Rattle.ic_past.specs.declared.deep.DeepEvent.{DeepEvent as ADeepEvent}
 use crate::deep::DeepEvent;
 use ic_link::LinkRows;
 use ic_name::Event;
-use ic_roster::Standing;
+use ic_roster::Roster;
 use ic_set::{ActivePair, StandingSet};
 use std::alloc::AllocError;
 
@@ -28,7 +28,7 @@ pub(crate) fn fire_in_set(
     ensures admitted { OnOk result ((line : ℕ) × (id : AnEventId) × Admits set.old event.now line id set.new) }
     ensures unchanged { OnErr result (IsSame set.old set.new) }
 {
-    let line = free_line(set.events());
+    let line = free_line(set.roster());
     let _ = set.admit(event, pair, line)?;
     Ok(())
 }
@@ -53,15 +53,15 @@ pub(crate) fn fire_beside(
 }
 
 /// A line that no standing event has.
-fn free_line(events: &Standing) -> u32
-    requires { length events.now < MAX_LINES }
-    ensures unused { (x : Stander) → IsIn x events.now → x.id.line ≢ result }
+fn free_line(roster: &Roster) -> u32
+    requires { length roster.now.events < MAX_LINES }
+    ensures unused { (x : Stander) → IsIn x roster.now.events → x.id.line ≢ result }
     ensures few { result < MAX_LINES }
 {
-    let count = events.len();
+    let count = roster.event_count();
     for taken in 0..count {
         let line = (count - taken) as u32;
-        if events.at_line(line).is_none() {
+        if roster.at_line(line).is_none() {
             return line;
         }
     }

@@ -106,7 +106,7 @@ impl Past {
             let _ = self.deep.swap_remove(place);
             return true;
         }
-        let Some(id) = self.set.events().find(event) else {
+        let Some(id) = self.set.roster().find_event(event) else {
             return false;
         };
         if rest_on(&self.deep, id) || self.set.least_dependent(id).is_some() {
@@ -122,14 +122,14 @@ impl Past {
     {
         self.set.lawful();
         if let Some(place) = place_of(&self.deep, event.lead(), event.other()) {
-            let names = names_of(self.alloc, self.set.events(), &self.deep[place].causes)?;
+            let names = names_of(self.alloc, self.set.roster(), &self.deep[place].causes)?;
             return Ok(Some(names));
         }
-        let Some(id) = self.set.events().find(event) else {
+        let Some(id) = self.set.roster().find_event(event) else {
             return Ok(None);
         };
         let causes = self.set.causes(id)?;
-        let names = names_of(self.alloc, self.set.events(), &causes)?;
+        let names = names_of(self.alloc, self.set.roster(), &causes)?;
         Ok(Some(names))
     }
 }

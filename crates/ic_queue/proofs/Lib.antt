@@ -1,3 +1,6 @@
-pub mod Permuted
-pub mod Tops
-pub mod OneLeast
+pub mod UpTo
+pub mod Sifts
+pub mod PlacedFacts
+pub mod QueuedPlaces
+pub mod Heaps
+pub mod Tested

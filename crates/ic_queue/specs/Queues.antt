@@ -1,38 +1,55 @@
--- What a queue has: agents by name, in an order that no clause names, and room for more.
-use Rattle.std.specs.Prelude.{◌≡◌, ◌≢◌, ℕ, List, ◌∷◌}
-use Rattle.std.specs.declared.cmp.Ordering.{Ordering}
+-- What a queue has: places of names, and the order in which it keeps them.
+use Rattle.std.specs.Prelude.{◌≡◌, ◌≢◌, ℕ, ◌+◌, ◌*◌, ◌<◌, List, length, map, Option, Some, slice_index_or}
 use Rattle.std.specs.declared.cmp.Ordering.TheVariants.{Less}
-use Rattle.std.specs.Ordering.{nat_cmp, ordering_then}
-use Rattle.ic_path.specs.Orders.{Alike, IsIn}
+use Rattle.ic_path.specs.Orders.{IsIn}
 use Rattle.ic_name.specs.Names.{Name, name_cmp}
-use Rattle.ic_name.specs.declared.ids.AgentId.{AgentId}
+use Rattle.ic_names.specs.Keys.{key_of}
+use Rattle.ic_names.specs.Tables.{name_at}
+use Rattle.ic_slots.specs.Slots.{slot_of}
+use Rattle.ic_queue.specs.declared.queue.Lead.{Lead}
 
--- an agent by its name
-pub record Entry : Type 0 where
-  pub name : Name
-  pub id : AgentId
-
--- the entries, and for how many further ones there is room
+-- the leads as they lie in the heap, and for how many names there is room
 pub record QueueView : Type 0 where
-  pub entries : List Entry
+  pub leads : List Lead
   pub room : ℕ
 
--- the lesser slot first, then the lesser serial number
-abbrev pub id_cmp : AgentId → AgentId → Ordering
-id_cmp i j = ordering_then (nat_cmp i.slot j.slot) (nat_cmp i.serial j.serial)
+-- the place of a lead's name
+abbrev pub place_of : Lead → ℕ
+place_of l = l.name.place
 
--- the entry is one of them, none of them has a lesser name, and none of the same name a lesser id
-pub record IsLeast (entries : List Entry) (x : Entry) : Type 0 where
-  pub present : IsIn x entries
-  pub no_lesser_name : (y : Entry) → IsIn y entries → name_cmp y.name x.name ≢ Less
-  pub no_lesser_id : (y : Entry) → IsIn y entries → y.name ≡ x.name → id_cmp y.id x.id ≢ Less
+-- the places of the names
+abbrev pub places : List Lead → List ℕ
+places ls = map place_of ls
 
--- the least entry has this id, and the new entries are the others
-pub record TakesLeast (old : List Entry) (agent : AgentId) (new : List Entry) : Type 0 where
-  pub name : Name
-  pub least : IsLeast old (record { name = name; id = agent })
-  pub others : Alike old (record { name = name; id = agent } ∷ new)
+-- the lead at an index of the heap
+abbrev pub lead_at : List Lead → ℕ → Lead
+lead_at ls k = slice_index_or ls k (record { key = record { 0 = 0 }; name = record { place = 0 } })
 
--- there is one least entry at most
-abbrev pub OneLeast : Type 0
-OneLeast = (entries : List Entry) (x y : Entry) → IsLeast entries x → IsLeast entries y → x ≡ y
+-- the name of the lead at an index
+abbrev pub name_of : List Name → List Lead → ℕ → Name
+name_of ns ls k = name_at ns (place_of (lead_at ls k))
+
+-- each lead has a name of the table, with its key
+pub record AreNamed (ns : List Name) (ls : List Lead) : Type 0 where
+  pub inside : (k : ℕ) → k < length ls → place_of (lead_at ls k) < length ns
+  pub keys : (k : ℕ) → k < length ls → (lead_at ls k).key.0 ≡ key_of (name_of ns ls k)
+
+-- each lead has a name of the table, and none has a lesser one than the lead above it
+pub record IsHeap (ns : List Name) (ls : List Lead) : Type 0 where
+  pub named : AreNamed ns ls
+  pub left : (k : ℕ) → 2 * k + 1 < length ls → name_cmp (name_of ns ls (2 * k + 1)) (name_of ns ls k) ≢ Less
+  pub right : (k : ℕ) → 2 * k + 2 < length ls → name_cmp (name_of ns ls (2 * k + 2)) (name_of ns ls k) ≢ Less
+
+-- each name stands in the queue once at most, and the index says at which place of the heap
+pub record ArePlaced (ls : List Lead) (index : List (Option ℕ)) : Type 0 where
+  pub placed : (k : ℕ) → k < length ls → slot_of index (place_of (lead_at ls k)) ≡ Some k
+  pub there : (n k : ℕ) → slot_of index n ≡ Some k → (k < length ls) × (place_of (lead_at ls k) ≡ n)
+
+-- no name stands in the queue twice
+abbrev pub StandOnce : List Lead → Type 0
+StandOnce ls = (i j : ℕ) → i < length ls → j < length ls → place_of (lead_at ls i) ≡ place_of (lead_at ls j) → i ≡ j
+
+-- the place is one of the queue's, and none of its names is less than the one there
+pub record IsLeast (ns : List Name) (ls : List Lead) (n : ℕ) : Type 0 where
+  pub present : IsIn n (places ls)
+  pub none_less : (m : ℕ) → IsIn m (places ls) → name_cmp (name_at ns m) (name_at ns n) ≢ Less

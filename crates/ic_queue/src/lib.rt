@@ -1,7 +1,9 @@
-// A queue of agents by name, from which the one with the least name is taken first.
+// A queue of names by their places in a table, from which the least name is taken first.
 #![tactic(auto)]
 
 pub mod laws;
+mod placed;
 pub mod queue;
+mod sifting;
 
-pub use queue::{Front, LeadQueue};
+pub use queue::LeadQueue;

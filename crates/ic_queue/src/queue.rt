@@ -1,34 +1,29 @@
-ghost use Rattle.std.specs.Prelude.{◌≡◌, ◌+◌, ◌<◌, ◌≤◌, ◌∷◌, ◌==◌, [], length, IfSome, IfNone, OnSome, OnOk, OnErr};
-ghost use Rattle.ic_path.specs.Orders.{Alike};
-ghost use Rattle.ic_queue.specs.Queues.{IsLeast, TakesLeast};
+ghost use Rattle.std.specs.Prelude.{◌≡◌, ℕ, ◌<◌, ◌≤◌, ◌∷◌, [], ◌⊎◌, ◌↔◌, List, length, IfSome, IfNone, OnOk, OnErr};
+ghost use Rattle.ic_name.specs.Names.{Name};
+ghost use Rattle.ic_path.specs.Orders.{Alike, IsIn};
+ghost use Rattle.ic_queue.specs.Queues.{places, IsHeap, IsLeast, StandOnce};
 
-use ic_name::{AgentId, AgentName};
+use crate::placed::PlacedLeads;
+use crate::sifting::{lower, raise};
+use ic_names::{NameId, NameKey, NameTable};
 use std::alloc::{AllocError, Global};
-use std::cmp::Reverse;
-use std::collections::BinaryHeap;
 use std::marker::Model;
 
-/// Agents by their names, of which the one with the least name is taken first.
+/// A queue of names by their places in a table, the least name first, and each once. It is a heap that compares names by
+/// their keys, and asks the table only where two keys are one.
 ///
-/// An agent may stand in it more than once. Which entries still hold is the caller's business: one that doesn't is
-/// dropped when it comes to the front.
+/// The names are those of one table, which each call that compares is given. Which of them still lead a pair is the
+/// caller's business.
 #[derive(Drop)]
 pub struct LeadQueue {
-    leads: BinaryHeap<Reverse<Lead>>,
+    heap: PlacedLeads,
 }
 
-/// An agent by its name. Leads are in the order of their names, and those of one name in the order of their ids.
-#[derive(Drop, PartialEq, Eq, PartialOrd, Ord)]
-struct Lead {
-    name: AgentName,
-    id: AgentId,
-}
-
-/// The entry at the front of a queue, to be read.
+/// A name by its place, with its key.
 #[derive(Clone, Copy)]
-pub struct Front<'a> {
-    pub name: &'a AgentName,
-    pub id: AgentId,
+pub struct Lead {
+    pub key: NameKey,
+    pub name: NameId,
 }
 
 impl Model for LeadQueue {
@@ -36,88 +31,93 @@ impl Model for LeadQueue {
 
     ghost Value = { QueueView };
 
-    ghost use Rattle.std.specs.BinaryHeap.{heap_items, IsHeap};
-    ghost use Rattle.ic_queue.specs.Heaps.{entries_in, room_in, kept_cmp};
-
-    ghost view = { λ q. record { entries = entries_in (heap_items q.leads); room = room_in q.leads } };
-
-    ghost invariant = { λ q. IsHeap kept_cmp (heap_items q.leads) };
+    ghost view = { λ q. q.heap };
 }
 
 impl LeadQueue {
-    /// No entries. It takes no memory yet.
+    /// No names. It takes no memory yet.
     pub fn new(alloc: Global) -> LeadQueue
-        ensures { result.entries ≡ [] }
+        ensures { result.leads ≡ [] }
     {
         LeadQueue {
-            leads: BinaryHeap::new(alloc),
+            heap: PlacedLeads::new(alloc),
         }
     }
 
-    /// The number of entries.
+    /// What holds of every queue, for whoever has to show it.
+    pub fn lawful(&self)
+        ensures { StandOnce self.now.leads }
+    {
+        self.heap.lawful();
+    }
+
+    /// The number of names in the queue.
     pub fn len(&self) -> usize
-        ensures { result ≡ length self.now.entries }
+        ensures { result ≡ length self.now.leads }
     {
-        self.leads.len()
+        self.heap.len()
     }
 
-    /// Whether there are no entries.
-    pub fn is_empty(&self) -> bool
-        ensures { result ≡ (length self.now.entries == 0) }
-    {
-        self.leads.is_empty()
-    }
-
-    /// For how many further entries there is room.
-    pub fn room(&self) -> usize
-        ensures { result ≡ self.now.room }
-    {
-        self.leads.capacity() - self.leads.len()
-    }
-
-    /// Makes room for so many further entries, in time that grows as the number of entries. It is an error only where
-    /// there isn't so much room yet and memory runs out. The entries stay as they are, and the room never shrinks.
-    pub fn reserve(&mut self, entries: usize) -> Result<(), AllocError>
-        ensures same { self.new.entries ≡ self.old.entries }
+    /// Makes room for the names of a table that has so many. It is an error only where memory runs out or that number is
+    /// too great for places. The queue stays as it is, and the room never shrinks.
+    pub fn reserve(&mut self, names: usize) -> Result<(), AllocError>
+        ensures same { self.new.leads ≡ self.old.leads }
         ensures kept { self.old.room ≤ self.new.room }
-        ensures reserved { OnOk result (entries ≤ self.new.room) }
-        ensures refused { OnErr result (self.old.room < entries) }
+        ensures reserved { OnOk result (names ≤ self.new.room) }
     {
-        self.leads.reserve(entries)
+        self.heap.reserve(names)
     }
 
-    /// One entry more, in the room there is, in time that grows as the logarithm of the number of entries. It takes no
-    /// memory.
-    pub fn put(&mut self, name: AgentName, id: AgentId)
-        requires { 0 < self.old.room }
-        ensures entered { Alike (record { name = name; id = id } ∷ self.old.entries) self.new.entries }
-        ensures room { self.old.room ≤ self.new.room + 1 }
+    /// The name at this place comes in, where it isn't in the queue yet, in the room there is, in time that grows as the
+    /// logarithm of the number of names. It takes no memory.
+    pub fn put(&mut self, names: &NameTable, name: NameId)
+        requires inside { name.place < length names.now }
+        requires heap { IsHeap names.now self.old.leads }
+        requires room { length names.now ≤ self.old.room }
+        ensures heap { IsHeap names.now self.new.leads }
+        ensures entered { (n : ℕ) → IsIn n (places self.new.leads) ↔ ((n ≡ name.place) ⊎ IsIn n (places self.old.leads)) }
+        ensures room { self.old.room ≤ self.new.room }
     {
-        self.leads.push(Reverse(Lead { name, id })).unwrap();
+        if self.heap.has(name) {
+            return;
+        }
+        names.lawful();
+        self.heap.lawful();
+        let at = self.heap.len();
+        let key = names.key(name);
+        self.heap.push(Lead { key, name });
+        raise(&mut self.heap, names, at);
     }
 
-    /// The entry with the least name, and of several of that name the one with the least id, in constant time; `None`
-    /// where there are no entries. It takes no memory.
-    pub fn least(&self) -> Option<Front<'_>>
-        ensures least { IfSome result (λ front. IsLeast self.now.entries (record { name = front.name.now; id = front.id })) }
-        ensures none { IfNone result (self.now.entries ≡ []) }
+    /// The place of the least name, in constant time; `None` where the queue is empty. It takes no memory.
+    pub fn least(&self) -> Option<NameId>
+        ensures least { IfSome result (λ name. (ns : List Name) → IsHeap ns self.now.leads → IsLeast ns self.now.leads name.place) }
+        ensures none { IfNone result (self.now.leads ≡ []) }
     {
-        let lead = &self.leads.peek()?.0;
-        Some(Front {
-            name: &lead.name,
-            id: lead.id,
-        })
+        if self.heap.len() == 0 {
+            return None;
+        }
+        Some(self.heap.lead(0).name)
     }
 
-    /// The entry that `least` gives goes, in time that grows as the logarithm of the number of entries; `None`
-    /// where there are none, and then nothing changes. It takes no memory.
-    pub fn take_least(&mut self) -> Option<AgentId>
-        ensures taken { IfSome result (λ agent. TakesLeast self.old.entries agent self.new.entries) }
-        ensures room { OnSome result (self.new.room ≡ self.old.room + 1) }
-        ensures none { IfNone result (self.old.entries ≡ []) }
+    /// The least name goes, in time that grows as the logarithm of the number of names; `None` where the queue is empty,
+    /// and then nothing changes. It takes no memory.
+    pub fn take_least(&mut self, names: &NameTable) -> Option<NameId>
+        requires heap { IsHeap names.now self.old.leads }
+        ensures heap { IsHeap names.now self.new.leads }
+        ensures least { IfSome result (λ name. IsLeast names.now self.old.leads name.place) }
+        ensures others { IfSome result (λ name. Alike (places self.old.leads) (name.place ∷ places self.new.leads)) }
+        ensures room { self.old.room ≤ self.new.room }
+        ensures none { IfNone result (self.old.leads ≡ []) }
         ensures unchanged { IfNone result (self.new ≡ self.old) }
     {
-        let lead = self.leads.pop()?.0;
-        Some(lead.id)
+        names.lawful();
+        self.heap.lawful();
+        let least = self.least()?;
+        let last = self.heap.len() - 1;
+        self.heap.swap(0, last);
+        self.heap.pop();
+        lower(&mut self.heap, names);
+        Some(least)
     }
 }

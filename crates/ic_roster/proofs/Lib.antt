@@ -1,8 +1,12 @@
+pub mod Options
+pub mod Images
 pub mod Slots
-pub mod Indexed
 pub mod Inverses
-pub mod StandingFacts
-pub mod KeyTests
-pub mod TableEntries
+pub mod Indexes
+pub mod Entries
+pub mod AgentFacts
+pub mod EventFacts
+pub mod Named
+pub mod OwnEvents
 pub mod NameOrders
-pub mod EventIds
+pub mod ReadEvents

@@ -1,94 +1,103 @@
--- The table of ids has the agents in order of their names.
-use Rattle.std.proofs.Common.{◌≡◌, List, [], ◌∷◌, map, Bool, true, false, Option, Some, None, inl, inr, refl, sym, ap, subst, ◌∙◌}
-use Rattle.std.specs.BTreeMap.{is_at}
-use Rattle.std.specs.List.Sorted.{IsStrictlySortedBy}
-use Rattle.std.specs.Map.{keys_of, values_of}
-use Rattle.std.specs.declared.cmp.Ordering.TheVariants.{Less, Equal}
-use Rattle.std.proofs.lemmas.Map.Entries.{lookup_head, lookup_tail}
-use Rattle.std.proofs.lemmas.Map.Keys.{sorted_tail}
-use Rattle.ic_path.specs.Orders.{IsIn}
-use Rattle.ic_path.proofs.Picks.{none_in, pick-map, in-cons_cases}
-use Rattle.ic_path.proofs.EachOnce.{IsOnce, once_alike}
+-- Agents that were sorted by the names at their places are in order of their names.
+use Rattle.std.proofs.Common.{◌≡◌, ◌≢◌, ℕ, suc, ◌≤◌, ◌<◌, Bool, false, List, [], ◌∷◌, length, map, slice_index_or, ◌⊎◌, inl, inr, refl, sym, ap, arith, subst, ◌∙◌}
+use Rattle.std.specs.Cmp.{IsStrictWeakOrder}
+use Rattle.std.specs.List.Sorted.{IsPermutation, IsSortedBy}
+use Rattle.std.specs.Ordering.{is_lt, ordering_reverse}
+use Rattle.std.specs.declared.cmp.Ordering.{Ordering}
+use Rattle.std.specs.declared.cmp.Ordering.TheVariants.{Less, Equal, Greater}
+use Rattle.std.proofs.lemmas.List.Elements.{All-contains}
+use Rattle.std.proofs.lemmas.List.Sorted.{ranks_by, sorted_far, Contains-permutation, length_permutation}
+use Rattle.ic_path.specs.Orders.{Pick, here, there, Alike, none, more, IsIn}
+use Rattle.ic_path.proofs.Picks.{in_first, in_more, in_others, in-contains, contains-in, length-pick, pick-map}
+use Rattle.ic_path.proofs.Alikes.{alike_back, alike_pick, alike-in, alike-map}
+use Rattle.ic_path.proofs.EachOnce.{IsOnce, once_rest}
+use Rattle.ic_path.proofs.Sorts.{Ascends}
 use Rattle.ic_name.specs.Names.{Name, name_cmp}
-use Rattle.ic_name.specs.declared.kinds.Kind.{Kind}
-use Rattle.ic_name.specs.declared.kinds.Kind.TheVariants.{Eps}
 use Rattle.ic_name.specs.declared.ids.AgentId.{AgentId}
-use Rattle.ic_name.proofs.NameOrder.{name_tied_itself}
-use Rattle.ic_roster.specs.declared.agents.AgentRecord.{AgentRecord}
-use Rattle.ic_roster.specs.Rosters.{Member, AreRising, AreByName}
-use Rattle.ic_roster.specs.Slots.{slot_at}
-use Rattle.ic_roster.specs.AgentSlots.{member_at, members_in, id_under, IsIndexed}
-use Rattle.ic_roster.proofs.Slots.{picked_image}
-use Rattle.ic_roster.proofs.KeyTests.{name_test}
-use Rattle.ic_roster.proofs.TableEntries.{found_entry, first_below, shown_once}
-use Rattle.ic_roster.proofs.Indexed.{own_names, record_of, is_under}
+use Rattle.ic_name.proofs.NameOrder.{name_cmp_total, name_tied}
+use Rattle.ic_names.specs.Tables.{name_at}
+use Rattle.ic_roster.specs.declared.agent_records.PlacedAgent.{PlacedAgent}
+use Rattle.ic_roster.specs.Rosters.{Member, HaveOwnNames, AreRising, AreByName}
+use Rattle.ic_roster.specs.Placed.{member_in}
+use Rattle.ic_roster.proofs.Images.{in-map, each_image}
 
--- the kind of what a slot holds, or any kind
-abbrev kind_in : Option AgentRecord → Kind
-kind_in None = Eps
-kind_in (Some a) = a.kind
+-- what agents are sorted by
+abbrev pub is_before : List Name → PlacedAgent → PlacedAgent → Bool
+is_before ns x y = is_lt (name_cmp (name_at ns x.name.place) (name_at ns y.name.place))
 
--- the agent of an entry of the table
-abbrev agent_of : List (Option AgentRecord) → Name × AgentId → Member
-agent_of slots e = record { id = e.1; name = e.0; kind = kind_in (slot_at slots e.1.slot) }
+-- it is an order
+pub before_orders : (ns : List Name) → IsStrictWeakOrder (is_before ns)
+before_orders ns = ranks_by name_cmp_total (λ (x : PlacedAgent). name_at ns x.name.place)
 
--- each agent is that of an entry
-has_entry : (slots : List (Option AgentRecord)) (ids : List (Name × AgentId)) → IsIndexed slots ids → (x : Member) → IsIn x (members_in slots) → IsIn x (map (agent_of slots) ids)
-has_entry slots ids h x i =
-    let r = record_of slots x i in
-    let d = found_entry (is_at (name_cmp r.0.name)) ids (member_at (x.id.slot, r.0)).id (h.entered x.id.slot r.0 r.1) in
-    let n : d.0.0 ≡ r.0.name = (name_test r.0.name).only d.0.0 d.2 in
-    let kind : kind_in (slot_at slots d.0.1.slot) ≡ r.0.kind = ap (λ (j : AgentId). kind_in (slot_at slots j.slot)) d.3 ∙ ap kind_in r.1 in
-    let same : agent_of slots d.0 ≡ member_at (x.id.slot, r.0) = λ u. record { id = d.3 u; name = n u; kind = kind u } in
-    subst (λ y. IsIn y (map (agent_of slots) ids)) (same ∙ sym r.2) (map (agent_of slots) d.1.0, pick-map (agent_of slots) d.1.1)
-
--- a look-up finds each entry of a table by rising name
-found_there : (ids : List (Name × AgentId)) → IsStrictlySortedBy name_cmp (keys_of ids) → (e : Name × AgentId) → IsIn e ids → id_under ids e.0 ≡ Some e.1
-found_there [] up e i = absurd (none_in i)
-found_there (d ∷ ds) up e i = elim (in-cons_cases i) [
-  | inl same ↦ subst (λ z. id_under (d ∷ ds) z.0 ≡ Some z.1) (sym same) (lookup_head (is_at (name_cmp d.0)) d ds (name_test d.0).passes)
-  | inr j ↦ lookup_tail (is_at (name_cmp e.0)) d ds (passed j (is_at (name_cmp e.0) d.0) refl) ∙ found_there ds (sorted_tail name_cmp d.0 (keys_of ds) up) e j
-]
+-- a list that is sorted by an order ascends
+ascends : {X : Type 0} (less : X → X → Bool) → IsStrictWeakOrder less → (xs : List X) → IsSortedBy less xs → Ascends less xs
+ascends {X} less order xs up = by xs (sorted_far less order xs up)
   where
-    passed : IsIn e ds → (b : Bool) → is_at (name_cmp e.0) d.0 ≡ b → is_at (name_cmp e.0) d.0 ≡ false
-    passed j false q = q
-    passed j true q =
-        let same : d.0 ≡ e.0 = (name_test e.0).only d.0 q in
-        let less : name_cmp e.0 e.0 ≡ Less = subst (λ n. name_cmp n e.0 ≡ Less) same (first_below name_cmp d ds up e j) in
-        let tied : name_cmp e.0 e.0 ≡ Equal = name_tied_itself e.0 in
-        absurd cc
+    by : (xs : List X) → ((i j : ℕ) (d : X) → i ≤ j → j < length xs → less (slice_index_or xs j d) (slice_index_or xs i d) ≡ false) → Ascends less xs
+    by [] far = tt
+    by (x ∷ xs) far = (
+      λ m i. All-contains (λ y. less y x ≡ false) xs m (λ k d h. far 0 (suc k) d (omega arith) (omega (arith, h))) (in-contains i),
+      by xs (λ i j d le h. far (suc i) (suc j) d (omega (arith, le)) (omega (arith, h))),
+    )
 
--- the agent of each entry is there
-is_there : (slots : List (Option AgentRecord)) (ids : List (Name × AgentId)) → IsIndexed slots ids → IsStrictlySortedBy name_cmp (keys_of ids) → (x : Member) → IsIn x (map (agent_of slots) ids) → IsIn x (members_in slots)
-is_there slots ids h up x i =
-    let p = picked_image (agent_of slots) ids i.1 in
-    let k = h.kept p.0.0 p.0.1 (found_there ids up p.0 (p.1, p.2)) in
-    let kind : k.0.kind ≡ kind_in (slot_at slots p.0.1.slot) = sym (ap kind_in k.1) in
-    let same : record { id = p.0.1; name = k.0.name; kind = k.0.kind } ≡ agent_of slots p.0 = λ u. record { id = p.0.1; name = k.2 u; kind = kind u } in
-    subst (λ y. IsIn y (members_in slots)) (same ∙ sym p.3) (is_under slots p.0.1 k.0 k.1 k.3)
+-- a list that has all elements of another, which are there once, and is as long is alike
+alike_by_length : {X : Type 0} (xs ys : List X) → IsOnce xs → ((x : X) → IsIn x xs → IsIn x ys) → length xs ≡ length ys → Alike xs ys
+alike_by_length [] [] once all same = none
+alike_by_length [] (y ∷ ys) once all same = absurd (omega (arith, same))
+alike_by_length {X} (x ∷ xs) ys once all same =
+    let i = all x (in_first x xs) in
+    let long = length-pick i.1 in
+    more i.1 (alike_by_length xs i.0 (once_rest once here) (λ z j. other z j (in_others i.1 (all z (in_more x j)))) (omega (arith, long, same)))
+  where
+    other : {rest : List X} (z : X) → IsIn z xs → (z ≡ x) ⊎ IsIn z rest → IsIn z rest
+    other {rest} z j (inl e) = absurd (once x xs here (subst (λ w. IsIn w xs) e j))
+    other z j (inr k) = k
 
--- the agents of the entries are in order
-entries_rise : (slots : List (Option AgentRecord)) (ids : List (Name × AgentId)) → IsStrictlySortedBy name_cmp (keys_of ids) → AreRising (map (agent_of slots) ids)
-entries_rise slots [] h = tt
-entries_rise slots (e ∷ es) h = (
-  λ k i. (let p = picked_image (agent_of slots) es i.1 in ap (λ (m : Member). name_cmp e.0 m.name) p.3 ∙ first_below name_cmp e es h p.0 (p.1, p.2)),
-  entries_rise slots es (sorted_tail name_cmp e.0 (keys_of es) h),
+-- each agent has a name of its own
+abbrev AreApart : List Name → List PlacedAgent → Type 0
+AreApart ns xs = (x y : PlacedAgent) (rest : List PlacedAgent) → Pick x xs rest → IsIn y rest → name_at ns y.name.place ≢ name_at ns x.name.place
+
+-- where the second of two agents is not before the first, and has another name, it comes after it
+comes_after : (ns : List Name) (x y : PlacedAgent) → is_before ns y x ≡ false → name_at ns y.name.place ≢ name_at ns x.name.place
+    → name_cmp (name_at ns x.name.place) (name_at ns y.name.place) ≡ Less
+comes_after ns x y later other = by (name_cmp n m) refl
+  where
+    m : Name
+    m = name_at ns x.name.place
+
+    n : Name
+    n = name_at ns y.name.place
+
+    by : (o : Ordering) → name_cmp n m ≡ o → name_cmp m n ≡ Less
+    by Less e = let c = ap is_lt e in absurd cc
+    by Equal e = absurd (other (name_tied n m e))
+    by Greater e = name_cmp_total.antisymm m n ∙ ap ordering_reverse e
+
+-- agents that ascend are in order of their names
+rising : (ns : List Name) (xs : List PlacedAgent) → AreApart ns xs → Ascends (is_before ns) xs → AreRising (map (member_in ns) xs)
+rising ns [] apart up = tt
+rising ns (x ∷ xs) apart up = (
+  each_image (member_in ns) xs (λ k. name_cmp (name_at ns x.name.place) k.name ≡ Less) (λ y i. comes_after ns x y (up.0 y i) (apart x y xs here i)),
+  rising ns xs (λ y z rest k i. apart y z (x ∷ rest) (there k) (in_more x i)) up.1,
 )
 
--- their ids are those of the table
-ids_of_entries : (slots : List (Option AgentRecord)) (ids : List (Name × AgentId)) → map (λ m. m.id) (map (agent_of slots) ids) ≡ values_of ids
-ids_of_entries slots [] = refl
-ids_of_entries slots (e ∷ es) = ap (λ js. e.1 ∷ js) (ids_of_entries slots es)
+-- the ids of the agents with their names
+member_ids : (ns : List Name) (xs : List PlacedAgent) → map (λ (m : Member). m.id) (map (member_in ns) xs) ≡ map (λ (x : PlacedAgent). x.id) xs
+member_ids ns [] = refl
+member_ids ns (x ∷ xs) = ap (λ (ds : List AgentId). x.id ∷ ds) (member_ids ns xs)
 
--- the ids of the table are those of the agents, in order of their names
-pub by_name : (slots : List (Option AgentRecord)) (ids : List (Name × AgentId)) → IsIndexed slots ids → IsStrictlySortedBy name_cmp (keys_of ids)
-    → AreByName (members_in slots) (values_of ids)
-by_name slots ids h sorted = record {
-  order = map (agent_of slots) ids;
-  alike = once_alike (members_in slots) (map (agent_of slots) ids) once (shown_once name_cmp name_tied_itself (agent_of slots) (λ m. m.name) (λ e. refl) ids sorted) (has_entry slots ids h) (is_there slots ids h sorted);
-  rising = entries_rise slots ids sorted;
-  named = ids_of_entries slots ids;
+-- agents that were sorted are in order of their names
+pub by_name : (ns : List Name) (xs ys : List PlacedAgent) → HaveOwnNames (map (member_in ns) xs) → IsPermutation xs ys → IsSortedBy (is_before ns) ys
+    → AreByName (map (member_in ns) xs) (map (λ (x : PlacedAgent). x.id) ys)
+by_name ns xs ys own moved up = record {
+  order = map (member_in ns) ys;
+  alike = alike-map (member_in ns) same;
+  rising = rising ns ys (λ x y rest k i. (let p = alike_pick (alike_back same) k in apart x y p.0 p.1 (alike-in p.2 i))) (ascends (is_before ns) (before_orders ns) ys up);
+  named = member_ids ns ys;
 }
   where
-    once : IsOnce (members_in slots)
-    once x rest k i = (own_names slots ids h).names x x rest k i refl
+    apart : AreApart ns xs
+    apart x y rest k i = own.names (member_in ns x) (member_in ns y) (map (member_in ns) rest) (pick-map (member_in ns) k) (in-map (member_in ns) i)
+
+    same : Alike xs ys
+    same = alike_by_length xs ys (λ x rest k i. apart x x rest k i refl) (λ x i. contains-in x ys (Contains-permutation xs ys x moved (in-contains i))) (sym (length_permutation xs ys moved))

@@ -4,8 +4,9 @@ use Rattle.std.proofs.lemmas.List.{length-map}
 use Rattle.slab.specs.Slab.{Slab, get, Updates, entries_from}
 use Rattle.slab.proofs.SlabLemmas.{Contains-entries, length-entries_from}
 use Rattle.ic_path.specs.Orders.{Pick, here, there, Alike, IsIn}
-use Rattle.ic_path.proofs.Picks.{two_picks, pick-map, none_in, in_others, in_picked, in-cons_cases, in-contains, contains-in}
-use Rattle.ic_path.proofs.Alikes.{picked_alike, alike_back}
+use Rattle.ic_path.proofs.Picks.{two_picks, pick-map, none_in, in_others, in_picked, in_more, in-cons_cases, in-contains, contains-in}
+use Rattle.ic_path.proofs.Alikes.{picked_alike, alike_back, alike-in}
+use Rattle.ic_roster.proofs.Images.{picked_image}
 use Rattle.ic_roster.specs.Slots.{slot_at, shown, HoldsOneMore}
 
 -- slots that hold the same have the same entries
@@ -79,6 +80,10 @@ shown_filled f old new key x h = alike_back (picked_alike (picked_shown f old ne
 pub shown_emptied : {T X : Type 0} (f : ℕ × T → X) (old new : List (Option T)) (key : ℕ) (x : T) → HoldsOneMore new old key x → Alike (shown f old) (f (key, x) ∷ shown f new)
 shown_emptied f old new key x h = picked_alike (picked_shown f new old key x h)
 
+-- what is shown without an emptied slot was shown with it
+pub shown_left : {T X : Type 0} (f : ℕ × T → X) (old new : List (Option T)) (key : ℕ) (x : T) → HoldsOneMore new old key x → (y : X) → IsIn y (shown f new) → IsIn y (shown f old)
+shown_left f old new key x h y i = alike-in (alike_back (shown_emptied f old new key x h)) (in_more (f (key, x)) i)
+
 -- a slab that takes a value in has one value more
 pub filled_by_insert : {T : Type 0} (slots : List (Option T)) (old new : Slab T) (key slot : ℕ) (x : T) → old.slots ≡ slots → key ≡ slot → get old key ≡ None → Updates old new key (Some x) → HoldsOneMore slots new.slots slot x
 filled_by_insert slots old new key slot x same at vacant u = rw (← same, ← at) (record { vacant = vacant; filled = u.changed; others = u.others })
@@ -99,12 +104,6 @@ pub record ShowsAt {T X : Type 0} (f : ℕ × T → X) (xs : List (Option T)) (y
   pub value : T
   pub holds : slot_at xs key ≡ Some value
   pub shows : y ≡ f (key, value)
-
--- what is picked from the images of a map is the image of what can be picked
-pub picked_image : {X Y : Type 0} (f : X → Y) (xs : List X) {y : Y} {rest : List Y} → Pick y (map f xs) rest → (x : X) × (left : List X) × Pick x xs left × (y ≡ f x) × (rest ≡ map f left)
-picked_image f [] k = elim k [ ]
-picked_image f (x ∷ xs) here = (x, xs, here, refl, refl)
-picked_image f (x ∷ xs) (there k) = let p = picked_image f xs k in (p.0, x ∷ p.1, there p.2, p.3, ap (λ s. f x ∷ s) p.4)
 
 -- what is shown is in a slot
 pub slot_from_shown : {T X : Type 0} (f : ℕ × T → X) (xs : List (Option T)) (y : X) → IsIn y (shown f xs) → ShowsAt f xs y

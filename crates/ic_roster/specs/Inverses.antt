@@ -2,5 +2,5 @@
 use Rattle.std.specs.Prelude.{◌≡◌, ℕ, ◌↔◌, Option, Some}
 
 -- the slot that is found under a key is the one that has the key
-abbrev pub IsInverse : {K : Type 0} → (K → Option ℕ) → (ℕ → Option K) → Type 0
-IsInverse {K} find key_at = (q : K) (k : ℕ) → (find q ≡ Some k) ↔ (key_at k ≡ Some q)
+abbrev pub IsInverse : (ℕ → Option ℕ) → (ℕ → Option ℕ) → Type 0
+IsInverse find key_at = (q k : ℕ) → (find q ≡ Some k) ↔ (key_at k ≡ Some q)

@@ -1,5 +1,6 @@
 pub mod Rosters
+pub mod Placed
 pub mod Slots
-pub mod AgentSlots
 pub mod Inverses
-pub mod StandingSlots
+pub mod AgentSlots
+pub mod EventSlots

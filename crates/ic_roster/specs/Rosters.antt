@@ -1,5 +1,5 @@
 -- Who is there: agents under their ids, and standing events under theirs, each list in an order that no clause names.
-use Rattle.std.specs.Prelude.{◌≡◌, ◌≢◌, ℕ, List, [], ◌∷◌, map}
+use Rattle.std.specs.Prelude.{◌≡◌, ◌≢◌, ◌<◌, ℕ, List, [], ◌∷◌, map, length, Option, Some, None}
 use Rattle.std.specs.declared.cmp.Ordering.TheVariants.{Less}
 use Rattle.ic_path.specs.Orders.{Pick, Alike, IsIn}
 use Rattle.ic_name.specs.Names.{Name, name_cmp}
@@ -7,6 +7,9 @@ use Rattle.ic_name.specs.Events.{Event}
 use Rattle.ic_name.specs.declared.kinds.Kind.{Kind}
 use Rattle.ic_name.specs.declared.ids.AgentId.{AgentId}
 use Rattle.ic_name.specs.declared.ids.EventId.{EventId}
+use Rattle.ic_names.specs.Tables.{name_at}
+use Rattle.ic_roster.specs.declared.events.GoneEvent.{GoneEvent}
+use Rattle.ic_roster.specs.declared.interaction.Interaction.{Interaction}
 
 -- an agent under its id
 pub record Member : Type 0 where
@@ -51,3 +54,24 @@ pub record HaveOwnLines (ss : List Stander) : Type 0 where
 -- no event of the list has the line or the lead
 abbrev pub IsNewEvent : List Stander → ℕ → Event → Type 0
 IsNewEvent ss line e = (x : Stander) → IsIn x ss → (x.id.line ≢ line) × (x.event.lead ≢ e.lead)
+
+-- the names that are known, the agents, and the standing events
+pub record RosterView : Type 0 where
+  pub names : List Name
+  pub agents : List Member
+  pub events : List Stander
+
+-- the event whose agents have their names at these places
+abbrev pub event_in : List Name → Interaction → Event
+event_in ns i = record { lead = name_at ns i.lead.place; lead_kind = i.lead_kind; other = name_at ns i.other.place; other_kind = i.other_kind }
+
+-- the places are among the names, and the lead has the lesser one
+pub record IsNamed (ns : List Name) (i : Interaction) : Type 0 where
+  pub lead : i.lead.place < length ns
+  pub other : i.other.place < length ns
+  pub ordered : name_cmp (name_at ns i.lead.place) (name_at ns i.other.place) ≡ Less
+
+-- what is handed out is the place of the event's lead, and the ids of its children
+abbrev pub IsHanded : List Name → Stander → Option GoneEvent → Type 0
+IsHanded ns x None = ⊥
+IsHanded ns x (Some gone) = (gone.lead.place < length ns) × (name_at ns gone.lead.place ≡ x.event.lead) × (gone.born.items ≡ x.born)

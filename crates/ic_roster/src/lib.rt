@@ -1,8 +1,15 @@
-// Who is there: agents and standing events, under their ids and by their names.
+// Who is there: agents and standing events, under their ids and by their names, which lie in one table.
 #![tactic(auto)]
 
+mod agent_records;
 pub mod agents;
-pub mod standing;
+mod event_records;
+pub mod events;
+pub mod interaction;
+mod reserving;
+pub mod roster;
 
-pub use agents::{AgentEntry, Agents};
-pub use standing::{Standing, StandingEntry};
+pub use agents::AgentEntry;
+pub use events::{GoneEvent, StandingEntry};
+pub use interaction::Interaction;
+pub use roster::Roster;

@@ -1,9 +1,10 @@
 -- Agents that are entered one after the other.
-use Rattle.std.proofs.Common.{◌≡◌, ℕ, List, [], ◌∷◌, ◌++◌, length, arith, ◌⊎◌, inl, inr, refl, sym, ap, subst, ◌∙◌}
-use Rattle.std.proofs.lemmas.List.{append-nil, map-append}
+use Rattle.std.proofs.Common.{◌≡◌, ℕ, List, [], ◌∷◌, ◌++◌, ◌⊎◌, inl, inr, refl, sym, ap, subst, ◌∙◌}
+use Rattle.std.proofs.lemmas.List.{map-append}
 use Rattle.ic_name.specs.Names.{Name}
 use Rattle.ic_name.specs.declared.kinds.Kind.{Kind}
 use Rattle.ic_name.specs.declared.ids.AgentId.{AgentId}
+use Rattle.ic_names.specs.Tables.{name_at}
 use Rattle.ic_path.specs.Orders.{here, IsIn, Alike}
 use Rattle.ic_path.proofs.Picks.{none_in, pick_behind, pick_before}
 use Rattle.ic_path.proofs.Alikes.{alike_self, alike_back, alike-in}
@@ -13,7 +14,7 @@ use Rattle.ic_cause.proofs.ListEnds.{in-end_cases}
 use Rattle.ic_roster.specs.Rosters.{Member, IsNewName}
 use Rattle.ic_set.specs.declared.entering.NewAgent.{NewAgent}
 use Rattle.ic_set.specs.Views.{agent_of}
-use Rattle.ic_set.specs.Entering.{agents_in, CanEnter, Enters}
+use Rattle.ic_set.specs.Entering.{named_in, agents_in, CanEnter, Enters}
 use Rattle.ic_set.proofs.AddedInTurn.{one_more}
 
 -- at first none is entered
@@ -46,19 +47,15 @@ enters_more old now new front serial ids m h s a = record {
     by k (inr i) = h.serials k i
 
 -- the next one of all that are to be entered has a new name
-pub next_can : (old now : List Member) (front back all : List NewAgent) (x : NewAgent) (serial : ℕ) (ids : List AgentId) → front ++ x ∷ back ≡ all → CanEnter old (agents_in all) → Enters old (agents_in front) serial ids now → IsNewName now x.name
-next_can old now front back all x serial ids e can h =
-    let split = ap agents_in (sym e) ∙ map-append (λ (y : NewAgent). (y.name, y.kind)) front (x ∷ back) in
-    next_new old now (agents_in front) (agents_in back) (x.name, x.kind) serial ids (subst (CanEnter old) split can) h
+pub next_can : (ns : List Name) (old now : List Member) (front back all : List NewAgent) (x : NewAgent) (serial : ℕ) (ids : List AgentId) → front ++ x ∷ back ≡ all → CanEnter old (agents_in ns all) → Enters old (agents_in ns front) serial ids now
+    → IsNewName now (name_at ns x.name.place)
+next_can ns old now front back all x serial ids e can h =
+    let split = ap (agents_in ns) (sym e) ∙ map-append (named_in ns) front (x ∷ back) in
+    next_new old now (agents_in ns front) (agents_in ns back) (named_in ns x) serial ids (subst (CanEnter old) split can) h
 
 -- and comes behind those that are entered
-pub next_enters : (old now new : List Member) (front : List NewAgent) (x : NewAgent) (serial : ℕ) (ids : List AgentId) (id : AgentId) → Enters old (agents_in front) serial ids now → id.serial ≡ serial
-    → Alike (record { id = id; name = x.name; kind = x.kind } ∷ now) new → Enters old (agents_in (front ++ x ∷ [])) serial (ids ++ id ∷ []) new
-next_enters old now new front x serial ids id h s a =
-    subst (λ es. Enters old es serial (ids ++ id ∷ []) new) (sym (map-append (λ (y : NewAgent). (y.name, y.kind)) front (x ∷ [])))
-    (enters_more old now new (agents_in front) serial ids (record { id = id; name = x.name; kind = x.kind }) h s a)
-
--- once nothing is left all are entered
-pub all_entered : (old now : List Member) (front back all : List NewAgent) (serial : ℕ) (ids : List AgentId) → front ++ back ≡ all → length back ≡ 0 → Enters old (agents_in front) serial ids now → Enters old (agents_in all) serial ids now
-all_entered old now front [] all serial ids e none h = subst (λ xs. Enters old (agents_in xs) serial ids now) (sym (append-nil front) ∙ e) h
-all_entered old now front (x ∷ back) all serial ids e none h = absurd (omega arith)
+pub next_enters : (ns : List Name) (old now new : List Member) (front : List NewAgent) (x : NewAgent) (serial : ℕ) (ids : List AgentId) (id : AgentId) → Enters old (agents_in ns front) serial ids now → id.serial ≡ serial
+    → Alike (record { id = id; name = name_at ns x.name.place; kind = x.kind } ∷ now) new → Enters old (agents_in ns (front ++ x ∷ [])) serial (ids ++ id ∷ []) new
+next_enters ns old now new front x serial ids id h s a =
+    subst (λ es. Enters old es serial (ids ++ id ∷ []) new) (sym (map-append (named_in ns) front (x ∷ [])))
+    (enters_more old now new (agents_in ns front) serial ids (record { id = id; name = name_at ns x.name.place; kind = x.kind }) h s a)

@@ -12,6 +12,7 @@ pub mod RemovedAgents
 pub mod InPlace
 pub mod LinksMade
 pub mod AddedInTurn
+pub mod GrownNames
 pub mod EnteredInTurn
 pub mod NamedInTurn
 pub mod ByPlace
@@ -40,7 +41,6 @@ pub mod FarTouched
 pub mod NewlyActive
 pub mod LedPairs
 pub mod ReachedAgents
-pub mod NewLeads
 pub mod GrownSets
 pub mod PairsAdmitted
 pub mod PairsLeft

@@ -6,7 +6,7 @@ use Rattle.ic_name.specs.Names.{Name}
 use Rattle.ic_name.specs.declared.kinds.Kind.{Kind}
 use Rattle.ic_theory.specs.Born.{named}
 use Rattle.ic_set.specs.declared.entering.NewAgent.{NewAgent}
-use Rattle.ic_set.specs.Entering.{agents_in}
+use Rattle.ic_set.specs.Entering.{named_in, agents_in}
 
 -- the last of them has the name of its place
 named_behind : (name : ℕ → Name) (k : ℕ) (xs : List Kind) (x : Kind) → named name k (xs ++ x ∷ []) ≡ named name k xs ++ (name (k + length xs), x) ∷ []
@@ -22,5 +22,5 @@ named_more name xs i d h =
     ∙ ap (λ n. named name 0 (take i xs) ++ (name n, slice_index_or xs i d) ∷ []) place
 
 -- and of a list with one agent more
-pub agents_behind : (xs ys : List NewAgent) (x : NewAgent) → ys ≡ xs ++ x ∷ [] → agents_in ys ≡ agents_in xs ++ (x.name, x.kind) ∷ []
-agents_behind xs ys x e = ap agents_in e ∙ map-append (λ (y : NewAgent). (y.name, y.kind)) xs (x ∷ [])
+pub agents_behind : (ns : List Name) (xs ys : List NewAgent) (x : NewAgent) → ys ≡ xs ++ x ∷ [] → agents_in ns ys ≡ agents_in ns xs ++ named_in ns x ∷ []
+agents_behind ns xs ys x e = ap (agents_in ns) e ∙ map-append (named_in ns) xs (x ∷ [])

@@ -1,5 +1,5 @@
--- The entries of a queue of leads, and what its front tells.
-use Rattle.std.proofs.Common.{◌≡◌, ◌≢◌, Bool, false, IsTrue, ◌+◌, ◌≤◌, List, [], ◌⊎◌, inl, inr, Option, Some, None, IfSome, IfNone, OnSome, arith, refl, sym, ap, subst, ◌∙◌}
+-- The leads in a queue, and what its front tells.
+use Rattle.std.proofs.Common.{◌≡◌, ◌≢◌, ℕ, Bool, false, IsTrue, ◌<◌, List, [], ◌∷◌, length, ◌⊎◌, inl, inr, Option, Some, None, IfSome, IfNone, refl, sym, ap, subst, ◌∙◌}
 use Rattle.std.specs.Ordering.{is_gt}
 use Rattle.std.specs.declared.cmp.Ordering.{Ordering}
 use Rattle.std.specs.declared.cmp.Ordering.TheVariants.{Less, Equal, Greater}
@@ -8,18 +8,21 @@ use Rattle.ic_name.specs.Events.{Event}
 use Rattle.ic_name.specs.declared.ids.AgentId.{AgentId}
 use Rattle.ic_name.specs.declared.kinds.Kind.{Kind}
 use Rattle.ic_name.proofs.NameOrder.{name_flip}
-use Rattle.ic_path.specs.Orders.{IsIn}
+use Rattle.ic_names.specs.Tables.{name_at, IsTable}
+use Rattle.ic_names.specs.declared.table.NameId.{NameId}
+use Rattle.ic_path.specs.Orders.{IsIn, Alike}
 use Rattle.ic_path.proofs.Alikes.{alike-in}
 use Rattle.ic_path.proofs.Picks.{none_in, in-cons_cases}
 use Rattle.ic_theory.specs.Active.{IsActive}
-use Rattle.ic_queue.specs.Queues.{Entry, QueueView, IsLeast, TakesLeast}
-use Rattle.ic_queue.proofs.OneLeast.{one_least}
+use Rattle.ic_queue.specs.declared.queue.Lead.{Lead}
+use Rattle.ic_queue.specs.Queues.{places, IsHeap, IsLeast}
+use Rattle.ic_queue.proofs.Heaps.{one_least}
 use Rattle.ic_roster.specs.Rosters.{Member}
 use Rattle.ic_set.specs.declared.pairs.ActivePair.{ActivePair}
 use Rattle.ic_set.specs.Pairs.{IsPairOf, IsLeastPair}
-use Rattle.ic_set.specs.Queues.{lead_of, Leads, HasLeads, FrontLeads}
+use Rattle.ic_set.specs.Queues.{Leads, IsQueued, HasLeads, FrontLeads}
 use Rattle.ic_set.specs.Sets.{IsStandingSet}
-use Rattle.ic_set.specs.Views.{SetView, standing}
+use Rattle.ic_set.specs.Views.{BareView, standing}
 use Rattle.ic_set.proofs.ActivePairs.{one_id, one_name, one_pair, pair_of}
 use Rattle.ic_set.proofs.LedPairs.{second_leads_none}
 
@@ -31,84 +34,88 @@ never b off on = absurd cc
 abbrev pub IsOf : ActivePair → AgentId → Type 0
 IsOf p a = (p.lead ≡ a) ⊎ (p.other ≡ a)
 
-module _ (v : SetView) (set : IsStandingSet v) where
+-- the order the other way round
+not_greater : (n m : Name) → name_cmp n m ≢ Less → is_gt (name_cmp m n) ≡ false
+not_greater n m none = by (name_cmp m n) refl
+  where
+    by : (o : Ordering) → name_cmp m n ≡ o → is_gt (name_cmp m n) ≡ false
+    by Less h = ap is_gt h
+    by Equal h = ap is_gt h
+    by Greater h = absurd (none (name_flip m n h))
+
+module _ (v : BareView) (set : IsStandingSet v.set) where
   -- where an agent of a pair leads one, it leads that pair
-  led_pair : (e f : Event) (p q : ActivePair) → IsPairOf v e p → IsPairOf v f q → IsOf p q.lead → (e ≡ f) × (p ≡ q)
-  led_pair e f p q h k (inl same) = one_pair v set e f p q h k same
-  led_pair e f p q h k (inr same) = absurd (second_leads_none v set e f p q h k same)
+  led_pair : (e f : Event) (p q : ActivePair) → IsPairOf v.set e p → IsPairOf v.set f q → IsOf p q.lead → (e ≡ f) × (p ≡ q)
+  led_pair e f p q h k (inl same) = one_pair v.set set e f p q h k same
+  led_pair e f p q h k (inr same) = absurd (second_leads_none v.set set e f p q h k same)
 
-  -- the agent under the id leads the pair, and has this name
-  pub does_lead : (id : AgentId) (name : Name) (kind : Kind) → IsIn (record { id = id; name = name; kind = kind }) v.agents → (e : Event) (p : ActivePair) → IsPairOf v e p → p.lead ≡ id → Leads v (record { name = name; id = id })
-  does_lead id name kind there e p h same = (e, p, h, ap (λ (m : Member). m.name) (one_id v set _ _ h.lead there same), same)
+  -- an agent that leads a pair is the lead of each pair that it is of
+  pub leads_own : (e f : Event) (p q : ActivePair) → IsPairOf v.set e p → IsPairOf v.set f q → (id : AgentId) → IsOf p id → q.lead ≡ id → p.lead ≡ id
+  leads_own e f p q h k id of_pair own = ap (λ (r : ActivePair). r.lead) (led_pair e f p q h k (subst (IsOf p) (sym own) of_pair)).1 ∙ own
 
-  -- a pair that the agent of a name leads has its entry
-  pub entry_of : (id : AgentId) (name : Name) (kind : Kind) → IsIn (record { id = id; name = name; kind = kind }) v.agents → (e : Event) (p : ActivePair) → IsPairOf v e p → e.lead ≡ name → lead_of e p ≡ record { name = name; id = id }
-  entry_of id name kind there e p h same = let one = one_name v set _ _ h.lead there same in λ u. record { name = same u; id = (one u).id }
+  -- the agent under the id, whose name is at the place, leads the pair
+  pub does_lead : (id : AgentId) (n : ℕ) (kind : Kind) → IsIn (record { id = id; name = name_at v.names n; kind = kind }) v.set.agents → (e : Event) (p : ActivePair) → IsPairOf v.set e p → p.lead ≡ id → Leads v n
+  does_lead id n kind there e p h same = (e, p, h, ap (λ (m : Member). m.name) (one_id v.set set _ _ h.lead there same))
 
-  -- an agent that leads a pair has its name, and each pair that it is of is that one
-  pub leads_it : (x : Entry) → Leads v x → (name : Name) (kind : Kind) → IsIn (record { id = x.id; name = name; kind = kind }) v.agents → (e : Event) (p : ActivePair) → IsPairOf v e p → IsOf p x.id → (name ≡ x.name) × (p.lead ≡ x.id)
-  leads_it x l name kind there e p h of_pair =
-      let k = l.2 in
-      let own = ap (λ (m : Member). m.name) (one_id v set _ _ there k.lead (sym l.4)) in
-      let of_lead : IsOf p l.1.lead = subst (IsOf p) (sym l.4) of_pair in
-      let one = led_pair e l.0 p l.1 h k of_lead in
-      (own ∙ l.3, ap (λ (q : ActivePair). q.lead) one.1 ∙ l.4)
+  -- with its place in a queue the lead is in it
+  pub lead_queued : (leads : List Lead) (id : AgentId) (n : ℕ) (kind : Kind) → IsIn (record { id = id; name = name_at v.names n; kind = kind }) v.set.agents → n < length v.names → IsIn n (places leads)
+      → (e : Event) (p : ActivePair) → IsPairOf v.set e p → p.lead ≡ id → IsQueued v.names leads e.lead
+  lead_queued leads id n kind there inside queued e p h same = (n, record { within = inside; named = sym (ap (λ (m : Member). m.name) (one_id v.set set _ _ h.lead there same)) }, queued)
+
+  -- an agent whose name leads a pair is the lead of each pair that it is of
+  pub leads_it : (n : ℕ) → Leads v n → (id : AgentId) (kind : Kind) → IsIn (record { id = id; name = name_at v.names n; kind = kind }) v.set.agents → (e : Event) (p : ActivePair) → IsPairOf v.set e p → IsOf p id → p.lead ≡ id
+  leads_it n l id kind there e p h of_pair = leads_own e l.0 p l.1 h l.2 id of_pair (ap (λ (m : Member). m.id) (one_name v.set set _ _ l.2.lead there l.3))
+
+  -- the agent of a name that leads a pair is of one
+  pub leads_one : (n : ℕ) → Leads v n → (id : AgentId) (kind : Kind) → IsIn (record { id = id; name = name_at v.names n; kind = kind }) v.set.agents → (e : Event) × (p : ActivePair) × IsPairOf v.set e p × (p.lead ≡ id)
+  leads_one n l id kind there = (l.0, l.1, l.2, ap (λ (m : Member). m.id) (one_name v.set set _ _ l.2.lead there l.3))
 
   -- the pair of the front's agent has the least lead
-  front_least : (entries : List Entry) (x : Entry) → HasLeads v entries → FrontLeads v entries → IsLeast entries x → (e : Event) (p : ActivePair) → IsPairOf v e p → IsOf p x.id → IsLeastPair v p
-  front_least entries x all front least e p h of_pair =
-      let l = front x least in
-      let of_lead : IsOf p l.1.lead = subst (IsOf p) (sym l.4) of_pair in
-      let one = led_pair e l.0 p l.1 h l.2 of_lead in
+  pub front_least : (leads : List Lead) (n : ℕ) → HasLeads v leads → FrontLeads v leads → IsLeast v.names leads n → (id : AgentId) (kind : Kind) → IsIn (record { id = id; name = name_at v.names n; kind = kind }) v.set.agents
+      → (e : Event) (p : ActivePair) → IsPairOf v.set e p → IsOf p id → IsLeastPair v.set p
+  front_least leads n all front least id kind there e p h of_pair =
+      let l = front n least in
+      let own : l.1.lead ≡ id = ap (λ (m : Member). m.id) (one_name v.set set _ _ l.2.lead there l.3) in
+      let one = led_pair e l.0 p l.1 h l.2 (subst (IsOf p) (sym own) of_pair) in
       record {
         event = l.0;
-        pair = subst (IsPairOf v l.0) (sym one.1) l.2;
+        pair = subst (IsPairOf v.set l.0) (sym one.1) l.2;
         least = λ f a. (
-            let q = pair_of v set f a in
-            let none = least.no_lesser_name (lead_of f q.0) (all f q.0 q.1) in
-            subst (λ n. is_gt (name_cmp n f.lead) ≡ false) (sym l.3) (not_greater f.lead x.name none));
+            let q = pair_of v.set set f a in
+            let queued = all f q.0 q.1 in
+            let none : name_cmp f.lead (name_at v.names n) ≢ Less = subst (λ m. name_cmp m (name_at v.names n) ≢ Less) queued.1.named (least.none_less queued.0 queued.2) in
+            subst (λ m. is_gt (name_cmp m f.lead) ≡ false) (sym l.3) (not_greater f.lead (name_at v.names n) none));
       }
-    where
-      not_greater : (n m : Name) → name_cmp n m ≢ Less → is_gt (name_cmp m n) ≡ false
-      not_greater n m none = by (name_cmp m n) refl
-        where
-          by : (o : Ordering) → name_cmp m n ≡ o → is_gt (name_cmp m n) ≡ false
-          by Less h = ap is_gt h
-          by Equal h = ap is_gt h
-          by Greater h = absurd (none (name_flip m n h))
 
   -- so it is what is answered for the pair of the front's agent
-  pub found_least : (entries : List Entry) (x : Entry) → HasLeads v entries → FrontLeads v entries → IsLeast entries x → (o : Option ActivePair)
-      → IfSome o (λ p. IsOf p x.id × (e : Event) × IsPairOf v e p) → IfNone o ((e : Event) (p : ActivePair) → IsOf p x.id → IsPairOf v e p → ⊥)
-      → IfSome o (λ p. IsLeastPair v p) × IfNone o ((e : Event) → IsActive v.start (standing v) e → ⊥)
-  found_least entries x all front least None some none = let l = front x least in absurd (none l.0 l.1 (inl l.4) l.2)
-  found_least entries x all front least (Some p) some none = (front_least entries x all front least some.1 p some.2 some.0, tt)
+  pub found_least : (leads : List Lead) (n : ℕ) → HasLeads v leads → FrontLeads v leads → IsLeast v.names leads n → (id : AgentId) (kind : Kind) → IsIn (record { id = id; name = name_at v.names n; kind = kind }) v.set.agents → (o : Option ActivePair)
+      → IfSome o (λ p. IsOf p id × (e : Event) × IsPairOf v.set e p) → IfNone o ((e : Event) (p : ActivePair) → IsOf p id → IsPairOf v.set e p → ⊥)
+      → IfSome o (λ p. IsLeastPair v.set p) × IfNone o ((e : Event) → IsActive v.set.start (standing v.set) e → ⊥)
+  found_least leads n all front least id kind there None some none = let l = leads_one n (front n least) id kind there in absurd (none l.0 l.1 (inl l.3) l.2)
+  found_least leads n all front least id kind there (Some p) some none = (front_least leads n all front least id kind there some.1 p some.2 some.0, tt)
 
-  -- without entries no pair is active
-  pub none_led : (entries : List Entry) → entries ≡ [] → HasLeads v entries → (e : Event) → IsActive v.start (standing v) e → ⊥
-  none_led entries empty all e a = let q = pair_of v set e a in none_in (subst (IsIn (lead_of e q.0)) empty (all e q.0 q.1))
+  -- without leads no pair is active
+  pub none_led : (leads : List Lead) → leads ≡ [] → HasLeads v leads → (e : Event) → IsActive v.set.start (standing v.set) e → ⊥
+  none_led leads empty all e a =
+      let q = pair_of v.set set e a in
+      let queued = all e q.0 q.1 in
+      none_in (subst (λ ls. IsIn queued.0 (places ls)) empty queued.2)
 
--- where an entry doesn't lead, no pair has it
-pub none_has : (v : SetView) (x : Entry) → (Leads v x → ⊥) → (e : Event) (p : ActivePair) → IsPairOf v e p → lead_of e p ≢ x
-none_has v x stale e p h same = stale (e, p, h, ap (λ (y : Entry). y.name) same, ap (λ (y : Entry). y.id) same)
+-- with more places in a queue, what was in it is
+pub still_queued : (ns : List Name) (leads leads' : List Lead) → ((n : ℕ) → IsIn n (places leads) → IsIn n (places leads')) → (name : Name) → IsQueued ns leads name → IsQueued ns leads' name
+still_queued ns leads leads' stay name q = (q.0, q.1, stay q.0 q.2)
 
--- an entry of no lead is no lead's entry
-pub others_lead : (v : SetView) (entries entries' : List Entry) (x : Entry) (id : AgentId) → HasLeads v entries → IsLeast entries x → (Leads v x → ⊥) → TakesLeast entries id entries' → HasLeads v entries'
-others_lead v entries entries' x id all least stale taken e p h = elim (in-cons_cases (alike-in taken.others (all e p h))) [
-  | inl same ↦ absurd (none_has v x stale e p h (same ∙ one_least entries _ x taken.least least))
-  | inr there ↦ there
-]
+-- a place that goes and leads no pair is no lead's
+pub others_lead : (v : BareView) (leads leads' : List Lead) (n : ℕ) → HasLeads v leads → (Leads v n → ⊥) → Alike (places leads) (n ∷ places leads') → HasLeads v leads'
+others_lead v leads leads' n all stale taken e p h =
+    let q = all e p h in
+    elim (in-cons_cases (alike-in taken q.2)) [
+      | inl same ↦ absurd (stale (e, p, h, sym q.1.named ∙ ap (name_at v.names) same))
+      | inr there ↦ (q.0, q.1, there)
+    ]
 
--- the front leads where the entry that was looked at does
-pub front_leads : (v : SetView) (entries : List Entry) (x : Entry) → IsLeast entries x → Leads v x → FrontLeads v entries
-front_leads v entries x least leads y least' = subst (Leads v) (one_least entries x y least least') leads
-
--- an entry that goes is the least one
-pub takes_front : (entries entries' : List Entry) (x : Entry) (o : Option AgentId) → IsIn x entries → IfSome o (λ id. TakesLeast entries id entries') → IfNone o (entries ≡ []) → (id : AgentId) × TakesLeast entries id entries'
-takes_front entries entries' x None i some none = absurd (none_in (subst (IsIn x) none i))
-takes_front entries entries' x (Some id) i some none = (id, some)
-
--- what goes leaves its room
-pub room_stays : (old new : QueueView) (o : Option AgentId) → OnSome o (new.room ≡ old.room + 1) → IfNone o (new ≡ old) → old.room ≤ new.room
-room_stays old new None some none = let same = ap (λ (q : QueueView). q.room) none in omega arith
-room_stays old new (Some id) some none = omega (arith, some)
+-- a queue that isn't empty hands out the place at its front
+pub takes_front : (ns : List Name) (leads leads' : List Lead) (n : ℕ) (o : Option NameId) → IsTable ns → IsHeap ns leads → IsLeast ns leads n
+    → IfSome o (λ m. IsLeast ns leads m.place) → IfSome o (λ m. Alike (places leads) (m.place ∷ places leads')) → IfNone o (leads ≡ []) → Alike (places leads) (n ∷ places leads')
+takes_front ns leads leads' n None table heap front least others none = absurd (none_in (subst (λ ls. IsIn n (places ls)) none front.present))
+takes_front ns leads leads' n (Some m) table heap front least others none = subst (λ k. Alike (places leads) (k ∷ places leads')) (one_least ns leads m.place n table heap least front) others

@@ -9,33 +9,36 @@ use Rattle.ic_path.specs.Orders.{IsIn}
 use Rattle.ic_theory.specs.Born.{born_agents}
 use Rattle.ic_theory.specs.Wires.{IsWire}
 use Rattle.ic_theory.specs.Starts.{Start}
-use Rattle.ic_queue.specs.Queues.{Entry, IsLeast}
+use Rattle.ic_names.specs.Tables.{name_at, StandsAt}
+use Rattle.ic_queue.specs.declared.queue.Lead.{Lead}
+use Rattle.ic_queue.specs.Queues.{places, IsHeap, IsLeast}
 use Rattle.ic_roster.specs.Rosters.{Member}
 use Rattle.ic_set.specs.declared.pairs.ActivePair.{ActivePair}
 use Rattle.ic_set.specs.Pairs.{IsPairOf}
-use Rattle.ic_set.specs.Views.{SetView, standing}
+use Rattle.ic_set.specs.Views.{SetView, BareView, standing}
 
--- the entry of a pair's lead
-abbrev pub lead_of : Event → ActivePair → Entry
-lead_of e p = record { name = e.lead; id = p.lead }
+-- the agent whose name is at this place leads an active pair
+abbrev pub Leads : BareView → ℕ → Type 0
+Leads v n = (e : Event) × (p : ActivePair) × IsPairOf v.set e p × (e.lead ≡ name_at v.names n)
 
--- the agent of the entry leads an active pair
-abbrev pub Leads : SetView → Entry → Type 0
-Leads v x = (e : Event) × (p : ActivePair) × IsPairOf v e p × (e.lead ≡ x.name) × (p.lead ≡ x.id)
+-- the name is in the queue
+abbrev pub IsQueued : List Name → List Lead → Name → Type 0
+IsQueued ns leads name = (n : ℕ) × StandsAt ns name n × IsIn n (places leads)
 
--- each lead of an active pair has an entry
-abbrev pub HasLeads : SetView → List Entry → Type 0
-HasLeads v entries = (e : Event) (p : ActivePair) → IsPairOf v e p → IsIn (lead_of e p) entries
+-- the lead of each active pair is in the queue
+abbrev pub HasLeads : BareView → List Lead → Type 0
+HasLeads v leads = (e : Event) (p : ActivePair) → IsPairOf v.set e p → IsQueued v.names leads e.lead
 
--- the agent of the least entry leads an active pair
-abbrev pub FrontLeads : SetView → List Entry → Type 0
-FrontLeads v entries = (x : Entry) → IsLeast entries x → Leads v x
+-- the agent with the least name in the queue leads an active pair
+abbrev pub FrontLeads : BareView → List Lead → Type 0
+FrontLeads v leads = (n : ℕ) → IsLeast v.names leads n → Leads v n
 
--- the leads have their entries, the front is one of them, and there is room for an entry more for each event
-pub record KeepsQueue (v : SetView) (entries : List Entry) (space : ℕ) : Type 0 where
-  pub each : HasLeads v entries
-  pub front : FrontLeads v entries
-  pub room : length v.events ≤ space
+-- the leads are in the queue, the front is one of them, and there is room for each name that is known
+pub record KeepsQueue (v : BareView) (leads : List Lead) (space : ℕ) : Type 0 where
+  pub heap : IsHeap v.names leads
+  pub each : HasLeads v leads
+  pub front : FrontLeads v leads
+  pub room : length v.names ≤ space
 
 -- a wire leads from the agent's principal port to an auxiliary port of one of the event's agents
 abbrev pub IsNextTo : Start → List Event → Event → Name → Type 0

@@ -30,3 +30,8 @@ standing v = events_of v.events
 pub record AreChildren (e : Event) (ids : List AgentId) (children : List Member) : Type 0 where
   pub under : map (λ m. m.id) children ≡ ids
   pub named : map agent_of children ≡ born_agents e
+
+-- what is seen of a set without its queue: the set, and the names that are known, each at its place
+pub record BareView : Type 0 where
+  pub set : SetView
+  pub names : List Name

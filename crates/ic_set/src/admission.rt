@@ -1,18 +1,20 @@
 ghost use Rattle.std.specs.Prelude.{◌≡◌, ◌≢◌, ◌<◌, ◌≤◌, ◌++◌, false, length, IfOk, OnOk, OnErr};
+ghost use Rattle.ic_name.specs.Events.{Event as AnEvent};
 ghost use Rattle.ic_name.specs.declared.ids.EventId.{EventId as AnEventId};
 ghost use Rattle.ic_name.specs.declared.ids.Link.{Link as ALink};
 ghost use Rattle.ic_name.specs.declared.limits.TheConstants.{MAX_LINES};
 ghost use Rattle.ic_name.specs.Spots.{made_by};
+ghost use Rattle.ic_names.specs.Tables.{StandsAt};
 ghost use Rattle.ic_path.specs.Orders.{IsIn, Alike};
 ghost use Rattle.ic_link.specs.Links.{IsLawful};
 ghost use Rattle.ic_theory.specs.Born.{born_agents};
 ghost use Rattle.ic_theory.specs.Machine.{IsDeep};
 ghost use Rattle.ic_theory.specs.Rules.{born_kinds};
 ghost use Rattle.ic_cause.specs.Dependents.{causes_in};
-ghost use Rattle.ic_roster.specs.Rosters.{Stander};
+ghost use Rattle.ic_roster.specs.Rosters.{Stander, event_in, IsNamed};
 ghost use Rattle.ic_set.specs.Admission.{AreCausesOf, IsRankOver, CanPutIn, PutsIn, LeavesAll};
 ghost use Rattle.ic_set.specs.Changes.{Admits, IsSame};
-ghost use Rattle.ic_set.specs.Entering.{agents_in};
+ghost use Rattle.ic_set.specs.Entering.{agents_in, AreNamed, GrowsBy};
 ghost use Rattle.ic_set.specs.Joining.{made_links, HaveDigits};
 ghost use Rattle.ic_set.specs.Pairs.{IsPairOf};
 ghost use Rattle.ic_set.specs.Removal.{Stands};
@@ -24,14 +26,16 @@ use crate::pairs::ActivePair;
 use ic_cause::{Dependents, direct_causes, rank_of};
 use ic_link::LinkStore;
 use ic_name::{AgentId, Event, EventId, Kind, RuleEnd};
-use ic_roster::Standing;
+use ic_names::NameId;
+use ic_roster::{Interaction, Roster};
 use ic_start::outcome;
 use std::alloc::{AllocError, Global};
 
-/// What comes with an event: its line and rank, its two agents and its children, the ends of its links, and its direct
-/// causes.
+/// What comes with an event: its two agents with their names, its line and rank, its children, the ends of its links, and
+/// its direct causes.
 #[derive(Clone, Copy)]
 struct Firing<'a> {
+    interaction: Interaction,
     line: u32,
     rank: u32,
     pair: ActivePair,
@@ -42,30 +46,33 @@ struct Firing<'a> {
 
 impl<L: LinkStore> BareSet<L> {
     /// One event more, which is active, under an id with this line, which no standing event has: with it its children
-    /// come, and the links of its rule are put in. At an error nothing changes.
+    /// come, and the links of its rule are put in. At an error nothing changes but that names may be known that weren't.
     pub fn admit(
         &mut self,
         event: &Event,
         pair: ActivePair,
         line: u32,
     ) -> Result<EventId, AllocError>
-        requires active { IsPairOf self.old event.now pair }
+        requires active { IsPairOf self.old.set event.now pair }
         requires shallow { ¬ (IsDeep event.now) }
-        requires new_line { (x : Stander) → IsIn x self.old.events → x.id.line ≢ line }
+        requires new_line { (x : Stander) → IsIn x self.old.set.events → x.id.line ≢ line }
         requires few_lines { line < MAX_LINES }
-        requires few_events { length self.old.events < MAX_LINES }
-        ensures admitted { IfOk result (λ id. Admits self.old event.now line id self.new) }
-        ensures unchanged { OnErr result (IsSame self.old self.new) }
+        requires few_events { length self.old.set.events < MAX_LINES }
+        ensures admitted { IfOk result (λ id. Admits self.old.set event.now line id self.new.set) }
+        ensures grown { GrowsBy 4 self.old.names self.new.names }
+        ensures unchanged { OnErr result (IsSame self.old.set self.new.set) }
     {
         let causes = self.causes_of_pair(event, pair)?;
         let rank = self.rank_over(&causes)?;
+        let interaction = self.interaction_of(pair);
         let rules = outcome(event.lead_kind(), event.other_kind(), self.start.profile());
-        let children = children_for(self.alloc, event, rules.children)?;
-        let copy = event.copy()?;
+        let lead = interaction.lead;
+        let children = children_for(self.alloc, &mut self.roster, event, lead, rules.children)?;
         self.store.lawful();
-        let born = enter_all(self.alloc, &mut self.agents, children, line + 1)?;
-        self.agents.lawful();
+        let born = enter_all(self.alloc, &mut self.roster, &children, line + 1)?;
+        self.roster.lawful();
         let firing = Firing {
+            interaction,
             line,
             rank,
             pair,
@@ -75,20 +82,40 @@ impl<L: LinkStore> BareSet<L> {
         };
         match put_event(
             self.alloc,
-            &mut self.events,
+            &mut self.roster,
             &mut self.store,
             &mut self.dependents,
-            copy,
             &firing,
         ) {
             Ok(id) => {
-                self.events.lawful();
+                self.roster.lawful();
                 Ok(id)
             }
             Err(_) => {
-                remove_all(&mut self.agents, &born);
+                remove_all(&mut self.roster, &born);
                 Err(AllocError)
             }
+        }
+    }
+
+    /// The agents of an active pair with the places of their names. It takes no memory.
+    fn interaction_of(&self, pair: ActivePair) -> Interaction
+        requires { (e : AnEvent) × IsPairOf self.now.set e pair }
+        ensures named { IsNamed self.now.names result }
+        ensures event { (e : AnEvent) → IsPairOf self.now.set e pair → event_in self.now.names result ≡ e }
+    {
+        self.lawful();
+        let Some(lead) = self.roster.agent(pair.lead) else {
+            unreachable!()
+        };
+        let Some(other) = self.roster.agent(pair.other) else {
+            unreachable!()
+        };
+        Interaction {
+            lead: lead.name,
+            lead_kind: lead.kind,
+            other: other.name,
+            other_kind: other.kind,
         }
     }
 
@@ -98,8 +125,8 @@ impl<L: LinkStore> BareSet<L> {
         event: &Event,
         pair: ActivePair,
     ) -> Result<Vec<EventId>, AllocError>
-        requires { IsPairOf self.now event.now pair }
-        ensures { IfOk result (λ causes. AreCausesOf self.now event.now causes.items) }
+        requires { IsPairOf self.now.set event.now pair }
+        ensures { IfOk result (λ causes. AreCausesOf self.now.set event.now causes.items) }
     {
         self.store.lawful();
         direct_causes(self.alloc, &self.store, pair.lead, pair.other)
@@ -107,13 +134,13 @@ impl<L: LinkStore> BareSet<L> {
 
     /// The rank of an event that has the standing events under these ids as direct causes.
     fn rank_over(&self, causes: &[EventId]) -> Result<u32, AllocError>
-        requires low { (x : Stander) → IsIn x self.now.events → x.rank ≤ MAX_LINES }
-        requires standing { (d : AnEventId) → IsIn d causes.now → Stands self.now d }
-        ensures { IfOk result (λ rank. IsRankOver self.now.events causes.now rank) }
+        requires low { (x : Stander) → IsIn x self.now.set.events → x.rank ≤ MAX_LINES }
+        requires standing { (d : AnEventId) → IsIn d causes.now → Stands self.now.set d }
+        ensures { IfOk result (λ rank. IsRankOver self.now.set.events causes.now rank) }
     {
         let mut ranks = Vec::with_capacity(self.alloc, causes.len())?;
         for cause in causes {
-            let Some(entry) = self.events.get(*cause) else {
+            let Some(entry) = self.roster.event(*cause) else {
                 unreachable!()
             };
             ranks.push(entry.rank)?;
@@ -122,42 +149,51 @@ impl<L: LinkStore> BareSet<L> {
     }
 }
 
-/// The children of an event, by digit.
-pub(crate) fn children_for(
+/// The children of an event, by digit, whose lead has its name at this place. Their names are entered.
+fn children_for(
     alloc: Global,
+    roster: &mut Roster,
     event: &Event,
+    lead: NameId,
     kinds: &[Kind],
 ) -> Result<Vec<NewAgent>, AllocError>
+    requires lead { StandsAt roster.old.names event.now.lead lead.place }
     requires kinds { kinds.now ≡ born_kinds event.now.lead_kind event.now.other_kind }
     requires shallow { ¬ (IsDeep event.now) }
-    ensures { IfOk result (λ children. agents_in children.items ≡ born_agents event.now) }
+    ensures children { IfOk result (λ children. agents_in roster.new.names children.items ≡ born_agents event.now) }
+    ensures inside { IfOk result (λ children. AreNamed roster.new.names children.items) }
+    ensures grown { GrowsBy 4 roster.old.names roster.new.names }
+    ensures agents { roster.new.agents ≡ roster.old.agents }
+    ensures events { roster.new.events ≡ roster.old.events }
 {
     event.lead().lawful();
-    children_of(alloc, event.lead(), kinds)
+    children_of(alloc, roster, lead, kinds)
 }
 
 /// Puts in an event with its links and its direct causes. At an error nothing changes.
 fn put_event<L: LinkStore>(
     alloc: Global,
-    events: &mut Standing,
+    roster: &mut Roster,
     store: &mut L,
     dependents: &mut Dependents,
-    event: Event,
     firing: &Firing<'_>,
 ) -> Result<EventId, AllocError>
-    requires { CanPutIn event firing.now.line firing.now.rank firing.now.pair firing.now.born.now firing.now.ends.now firing.now.causes.now events.old (L.links store.old) (causes_in dependents.old) }
-    ensures put { IfOk result (λ id. (id.line ≡ firing.now.line) × PutsIn (record { id = id; event = event; rank = firing.now.rank; born = firing.now.born.now }) (made_links id firing.now.pair firing.now.born.now 0 firing.now.ends.now) firing.now.causes.now events.old events.new (L.links store.old) (L.links store.new) (causes_in dependents.old) (causes_in dependents.new)) }
-    ensures unchanged { OnErr result (LeavesAll events.old events.new (L.links store.old) (L.links store.new) (causes_in dependents.old) (causes_in dependents.new)) }
+    requires named { IsNamed roster.old.names firing.now.interaction }
+    requires can { CanPutIn (event_in roster.old.names firing.now.interaction) firing.now.line firing.now.rank firing.now.pair firing.now.born.now firing.now.ends.now firing.now.causes.now roster.old.events (L.links store.old) (causes_in dependents.old) }
+    ensures put { IfOk result (λ id. (id.line ≡ firing.now.line) × PutsIn (record { id = id; event = event_in roster.old.names firing.now.interaction; rank = firing.now.rank; born = firing.now.born.now }) (made_links id firing.now.pair firing.now.born.now 0 firing.now.ends.now) firing.now.causes.now roster.old.events roster.new.events (L.links store.old) (L.links store.new) (causes_in dependents.old) (causes_in dependents.new)) }
+    ensures unchanged { OnErr result (LeavesAll roster.old.events roster.new.events (L.links store.old) (L.links store.new) (causes_in dependents.old) (causes_in dependents.new)) }
+    ensures agents { roster.new.agents ≡ roster.old.agents }
+    ensures names { roster.new.names ≡ roster.old.names }
 {
-    let id = events.insert(event, firing.line, firing.rank, firing.born)?;
-    events.lawful();
+    let id = roster.insert_event(firing.interaction, firing.line, firing.rank, firing.born)?;
+    roster.lawful();
     let Ok(_) = put_links(alloc, store, id, firing) else {
-        events.remove(id);
+        roster.remove_event(id);
         return Err(AllocError);
     };
     let Ok(_) = dependents.add(id, firing.causes) else {
         store.take_of(id);
-        events.remove(id);
+        roster.remove_event(id);
         return Err(AllocError);
     };
     Ok(id)

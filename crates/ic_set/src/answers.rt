@@ -60,7 +60,9 @@ impl<L: LinkStore> StandingSet<L> {
         ensures absent { IfNone result ((e : AnEvent) → IsActive self.now.start (standing self.now) e → ⊥) }
     {
         self.lawful();
-        self.bare.pair_with(self.queue.least()?.id)
+        let name = self.queue.least()?;
+        let agent = self.bare.roster().named(name)?;
+        self.bare.pair_with(agent)
     }
 
     /// All active pairs, by lead.

@@ -1,4 +1,5 @@
 ghost use Rattle.std.specs.Prelude.{◌≡◌, IfOk};
+ghost use Rattle.ic_names.specs.Tables.{IsTable};
 ghost use Rattle.ic_set.specs.Sets.{IsStandingSet};
 ghost use Rattle.ic_set.specs.Changes.{IsOver};
 
@@ -6,7 +7,7 @@ use crate::entering::{agents_of_kinds, enter_all};
 use crate::joining::{add_all, links_of_start};
 use ic_cause::Dependents;
 use ic_link::LinkStore;
-use ic_roster::{Agents, Standing};
+use ic_roster::Roster;
 use ic_start::Start;
 use std::alloc::{AllocError, Global};
 use std::marker::Model;
@@ -16,8 +17,7 @@ use std::marker::Model;
 #[derive(Drop)]
 pub struct BareSet<L: LinkStore> {
     pub(crate) start: Start,
-    pub(crate) agents: Agents,
-    pub(crate) events: Standing,
+    pub(crate) roster: Roster,
     pub(crate) store: L,
     pub(crate) dependents: Dependents,
     pub(crate) alloc: Global,
@@ -25,33 +25,32 @@ pub struct BareSet<L: LinkStore> {
 
 impl<L: LinkStore> Model for BareSet<L> {
     ghost use Rattle.ic_cause.specs.Dependents.{causes_in};
-    ghost use Rattle.ic_set.specs.Views.{SetView};
+    ghost use Rattle.ic_set.specs.Views.{BareView};
     ghost use Rattle.ic_set.specs.Sets.{IsKept};
 
-    ghost Value = { SetView };
+    ghost Value = { BareView };
 
-    ghost view = { λ a. record { start = a.start; agents = a.agents; events = a.events } };
+    ghost view = { λ a. record { set = record { start = a.start; agents = a.roster.agents; events = a.roster.events }; names = a.roster.names } };
 
-    ghost invariant = { λ a. IsKept (record { start = a.start; agents = a.agents; events = a.events }) (L.links a.store) (causes_in a.dependents) };
+    ghost invariant = { λ a. IsKept (record { start = a.start; agents = a.roster.agents; events = a.roster.events }) (L.links a.store) (causes_in a.dependents) };
 }
 
 impl<L: LinkStore> BareSet<L> {
     /// The empty set over a start.
     pub fn over(alloc: Global, start: Start) -> Result<BareSet<L>, AllocError>
-        ensures { IfOk result (λ set. IsOver start set) }
+        ensures { IfOk result (λ set. IsOver start set.set) }
     {
         start.lawful();
-        let mut agents = Agents::new(alloc);
-        let entering = agents_of_kinds(alloc, start.kinds())?;
-        let ids = enter_all(alloc, &mut agents, entering, 0)?;
-        agents.lawful();
+        let mut roster = Roster::new(alloc);
+        let entering = agents_of_kinds(alloc, &mut roster, start.kinds())?;
+        let ids = enter_all(alloc, &mut roster, &entering, 0)?;
+        roster.lawful();
         let links = links_of_start(alloc, &ids, start.links())?;
         let mut store = L::empty(alloc);
         add_all(&mut store, &links)?;
         Ok(BareSet {
             start,
-            agents,
-            events: Standing::new(alloc),
+            roster,
             store,
             dependents: Dependents::new(alloc),
             alloc,
@@ -60,29 +59,25 @@ impl<L: LinkStore> BareSet<L> {
 
     /// What holds of every standing set, for whoever has to show it.
     pub fn lawful(&self)
-        ensures { IsStandingSet self.now }
+        ensures set { IsStandingSet self.now.set }
+        ensures table { IsTable self.now.names }
     {
-        let _ = &self.start;
+        self.roster.lawful();
     }
 
     /// The start.
     pub fn start(&self) -> &Start
-        ensures { result.now ≡ self.now.start }
+        ensures { result.now ≡ self.now.set.start }
     {
         &self.start
     }
 
-    /// The agents of the start and of the events.
-    pub fn agents(&self) -> &Agents
-        ensures { result.now ≡ self.now.agents }
+    /// The agents of the start and of the events, and the standing events, with the names that are known.
+    pub fn roster(&self) -> &Roster
+        ensures agents { result.now.agents ≡ self.now.set.agents }
+        ensures events { result.now.events ≡ self.now.set.events }
+        ensures names { result.now.names ≡ self.now.names }
     {
-        &self.agents
-    }
-
-    /// The standing events.
-    pub fn events(&self) -> &Standing
-        ensures { result.now ≡ self.now.events }
-    {
-        &self.events
+        &self.roster
     }
 }

@@ -7,13 +7,15 @@ ghost use Rattle.ic_set.specs.Changes.{Admits, IsSame, TakesOut};
 ghost use Rattle.ic_set.specs.Pairs.{IsPairOf};
 ghost use Rattle.ic_set.specs.Removal.{Stands, IsFree};
 
-use crate::leads::MAX_NEW_LEADS;
 use crate::pairs::ActivePair;
-use crate::queue::{drop_stale, put, put_all};
+use crate::queue::{drop_stale, put_all, put_children, put_lead};
 use crate::set::StandingSet;
 use ic_link::LinkStore;
 use ic_name::{Event, EventId};
 use std::alloc::AllocError;
+
+/// An event makes so many children at most.
+const MAX_CHILDREN: usize = 4;
 
 impl<L: LinkStore> StandingSet<L> {
     /// One event more, which is active, under an id with this line, which no standing event has: with it its children
@@ -33,12 +35,13 @@ impl<L: LinkStore> StandingSet<L> {
         ensures unchanged { OnErr result (IsSame self.old self.new) }
     {
         self.bare.lawful();
-        let names = self.bare.new_leads(event, pair)?;
-        self.queue
-            .reserve(self.bare.events().len() + 1 + MAX_NEW_LEADS)?;
+        let beside = self.bare.beside(pair);
+        let names = self.bare.roster().names().len();
+        self.queue.reserve(names + MAX_CHILDREN)?;
         let id = self.bare.admit(event, pair, line)?;
         self.bare.lawful();
-        put_all(&mut self.queue, &self.bare, names);
+        put_all(&mut self.queue, &self.bare, &beside);
+        put_children(&mut self.queue, &self.bare, id);
         drop_stale(&mut self.queue, &self.bare);
         Ok(id)
     }
@@ -50,11 +53,9 @@ impl<L: LinkStore> StandingSet<L> {
         ensures { TakesOut self.old id self.new }
     {
         self.bare.lawful();
-        let Some(lead) = self.bare.take_out(id) else {
-            return;
-        };
+        let lead = self.bare.take_out(id);
         self.bare.lawful();
-        put(&mut self.queue, &self.bare, lead);
+        put_lead(&mut self.queue, &self.bare, lead);
         drop_stale(&mut self.queue, &self.bare);
     }
 }

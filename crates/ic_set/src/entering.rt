@@ -1,33 +1,43 @@
 ghost use Rattle.std.specs.Prelude.{◌≡◌, ◌<◌, ◌≤◌, ◌++◌, [], ◌⊎◌, length, List, map, IfOk, OnErr};
 ghost use Rattle.ic_name.specs.Names.{depth, start_name, child_name};
 ghost use Rattle.ic_name.specs.declared.limits.TheConstants.{MAX_DEPTH};
+ghost use Rattle.ic_names.specs.Tables.{name_at};
 ghost use Rattle.ic_path.specs.Orders.{Alike};
 ghost use Rattle.ic_theory.specs.Born.{named};
 ghost use Rattle.ic_roster.specs.Rosters.{Member};
-ghost use Rattle.ic_set.specs.Entering.{agents_in, CanEnter, Enters};
+ghost use Rattle.ic_set.specs.Entering.{agents_in, AreNamed, GrowsBy, CanEnter, Enters};
 
 use ic_name::limits::MAX_START_AGENTS;
 use ic_name::{AgentId, AgentName, ChildFault, Kind};
-use ic_roster::Agents;
+use ic_names::NameId;
+use ic_roster::Roster;
 use std::alloc::{AllocError, Global};
 
-/// An agent that is to be entered.
-#[derive(Drop)]
+/// An agent that is to be entered, by the place of its name.
+#[derive(Clone, Copy)]
 pub(crate) struct NewAgent {
-    pub name: AgentName,
+    pub name: NameId,
     pub kind: Kind,
 }
 
-/// The agents of a start, by number.
-pub(crate) fn agents_of_kinds(alloc: Global, kinds: &[Kind]) -> Result<Vec<NewAgent>, AllocError>
+/// The agents of a start, by number, whose names are entered.
+pub(crate) fn agents_of_kinds(
+    alloc: Global,
+    roster: &mut Roster,
+    kinds: &[Kind],
+) -> Result<Vec<NewAgent>, AllocError>
     requires { length kinds.now ≤ MAX_START_AGENTS }
-    ensures { IfOk result (λ agents. agents_in agents.items ≡ named start_name 0 kinds.now) }
+    ensures named { IfOk result (λ agents. agents_in roster.new.names agents.items ≡ named start_name 0 kinds.now) }
+    ensures inside { IfOk result (λ agents. AreNamed roster.new.names agents.items) }
+    ensures agents { roster.new.agents ≡ roster.old.agents }
+    ensures events { roster.new.events ≡ roster.old.events }
 {
     let mut agents = Vec::with_capacity(alloc, kinds.len())?;
     for number in 0..kinds.len() {
         let Some(name) = AgentName::start(alloc, number as u16) else {
             unreachable!()
         };
+        let name = roster.enter(&name)?;
         agents.push(NewAgent {
             name,
             kind: kinds[number],
@@ -36,19 +46,25 @@ pub(crate) fn agents_of_kinds(alloc: Global, kinds: &[Kind]) -> Result<Vec<NewAg
     Ok(agents)
 }
 
-/// The children of an agent with these kinds, by digit.
+/// The children of the agent whose name is at this place, with these kinds, by digit. Their names are entered.
 pub(crate) fn children_of(
     alloc: Global,
-    lead: &AgentName,
+    roster: &mut Roster,
+    lead: NameId,
     kinds: &[Kind],
 ) -> Result<Vec<NewAgent>, AllocError>
+    requires inside { lead.place < length roster.old.names }
     requires few { length kinds.now ≤ 4 }
-    requires shallow { (kinds.now ≡ []) ⊎ (depth lead.now < MAX_DEPTH) }
-    ensures { IfOk result (λ agents. agents_in agents.items ≡ named (child_name lead.now) 0 kinds.now) }
+    requires shallow { (kinds.now ≡ []) ⊎ (depth (name_at roster.old.names lead.place) < MAX_DEPTH) }
+    ensures named { IfOk result (λ agents. agents_in roster.new.names agents.items ≡ named (child_name (name_at roster.old.names lead.place)) 0 kinds.now) }
+    ensures inside { IfOk result (λ agents. AreNamed roster.new.names agents.items) }
+    ensures grown { GrowsBy (length kinds.now) roster.old.names roster.new.names }
+    ensures agents { roster.new.agents ≡ roster.old.agents }
+    ensures events { roster.new.events ≡ roster.old.events }
 {
     let mut agents = Vec::with_capacity(alloc, kinds.len())?;
     for digit in 0..kinds.len() {
-        let name = match lead.child(digit as u8) {
+        let name = match roster.enter_child(lead, digit as u8) {
             Ok(name) => name,
             Err(ChildFault::Memory) => return Err(AllocError),
             Err(ChildFault::Deep) => unreachable!(),
@@ -64,18 +80,21 @@ pub(crate) fn children_of(
 /// Enters these agents, all with this serial number, and gives their ids. At an error nothing changes.
 pub(crate) fn enter_all(
     alloc: Global,
-    agents: &mut Agents,
-    entering: Vec<NewAgent>,
+    roster: &mut Roster,
+    entering: &[NewAgent],
     serial: u32,
 ) -> Result<Vec<AgentId>, AllocError>
-    requires { CanEnter agents.old (agents_in entering.items) }
-    ensures entered { IfOk result (λ ids. Enters agents.old (agents_in entering.items) serial ids.items agents.new) }
-    ensures unchanged { OnErr result (Alike agents.old agents.new) }
+    requires inside { AreNamed roster.old.names entering.now }
+    requires can { CanEnter roster.old.agents (agents_in roster.old.names entering.now) }
+    ensures entered { IfOk result (λ ids. Enters roster.old.agents (agents_in roster.old.names entering.now) serial ids.items roster.new.agents) }
+    ensures names { roster.new.names ≡ roster.old.names }
+    ensures events { roster.new.events ≡ roster.old.events }
+    ensures unchanged { OnErr result (Alike roster.old.agents roster.new.agents) }
 {
     let mut ids = Vec::with_capacity(alloc, entering.len())?;
     for agent in entering {
-        let Ok(id) = agents.insert(agent.name, agent.kind, serial) else {
-            remove_all(agents, &ids);
+        let Ok(id) = roster.insert(agent.name, agent.kind, serial) else {
+            remove_all(roster, &ids);
             return Err(AllocError);
         };
         ids.push_reserved(id);
@@ -84,10 +103,12 @@ pub(crate) fn enter_all(
 }
 
 /// The agents under these ids go. It takes no memory.
-pub(crate) fn remove_all(agents: &mut Agents, ids: &[AgentId])
-    ensures { (gone left : List Member) → map (λ m. m.id) gone ≡ ids.now → Alike agents.old (gone ++ left) → Alike left agents.new }
+pub(crate) fn remove_all(roster: &mut Roster, ids: &[AgentId])
+    ensures left { (gone left : List Member) → map (λ m. m.id) gone ≡ ids.now → Alike roster.old.agents (gone ++ left) → Alike left roster.new.agents }
+    ensures names { roster.new.names ≡ roster.old.names }
+    ensures events { roster.new.events ≡ roster.old.events }
 {
     for id in ids {
-        agents.remove(*id);
+        roster.remove(*id);
     }
 }

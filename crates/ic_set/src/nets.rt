@@ -1,10 +1,11 @@
-ghost use Rattle.std.specs.Prelude.{◌≡◌, List, [], map, IfOk};
+ghost use Rattle.std.specs.Prelude.{◌≡◌, All, List, [], map, IfOk};
 ghost use Rattle.ic_name.specs.Events.{Event as AnEvent};
 ghost use Rattle.ic_path.specs.Orders.{Alike};
 ghost use Rattle.ic_theory.specs.Firings.{AreAfterCauses, then_fired};
 ghost use Rattle.ic_theory.specs.Listed.{shown};
 ghost use Rattle.ic_theory.specs.Nets.{IsSameNet, net_of};
 ghost use Rattle.ic_theory.specs.Steps.{AreDefined, steps};
+ghost use Rattle.ic_roster.specs.Rosters.{event_in, IsNamed};
 ghost use Rattle.ic_set.specs.Views.{standing};
 ghost use Rattle.ic_set.specs.Orders.{AreRanked};
 
@@ -14,15 +15,16 @@ use ic_cause::RankedEvent;
 use ic_link::LinkStore;
 use ic_name::Event;
 use ic_net::{Net, StepFault, replay};
+use ic_roster::Roster;
 use std::alloc::{AllocError, Global};
 
 impl<L: LinkStore> BareSet<L> {
     /// The net of the set: the one in which the steps of its events end, in each causal order of them (Lafont 1997).
     /// At an error memory ran out, or the net would have more agents or rings than can be counted.
     pub fn net(&self) -> Result<Net, AllocError>
-        ensures left { IfOk result (λ net. IsSameNet (shown net) (net_of self.now.start (standing self.now))) }
-        ensures defined { IfOk result (λ _. (order : List AnEvent) → Alike (standing self.now) (then_fired [] order) → AreAfterCauses self.now.start (then_fired [] order) (then_fired [] order) → AreDefined (net_of self.now.start []) order) }
-        ensures every_order { IfOk result (λ net. (order : List AnEvent) → Alike (standing self.now) (then_fired [] order) → AreAfterCauses self.now.start (then_fired [] order) (then_fired [] order) → IsSameNet (shown net) (steps (net_of self.now.start []) order)) }
+        ensures left { IfOk result (λ net. IsSameNet (shown net) (net_of self.now.set.start (standing self.now.set))) }
+        ensures defined { IfOk result (λ _. (order : List AnEvent) → Alike (standing self.now.set) (then_fired [] order) → AreAfterCauses self.now.set.start (then_fired [] order) (then_fired [] order) → AreDefined (net_of self.now.set.start []) order) }
+        ensures every_order { IfOk result (λ net. (order : List AnEvent) → Alike (standing self.now.set) (then_fired [] order) → AreAfterCauses self.now.set.start (then_fired [] order) (then_fired [] order) → IsSameNet (shown net) (steps (net_of self.now.set.start []) order)) }
     {
         self.lawful();
         let events = without_ranks(self.alloc, self.ranked()?)?;
@@ -38,21 +40,26 @@ impl<L: LinkStore> BareSet<L> {
 
     /// The standing events with their ranks, in canonical order.
     pub fn ranked(&self) -> Result<Vec<RankedEvent>, AllocError>
-        ensures { IfOk result (λ events. AreRanked self.now events.items) }
+        ensures { IfOk result (λ events. AreRanked self.now.set events.items) }
     {
         self.lawful();
-        with_ranks(self.alloc, &self.all_placed()?)
+        with_ranks(self.alloc, &self.roster, &self.all_placed()?)
     }
 }
 
 /// These events with their ranks.
-fn with_ranks(alloc: Global, placed: &[Placed<'_>]) -> Result<Vec<RankedEvent>, AllocError>
-    ensures events { IfOk result (λ events. map (λ x. x.event) events.items ≡ map (λ p. p.event.now) placed.now) }
+fn with_ranks(
+    alloc: Global,
+    roster: &Roster,
+    placed: &[Placed],
+) -> Result<Vec<RankedEvent>, AllocError>
+    requires { All (λ p. IsNamed roster.now.names p.interaction) placed.now }
+    ensures events { IfOk result (λ events. map (λ x. x.event) events.items ≡ map (λ p. event_in roster.now.names p.interaction) placed.now) }
     ensures ranks { IfOk result (λ events. map (λ x. x.rank) events.items ≡ map (λ p. p.rank) placed.now) }
 {
     let mut events = Vec::with_capacity(alloc, placed.len())?;
     for standing in placed {
-        let event = standing.event.copy()?;
+        let event = roster.read(standing.interaction)?;
         events.push(RankedEvent {
             event,
             rank: standing.rank,

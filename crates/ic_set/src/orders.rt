@@ -6,31 +6,32 @@ ghost use Rattle.ic_set.specs.Placed.{IsPlaced, ArePlaced};
 ghost use Rattle.ic_set.specs.Removal.{Stands};
 
 use crate::bare::BareSet;
-use ic_cause::canonical_cmp;
+use crate::comparing::canonical_order;
 use ic_link::LinkStore;
-use ic_name::{Event, EventId};
+use ic_name::EventId;
+use ic_roster::Interaction;
 use std::alloc::{AllocError, Global};
 
 /// A standing event that is put in order.
 #[derive(Clone, Copy)]
-pub(crate) struct Placed<'a> {
+pub(crate) struct Placed {
     pub id: EventId,
-    pub event: &'a Event,
+    pub interaction: Interaction,
     pub rank: u32,
 }
 
 impl<L: LinkStore> BareSet<L> {
     /// All standing events, in canonical order.
     pub fn standing(&self) -> Result<Vec<EventId>, AllocError>
-        ensures { IfOk result (λ ids. AreInOrder self.now IsAny ids.items) }
+        ensures { IfOk result (λ ids. AreInOrder self.now.set IsAny ids.items) }
     {
         ids_of(self.alloc, &self.all_placed()?)
     }
 
     /// The direct causes of a standing event, in canonical order.
     pub fn causes(&self, id: EventId) -> Result<Vec<EventId>, AllocError>
-        requires { Stands self.now id }
-        ensures { IfOk result (λ ids. AreInOrder self.now (IsCauseOf self.now id) ids.items) }
+        requires { Stands self.now.set id }
+        ensures { IfOk result (λ ids. AreInOrder self.now.set (IsCauseOf self.now.set id) ids.items) }
     {
         match self.dependents.causes(id) {
             Some(ids) => ids_of(self.alloc, &self.in_order(ids)?),
@@ -40,45 +41,52 @@ impl<L: LinkStore> BareSet<L> {
 
     /// The direct dependents of a standing event, in canonical order.
     pub fn dependents(&self, id: EventId) -> Result<Vec<EventId>, AllocError>
-        requires { Stands self.now id }
-        ensures { IfOk result (λ ids. AreInOrder self.now (DependsOn self.now id) ids.items) }
+        requires { Stands self.now.set id }
+        ensures { IfOk result (λ ids. AreInOrder self.now.set (DependsOn self.now.set id) ids.items) }
     {
         ids_of(self.alloc, &self.in_order(self.dependents.dependents(id))?)
     }
 
     /// All standing events, in canonical order, with their ids and ranks.
-    pub(crate) fn all_placed(&self) -> Result<Vec<Placed<'_>>, AllocError>
+    pub(crate) fn all_placed(&self) -> Result<Vec<Placed>, AllocError>
         ensures { IfOk result (λ placed. ArePlaced self.now IsAny placed.items) }
     {
-        self.in_order(&self.events.ids(self.alloc)?)
+        self.in_order(&self.roster.event_ids(self.alloc)?)
     }
 
     /// The standing events under these ids, in canonical order.
-    fn in_order(&self, ids: &[EventId]) -> Result<Vec<Placed<'_>>, AllocError>
+    fn in_order(&self, ids: &[EventId]) -> Result<Vec<Placed>, AllocError>
         requires once { (d : AnEventId) (rest : List AnEventId) → Pick d ids.now rest → IsIn d rest → ⊥ }
-        requires standing { (d : AnEventId) → IsIn d ids.now → Stands self.now d }
+        requires standing { (d : AnEventId) → IsIn d ids.now → Stands self.now.set d }
         ensures { IfOk result (λ placed. ArePlaced self.now (λ x. IsIn x.id ids.now) placed.items) }
     {
         self.lawful();
         let mut placed = self.placed(ids)?;
-        placed.sort_by(|a, b| canonical_cmp(a.event, a.rank, b.event, b.rank))?;
+        let names = self.roster.names();
+        placed.sort_by(|a, b| canonical_order(
+            names,
+            a.interaction,
+            a.rank,
+            b.interaction,
+            b.rank,
+        ))?;
         Ok(placed)
     }
 
     /// The standing events under these ids, in the order of the ids.
-    fn placed(&self, ids: &[EventId]) -> Result<Vec<Placed<'_>>, AllocError>
-        requires { (d : AnEventId) → IsIn d ids.now → Stands self.now d }
+    fn placed(&self, ids: &[EventId]) -> Result<Vec<Placed>, AllocError>
+        requires { (d : AnEventId) → IsIn d ids.now → Stands self.now.set d }
         ensures under { IfOk result (λ placed. map (λ p. p.id) placed.items ≡ ids.now) }
         ensures shown { IfOk result (λ placed. All (IsPlaced self.now) placed.items) }
     {
         let mut placed = Vec::with_capacity(self.alloc, ids.len())?;
         for id in ids {
-            let Some(entry) = self.events.get(*id) else {
+            let Some(entry) = self.roster.event(*id) else {
                 unreachable!()
             };
             placed.push(Placed {
                 id: *id,
-                event: entry.event,
+                interaction: entry.interaction,
                 rank: entry.rank,
             })?;
         }
@@ -87,7 +95,7 @@ impl<L: LinkStore> BareSet<L> {
 }
 
 /// The ids of these events.
-fn ids_of(alloc: Global, placed: &[Placed<'_>]) -> Result<Vec<EventId>, AllocError>
+fn ids_of(alloc: Global, placed: &[Placed]) -> Result<Vec<EventId>, AllocError>
     ensures { IfOk result (λ ids. ids.items ≡ map (λ p. p.id) placed.now) }
 {
     let mut ids = Vec::with_capacity(alloc, placed.len())?;

@@ -1,10 +1,11 @@
-ghost use Rattle.std.specs.Prelude.{◌≡◌, ◌≢◌, ◌⊎◌, ◌↔◌, IsTrue, IfSome, IfNone, IfOk};
+ghost use Rattle.std.specs.Prelude.{◌≡◌, ◌≢◌, ◌<◌, ◌⊎◌, ◌↔◌, length, IsTrue, IfSome, IfNone, IfOk};
 ghost use Rattle.ic_name.specs.declared.ids.AgentId.{AgentId as AnAgentId};
 ghost use Rattle.ic_name.specs.declared.ids.Spot.TheVariants.{Agent};
 ghost use Rattle.ic_name.specs.Events.{Event as AnEvent};
 ghost use Rattle.ic_link.specs.declared.store.Far.TheVariants.{End};
 ghost use Rattle.ic_set.specs.declared.pairs.ActivePair.{ActivePair as APair};
 ghost use Rattle.ic_name.specs.declared.ports.Port.TheVariants.{Of};
+ghost use Rattle.ic_names.specs.Tables.{name_at};
 ghost use Rattle.ic_path.specs.Orders.{IsIn};
 ghost use Rattle.ic_theory.specs.Active.{IsActive};
 ghost use Rattle.ic_theory.specs.Sets.{consumed_times};
@@ -17,6 +18,7 @@ ghost use Rattle.ic_set.specs.Views.{standing};
 use crate::bare::BareSet;
 use ic_link::{Far, LinkStore};
 use ic_name::{AgentId, AgentName, Event, Kind, Spot};
+use ic_names::NameTable;
 use ic_roster::AgentEntry;
 use std::alloc::AllocError;
 use std::cmp::Ordering;
@@ -31,13 +33,13 @@ pub struct ActivePair {
 impl<L: LinkStore> BareSet<L> {
     /// The agent whose principal port a wire joins to that of this agent; `None` where there is none. It takes no memory.
     pub fn partner(&self, agent: AgentId) -> Option<AgentId>
-        ensures found { IfSome result (λ partner. AreJoined self.now agent partner) }
-        ensures absent { IfNone result ((partner : AnAgentId) → AreJoined self.now agent partner → ⊥) }
+        ensures found { IfSome result (λ partner. AreJoined self.now.set agent partner) }
+        ensures absent { IfNone result ((partner : AnAgentId) → AreJoined self.now.set agent partner → ⊥) }
     {
-        let entry = self.agents.get(agent)?;
+        let entry = self.roster.agent(agent)?;
         let partner = principal_end(self.store.far(Spot::Agent(agent, 0)))?;
-        let other = self.agents.get(partner)?;
-        if self.events.led_by(entry.name).is_some() || self.events.led_by(other.name).is_some() {
+        let other = self.roster.agent(partner)?;
+        if self.roster.led_by(entry.name).is_some() || self.roster.led_by(other.name).is_some() {
             return None;
         }
         Some(partner)
@@ -45,16 +47,27 @@ impl<L: LinkStore> BareSet<L> {
 
     /// The ids of the agents of an event, where it is active; `None` where it isn't. It takes no memory.
     pub fn active_pair(&self, event: &Event) -> Option<ActivePair>
-        ensures found { IfSome result (λ pair. IsPairOf self.now event.now pair) }
-        ensures absent { IfNone result (IsActive self.now.start (standing self.now) event.now → ⊥) }
+        ensures found { IfSome result (λ pair. IsPairOf self.now.set event.now pair) }
+        ensures absent { IfNone result (IsActive self.now.set.start (standing self.now.set) event.now → ⊥) }
     {
         event.lawful();
-        let lead = self.agents.find(event.lead())?;
-        if !is_agent(self.agents.get(lead)?, event.lead(), event.lead_kind()) {
+        let names = self.roster.names();
+        let lead = self.roster.find(event.lead())?;
+        if !is_agent(
+            names,
+            self.roster.agent(lead)?,
+            event.lead(),
+            event.lead_kind(),
+        ) {
             return None;
         }
         let other = self.partner(lead)?;
-        if !is_agent(self.agents.get(other)?, event.other(), event.other_kind()) {
+        if !is_agent(
+            names,
+            self.roster.agent(other)?,
+            event.other(),
+            event.other_kind(),
+        ) {
             return None;
         }
         Some(ActivePair { lead, other })
@@ -62,17 +75,14 @@ impl<L: LinkStore> BareSet<L> {
 
     /// The active pair that this agent is of, if it is of one. It takes no memory.
     pub fn pair_with(&self, agent: AgentId) -> Option<ActivePair>
-        ensures found { IfSome result (λ pair. ((pair.lead ≡ agent) ⊎ (pair.other ≡ agent)) × (e : AnEvent) × IsPairOf self.now e pair) }
-        ensures absent { IfNone result ((e : AnEvent) (pair : APair) → (pair.lead ≡ agent) ⊎ (pair.other ≡ agent) → IsPairOf self.now e pair → ⊥) }
+        ensures found { IfSome result (λ pair. ((pair.lead ≡ agent) ⊎ (pair.other ≡ agent)) × (e : AnEvent) × IsPairOf self.now.set e pair) }
+        ensures absent { IfNone result ((e : AnEvent) (pair : APair) → (pair.lead ≡ agent) ⊎ (pair.other ≡ agent) → IsPairOf self.now.set e pair → ⊥) }
     {
         self.lawful();
         let partner = self.partner(agent)?;
-        match self
-            .agents
-            .get(agent)?
-            .name
-            .cmp(self.agents.get(partner)?.name)
-        {
+        let first = self.roster.agent(agent)?.name;
+        let second = self.roster.agent(partner)?.name;
+        match self.roster.names().cmp(first, second) {
             Ordering::Less => Some(ActivePair {
                 lead: agent,
                 other: partner,
@@ -86,11 +96,11 @@ impl<L: LinkStore> BareSet<L> {
 
     /// All active pairs, by lead.
     pub fn active(&self) -> Result<Vec<ActivePair>, AllocError>
-        ensures { IfOk result (λ pairs. AreActivePairs self.now pairs.items) }
+        ensures { IfOk result (λ pairs. AreActivePairs self.now.set pairs.items) }
     {
         self.lawful();
         let mut pairs = Vec::new(self.alloc);
-        for agent in &self.agents.in_order(self.alloc)? {
+        for agent in &self.roster.in_order(self.alloc)? {
             let Some(pair) = self.pair_with(*agent) else {
                 continue;
             };
@@ -104,8 +114,8 @@ impl<L: LinkStore> BareSet<L> {
     /// The agents whose principal ports wires lead to from the auxiliary ports of this pair's agents, in place of each that
     /// there isn't the pair's lead. It takes no memory.
     pub fn beside(&self, pair: ActivePair) -> [AgentId; 4]
-        requires { (e : AnEvent) × IsPairOf self.now e pair }
-        ensures { (e : AnEvent) → IsPairOf self.now e pair → AreBeside self.now e pair result }
+        requires { (e : AnEvent) × IsPairOf self.now.set e pair }
+        ensures { (e : AnEvent) → IsPairOf self.now.set e pair → AreBeside self.now.set e pair result }
     {
         self.lawful();
         [
@@ -118,8 +128,8 @@ impl<L: LinkStore> BareSet<L> {
 
     /// The agent whose principal port the wire from this port leads to, if it leads to one. It takes no memory.
     fn reached(&self, agent: AgentId, port: u8) -> Option<AgentId>
-        ensures found { IfSome result (λ near. (m : AMember) → IsIn m self.now.agents → m.id ≡ agent → consumed_times m.name (standing self.now) ≡ 0 → Reaches self.now m.name port near) }
-        ensures absent { IfNone result ((m n : AMember) → IsIn m self.now.agents → m.id ≡ agent → IsIn n self.now.agents → IsWire self.now.start (standing self.now) (Of n.name 0) (Of m.name port) → ⊥) }
+        ensures found { IfSome result (λ near. (m : AMember) → IsIn m self.now.set.agents → m.id ≡ agent → consumed_times m.name (standing self.now.set) ≡ 0 → Reaches self.now.set m.name port near) }
+        ensures absent { IfNone result ((m n : AMember) → IsIn m self.now.set.agents → m.id ≡ agent → IsIn n self.now.set.agents → IsWire self.now.set.start (standing self.now.set) (Of n.name 0) (Of m.name port) → ⊥) }
     {
         principal_end(self.store.far(Spot::Agent(agent, port)))
     }
@@ -143,8 +153,9 @@ pub(crate) fn principal_end(far: Far) -> Option<AgentId>
 }
 
 /// Whether the agent has this name and this kind.
-fn is_agent(agent: AgentEntry<'_>, name: &AgentName, kind: Kind) -> bool
-    ensures { IsTrue result ↔ ((agent.entry.name.now ≡ name.now) × (agent.entry.kind ≡ kind)) }
+fn is_agent(names: &NameTable, agent: AgentEntry, name: &AgentName, kind: Kind) -> bool
+    requires { agent.name.place < length names.now }
+    ensures { IsTrue result ↔ ((name_at names.now agent.name.place ≡ name.now) × (agent.kind ≡ kind)) }
 {
-    agent.name.is(name) && agent.kind == kind
+    names.is(agent.name, name) && agent.kind == kind
 }

@@ -3,18 +3,17 @@ ghost use Rattle.ic_set.specs.Sets.{IsStandingSet};
 ghost use Rattle.ic_set.specs.Changes.{IsOver};
 
 use crate::bare::BareSet;
-use crate::leads::names_of;
 use crate::queue::{drop_stale, put_all};
 use ic_link::LinkStore;
 use ic_queue::LeadQueue;
-use ic_roster::{Agents, Standing};
+use ic_roster::Roster;
 use ic_start::Start;
 use std::alloc::{AllocError, Global};
 use std::marker::Model;
 
 /// The standing set of a bench over a start: its events, and the agents, the links and the causes that they leave, with
-/// a queue of the leads of its active pairs. There is room for one lead more for each event, whose pair is active again
-/// once it goes. An entry of an agent that leads no pair any more goes when it comes to the front.
+/// a queue of the leads of its active pairs. There is room in it for each name that is known, so an undo takes none. The
+/// name of an agent that leads no pair any more goes when it comes to the front.
 #[derive(Drop)]
 pub struct StandingSet<L: LinkStore> {
     pub(crate) bare: BareSet<L>,
@@ -27,9 +26,9 @@ impl<L: LinkStore> Model for StandingSet<L> {
 
     ghost Value = { SetView };
 
-    ghost view = { λ a. a.bare };
+    ghost view = { λ a. a.bare.set };
 
-    ghost invariant = { λ a. KeepsQueue a.bare a.queue.entries a.queue.room };
+    ghost invariant = { λ a. KeepsQueue a.bare a.queue.leads a.queue.room };
 }
 
 impl<L: LinkStore> StandingSet<L> {
@@ -39,11 +38,10 @@ impl<L: LinkStore> StandingSet<L> {
     {
         let bare = BareSet::over(alloc, start)?;
         bare.lawful();
-        let ids = bare.agents().in_order(alloc)?;
-        let names = names_of(alloc, bare.agents(), &ids)?;
+        let ids = bare.roster().in_order(alloc)?;
         let mut queue = LeadQueue::new(alloc);
-        queue.reserve(names.len())?;
-        put_all(&mut queue, &bare, names);
+        queue.reserve(bare.roster().names().len())?;
+        put_all(&mut queue, &bare, &ids);
         drop_stale(&mut queue, &bare);
         Ok(StandingSet { bare, queue })
     }
@@ -62,17 +60,11 @@ impl<L: LinkStore> StandingSet<L> {
         self.bare.start()
     }
 
-    /// The agents of the start and of the events.
-    pub fn agents(&self) -> &Agents
-        ensures { result.now ≡ self.now.agents }
+    /// The agents of the start and of the events, and the standing events.
+    pub fn roster(&self) -> &Roster
+        ensures agents { result.now.agents ≡ self.now.agents }
+        ensures events { result.now.events ≡ self.now.events }
     {
-        self.bare.agents()
-    }
-
-    /// The standing events.
-    pub fn events(&self) -> &Standing
-        ensures { result.now ≡ self.now.events }
-    {
-        self.bare.events()
+        self.bare.roster()
     }
 }

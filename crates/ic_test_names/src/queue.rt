@@ -1,160 +1,200 @@
-use ic_name::{AgentId, AgentName};
-use ic_queue::LeadQueue;
+use ic_name::AgentName;
+use ic_names::{NameId, NameTable};
+use ic_queue::{LeadQueue, laws};
 use std::alloc::Global;
-use std::test::Fail;
+use std::marker::Model;
 
-/// The texts of names with the slots of their agents, which are in the order of the names.
-const LEADS: [(&[u8], u32); 7] = [
-    (b"3.2", 5),
-    (b"7", 1),
-    (b"0.1.0", 6),
-    (b"300", 2),
-    (b"0.1", 3),
-    (b"3", 0),
-    (b"3.0", 4),
+/// A queue of names with the table in which they stand.
+#[derive(Drop)]
+struct Waiting {
+    names: NameTable,
+    queue: LeadQueue,
+}
+
+impl Model for Waiting {
+    ghost use Rattle.std.specs.Prelude.{List};
+    ghost use Rattle.ic_name.specs.Names.{Name};
+    ghost use Rattle.ic_queue.specs.Queues.{IsHeap};
+
+    ghost Value = { List Name };
+
+    ghost view = { λ w. w.names };
+
+    ghost invariant = { λ w. IsHeap w.names w.queue.leads };
+}
+
+impl Waiting {
+    /// No names.
+    fn new(alloc: Global) -> Waiting {
+        Waiting {
+            names: NameTable::new(alloc),
+            queue: LeadQueue::new(alloc),
+        }
+    }
+
+    /// Enters the name in the table. It is `None` where memory is wanting.
+    fn enter(&mut self, name: &AgentName) -> Option<NameId> {
+        laws::queues_are_kept();
+        match self.names.enter(name) {
+            Ok(id) => Some(id),
+            Err(_) => None,
+        }
+    }
+
+    /// The name comes into the queue, in which there is room for every name of the table. It is `false` where it stands
+    /// nowhere in the table, or memory is wanting.
+    fn queue(&mut self, name: &AgentName) -> bool {
+        let Some(id) = self.names.find(name) else {
+            return false;
+        };
+        let Ok(_) = self.queue.reserve(self.names.len()) else {
+            return false;
+        };
+        self.queue.put(&self.names, id);
+        true
+    }
+
+    /// Whether the name is the least, and goes.
+    fn takes(&mut self, name: &AgentName) -> bool {
+        match self.names.find(name) {
+            Some(id) => {
+                self.queue.least() == Some(id) && self.queue.take_least(&self.names) == Some(id)
+            }
+            None => false,
+        }
+    }
+
+    /// Whether nothing can be taken.
+    fn is_empty(&mut self) -> bool {
+        self.queue.lawful();
+        self.queue.least().is_none()
+            && self.queue.take_least(&self.names).is_none()
+            && self.queue.len() == 0
+    }
+}
+
+/// Names by their texts, in their order. Some have more than 17 digits, of which the first 17 are the same.
+const IN_ORDER: [&[u8]; 19] = [
+    b"0",
+    b"3",
+    b"7",
+    b"300",
+    b"65534",
+    b"0.1",
+    b"3.0",
+    b"3.2",
+    b"0.1.0",
+    b"7.1.2.3.0.1.2.3.0.1.2.3.0.1.2.3.0.1",
+    b"7.1.2.3.0.1.2.3.0.1.2.3.0.1.2.3.0.2",
+    b"7.1.2.3.0.1.2.3.0.1.2.3.0.1.2.3.0.1.0",
+    b"7.1.2.3.0.1.2.3.0.1.2.3.0.1.2.3.0.1.3",
+    b"8.1.2.3.0.1.2.3.0.1.2.3.0.1.2.3.0.1.2",
+    b"7.1.2.3.0.1.2.3.0.1.2.3.0.1.2.3.0.1.0.3",
+    b"7.1.2.3.0.1.2.3.0.1.2.3.0.1.2.3.0.1.1.0",
+    b"7.1.2.3.0.1.2.3.0.1.2.3.0.1.2.3.0.1.1.2",
+    b"7.1.2.3.0.1.2.3.0.1.2.3.0.1.2.3.0.2.0.0",
+    b"8.1.2.3.0.1.2.3.0.1.2.3.0.1.2.3.0.1.1.1",
 ];
 
-/// An agent that stands twice, and others, one of them under the same name.
-const TWICE: [(&[u8], u32); 4] = [(b"5", 9), (b"5", 2), (b"4.1", 0), (b"5", 2)];
+/// By how many rows two names are apart that are put in one behind the other, each time: twice in disorder, so that the
+/// places of the names are in disorder too, in order, and from the last on.
+const STEPS: [u8; 4] = [7, 11, 1, 18];
 
-/// Puts in an agent of this name and slot. It is `false` where there is no room or the text is no name.
-fn put(alloc: Global, queue: &mut LeadQueue, text: &[u8], slot: u32) -> bool {
-    if queue.room() == 0 {
-        return false;
-    }
+/// Puts in the name that a text writes. It is `false` where it can't.
+fn put(alloc: Global, waiting: &mut Waiting, text: &[u8]) -> bool {
     match AgentName::read(alloc, text) {
-        Ok(name) => {
-            queue.put(name, AgentId { slot, serial: 0 });
-            true
-        }
+        Ok(name) => waiting.enter(&name).is_some() && waiting.queue(&name),
         Err(_) => false,
     }
 }
 
-/// Puts in the start agent of this number, in the slot of the same number. It is `false` where there is no room or no
-/// such agent.
-fn put_start(alloc: Global, queue: &mut LeadQueue, number: u16) -> bool {
-    if queue.room() == 0 {
-        return false;
+/// Puts in the name of the table that stands so many steps on, from its start again once it ends.
+fn put_step(alloc: Global, waiting: &mut Waiting, step: u8, count: u8) -> bool {
+    let row = usize::from(step) * usize::from(count) % 19;
+    put(alloc, waiting, IN_ORDER[row])
+}
+
+/// Whether the name that a text writes is the least, and goes.
+fn takes(alloc: Global, waiting: &mut Waiting, text: &[u8]) -> bool {
+    match AgentName::read(alloc, text) {
+        Ok(name) => waiting.takes(&name),
+        Err(_) => false,
     }
-    match AgentName::start(alloc, number) {
-        Some(name) => {
-            let slot = u32::from(number);
-            queue.put(name, AgentId { slot, serial: 0 });
-            true
+}
+
+#[test]
+fn a_new_queue_is_empty(rt: HostRuntime) {
+    let mut waiting = Waiting::new(rt.alloc());
+    assert!(rt; waiting.is_empty());
+}
+
+#[test]
+fn names_are_taken_in_order(rt: HostRuntime) {
+    let mut waiting = Waiting::new(rt.alloc());
+    for step in &STEPS {
+        for count in 0..19 {
+            assert!(rt; put_step(rt.alloc(), &mut waiting, *step, count));
         }
+        for text in &IN_ORDER {
+            assert!(rt; takes(rt.alloc(), &mut waiting, text), "at step {step}");
+        }
+        assert!(rt; waiting.is_empty());
+    }
+}
+
+/// Texts of names, of which two stand twice.
+const TWICE: [&[u8]; 5] = [b"5", b"4.1", b"5", b"4", b"4.1"];
+
+#[test]
+fn a_name_stands_once(rt: HostRuntime) {
+    let mut waiting = Waiting::new(rt.alloc());
+    for text in &TWICE {
+        assert!(rt; put(rt.alloc(), &mut waiting, text));
+    }
+    assert_eq!(rt; waiting.queue.len(), 3);
+    for text in [b"4".as_slice(), b"5", b"4.1"] {
+        assert!(rt; takes(rt.alloc(), &mut waiting, text));
+    }
+    assert!(rt; waiting.is_empty());
+}
+
+#[test]
+fn a_name_that_went_comes_again(rt: HostRuntime) {
+    let mut waiting = Waiting::new(rt.alloc());
+    assert!(rt; put(rt.alloc(), &mut waiting, b"8"));
+    assert!(rt; put(rt.alloc(), &mut waiting, b"6"));
+    assert!(rt; takes(rt.alloc(), &mut waiting, b"6"));
+    assert!(rt; put(rt.alloc(), &mut waiting, b"6"));
+    assert!(rt; takes(rt.alloc(), &mut waiting, b"6"));
+    assert!(rt; takes(rt.alloc(), &mut waiting, b"8"));
+    assert!(rt; waiting.is_empty());
+}
+
+/// Puts in the name of the start agent of this number. It is `false` where it can't.
+fn put_start(alloc: Global, waiting: &mut Waiting, number: u16) -> bool {
+    match AgentName::start(alloc, number) {
+        Some(name) => waiting.enter(&name).is_some() && waiting.queue(&name),
         None => false,
     }
 }
 
-/// The slot of the entry that goes, if it is the one that `least` gave.
-fn taken(queue: &mut LeadQueue) -> Option<u32> {
-    let least = queue.least()?.id;
-    let taken = queue.take_least()?;
-    if taken == least {
-        Some(taken.slot)
-    } else {
-        None
-    }
-}
-
-/// Whether the front of the queue is this entry.
-fn is_front(alloc: Global, queue: &LeadQueue, text: &[u8], id: AgentId) -> bool {
-    let Some(front) = queue.least() else {
-        return false;
-    };
-    match AgentName::read(alloc, text) {
-        Ok(name) => front.name.is(&name) && front.id == id,
-        Err(_) => false,
+/// Whether the name of the start agent of this number is the least, and goes.
+fn takes_start(alloc: Global, waiting: &mut Waiting, number: u16) -> bool {
+    match AgentName::start(alloc, number) {
+        Some(name) => waiting.takes(&name),
+        None => false,
     }
 }
 
 #[test]
-fn leads_are_taken_in_order_of_names(rt: HostRuntime) -> Result<(), Fail> {
-    let mut queue = LeadQueue::new(rt.alloc());
-    queue.reserve(7)?;
-    for (text, slot) in &LEADS {
-        assert!(rt; put(rt.alloc(), &mut queue, text, *slot));
+fn a_thousand_names_come_and_go(rt: HostRuntime) {
+    let mut waiting = Waiting::new(rt.alloc());
+    for count in 0..1_000_u16 {
+        let number = (u32::from(count) * 7 % 1_000) as u16;
+        assert!(rt; put_start(rt.alloc(), &mut waiting, number));
     }
-    for slot in 0..7 {
-        assert_eq!(rt; taken(&mut queue), Some(slot));
+    for number in 0..1_000 {
+        assert!(rt; takes_start(rt.alloc(), &mut waiting, number));
     }
-    assert!(rt; queue.is_empty());
-    Ok(())
-}
-
-#[test]
-fn an_agent_stands_more_than_once(rt: HostRuntime) -> Result<(), Fail> {
-    let mut queue = LeadQueue::new(rt.alloc());
-    queue.reserve(4)?;
-    for (text, slot) in &TWICE {
-        assert!(rt; put(rt.alloc(), &mut queue, text, *slot));
-    }
-    assert_eq!(rt; queue.len(), 4);
-    for slot in &[2, 2, 9, 0] {
-        assert_eq!(rt; taken(&mut queue), Some(*slot));
-    }
-    assert_eq!(rt; queue.len(), 0);
-    Ok(())
-}
-
-#[test]
-fn a_new_queue_has_no_room(rt: HostRuntime) {
-    let mut queue = LeadQueue::new(rt.alloc());
-    assert_eq!(rt; queue.room(), 0);
-    assert!(rt; queue.take_least().is_none());
-}
-
-/// A queue with room for three entries.
-fn queue_with_room(alloc: Global) -> Option<LeadQueue> {
-    let mut queue = LeadQueue::new(alloc);
-    match queue.reserve(3) {
-        Ok(()) => Some(queue),
-        Err(_) => None,
-    }
-}
-
-/// Puts in the agents 8 and 6, in the slots 0 and 1.
-fn put_two(alloc: Global, queue: &mut LeadQueue) -> bool {
-    put(alloc, queue, b"8", 0) && put(alloc, queue, b"6", 1)
-}
-
-#[test]
-fn room_is_used(rt: HostRuntime) -> Result<(), Fail> {
-    let mut queue = queue_with_room(rt.alloc()).ok_or("room")?;
-    let room = queue.room();
-    assert!(rt; 3 <= room);
-    assert!(rt; put_two(rt.alloc(), &mut queue));
-    assert!(rt; queue.room().checked_add(2) == Some(room));
-    assert!(rt; is_front(rt.alloc(), &queue, b"6", AgentId { slot: 1, serial: 0 }));
-    Ok(())
-}
-
-#[test]
-fn room_is_given_back(rt: HostRuntime) -> Result<(), Fail> {
-    let mut queue = queue_with_room(rt.alloc()).ok_or("room")?;
-    let room = queue.room();
-    assert!(rt; put_two(rt.alloc(), &mut queue));
-    assert_eq!(rt; taken(&mut queue), Some(1));
-    assert!(rt; queue.room().checked_add(1) == Some(room));
-    queue.reserve(room)?;
-    assert!(rt; room <= queue.room());
-    assert_eq!(rt; taken(&mut queue), Some(0));
-    assert!(rt; queue.least().is_none());
-    Ok(())
-}
-
-#[test]
-fn a_thousand_leads_come_and_go(rt: HostRuntime) -> Result<(), Fail> {
-    let mut queue = LeadQueue::new(rt.alloc());
-    queue.reserve(1_000)?;
-    for i in 0..1_000_u16 {
-        let number = (u32::from(i) * 7 % 1_000) as u16;
-        assert!(rt; put_start(rt.alloc(), &mut queue, number));
-    }
-    for slot in 0..1_000 {
-        assert_eq!(rt; taken(&mut queue), Some(slot));
-    }
-    assert!(rt; queue.is_empty());
-    Ok(())
+    assert!(rt; waiting.is_empty());
 }

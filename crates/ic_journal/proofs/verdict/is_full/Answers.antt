@@ -13,6 +13,6 @@ more_than len born few = (λ t. (let l = ltb-true _ _ t in omega (arith, l, few)
 
 pub returns : goal.returns
 returns g c =
-    let len : c.len.result ≡ length (agents c.args.set.now.start (standing c.args.set.now)) = c.len.ensures ∙ (rw c.agents.ensures (sym (length-map c.args.set.now.agents agent_of))) ∙ alike-length c.lawful.ensures.agents in
+    let len : c.agent_count.result ≡ length (agents c.args.set.now.start (standing c.args.set.now)) = c.agent_count.ensures ∙ (rw c.roster.ensures.agents (sym (length-map c.args.set.now.agents agent_of))) ∙ alike-length c.lawful.ensures.agents in
     let few = c.children.ensures.few in
     rw (len, c.children.ensures.count) (more_than _ _ (rw c.children.ensures.count at few))

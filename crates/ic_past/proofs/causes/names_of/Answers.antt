@@ -4,8 +4,9 @@ use Rattle.ic_name.specs.Events.{Pair, pair}
 use Rattle.ic_name.specs.declared.ids.EventId.{EventId}
 use Rattle.ic_path.specs.Orders.{IsIn}
 use Rattle.ic_path.proofs.Picks.{in-cons_cases, none_in}
-use Rattle.ic_roster.specs.Rosters.{Stander}
+use Rattle.ic_roster.specs.Rosters.{Stander, event_in}
 use Rattle.ic_theory.proofs.Future.{pick_part}
+use Rattle.ic_set.proofs.InPlace.{in_at}
 use Rattle.ic_past.proofs.causes.names_of.Goals as goal
 
 -- what is at the end of a list is the last element, or before it
@@ -20,18 +21,24 @@ at_end {X} P xs x before last y i = by (pick_part xs (x ∷ []) i.1)
     by (inl k) = before y k
     by (inr k) = here (in-cons_cases k)
 
+pub unreachable-requires : goal.unreachable-requires
+unreachable-requires c =
+    let x = c.requires _ (in_at c.args.ids.now c.loop-id.id-index (record { slot = 0; line = 0 }) c.loop-id-test.true) in
+    c.in_default.ensures.absent x.0 x.1 x.2
+
 pub loop-id-preserved : goal.loop-id-preserved
 loop-id-preserved c =
     let none : EventId = record { slot = 0; line = 0 } in
     let ids = c.args.ids.now in
     let i = c.loop-id.id-index in
     let so_far = c.loop-id.invariant in
-    let one : ◌≡◌ {A = Option Pair} (Some (pair c.in-Some.entry.event.now)) (Some c.in-Some-2.name) = sym c.in_ok-name.ensures ∙ c.in-Some-2.is in
-    let named : pair c.in-Some.entry.event.now ≡ c.in-Some-2.name = cc in
-    let x : Stander = record { id = get_or ids i none; event = c.in-Some.entry.event.now; rank = c.in-Some.entry.rank; born = c.in-Some.entry.born.now } in (
+    let one : ◌≡◌ {A = Option Pair} (Some (pair c.in_ok-event.event)) (Some c.in-Some-2.name) = sym c.in_ok-name.ensures ∙ c.in-Some-2.is in
+    let named : pair c.in_ok-event.event ≡ c.in-Some-2.name = cc in
+    let is = ap pair (sym c.in_ok-event.ensures) ∙ named in
+    let x : Stander = record { id = get_or ids i none; event = event_in c.args.roster.now.names c.in-Some.entry.interaction; rank = c.in-Some.entry.rank; born = c.in-Some.entry.born.now } in (
       so_far.0 ++ x ∷ [],
-      at_end (λ (y : Stander). IsIn y c.args.events.now) so_far.0 x so_far.1 c.in-Some.ensures.found,
+      at_end (λ (y : Stander). IsIn y c.args.roster.now.events) so_far.0 x so_far.1 c.in-Some.ensures.found,
       map-append (λ (y : Stander). y.id) so_far.0 (x ∷ []) ∙ ap (λ ds. ds ++ get_or ids i none ∷ []) so_far.2 ∙ sym (take_more ids i none c.loop-id-test.true),
-      map-append (λ (y : Stander). pair y.event) so_far.0 (x ∷ []) ∙ ap (λ ps. ps ++ pair c.in-Some.entry.event.now ∷ []) so_far.3 ∙ ap (λ p. c.loop-id.names.items ++ p ∷ []) named
+      map-append (λ (y : Stander). pair y.event) so_far.0 (x ∷ []) ∙ ap (λ ps. ps ++ pair (event_in c.args.roster.now.names c.in-Some.entry.interaction) ∷ []) so_far.3 ∙ ap (λ p. c.loop-id.names.items ++ p ∷ []) is
           ∙ sym c.in_ok-push.ensures.items,
     )

@@ -4,4 +4,4 @@ use Rattle.ic_past.proofs.firing.free_line.Given as goal
 
 -- the lines so far are in use
 abbrev pub invariant-loop-taken : goal.invariant-loop-taken
-invariant-loop-taken l = (k : ℕ) → k ≤ length l.events → length l.events < l.taken + k → IsIn k (map (λ x. x.id.line) l.events)
+invariant-loop-taken l = (k : ℕ) → k ≤ length l.roster.events → length l.roster.events < l.taken + k → IsIn k (map (λ x. x.id.line) l.roster.events)

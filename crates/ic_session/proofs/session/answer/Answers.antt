@@ -1,8 +1,12 @@
-use Rattle.std.proofs.Common.{ℕ, subst}
+use Rattle.std.proofs.Common.{◌≡◌, ◌≢◌, ℕ, sym, ap, ◌∙◌, subst}
+use Rattle.std.proofs.lemmas.Result.{err_from_is_err_and}
 use Rattle.ic_lines.specs.Faults.{AppendsFront}
 use Rattle.ic_cause.proofs.KeptViews.{at_error}
 use Rattle.ic_answer.specs.Texts.{answer_text}
 use Rattle.ic_desk.specs.ManyWorkers.{TurnsWith}
+use Rattle.ic_session.specs.declared.fault.Fault.{Fault}
+use Rattle.ic_session.specs.declared.fault.Fault.TheVariants as fault
+use Rattle.ic_session.specs.Faults.{fault_of}
 use Rattle.ic_session.specs.Sessions.{partly}
 use Rattle.ic_session.proofs.session.answer.Goals as goal
 
@@ -11,3 +15,12 @@ returns-in_err-write_reply-clause-begun g c =
     let turn = subst (λ (n : ℕ). TurnsWith n c.args.desk c.args.request (answer_text c.in_ok-after.answer) c.in_ok-after.after) c.from.ensures c.in_ok-after.ensures in
     let front = subst (λ bytes. AppendsFront (g.W.Write.contents c.args.writer.now) (g.W.Write.contents c.write_reply.new.writer) bytes) c.bytes.ensures c.in_err-write_reply.ensures.front in
     at_error c.from_residual-in_err-write_reply.result (partly turn front)
+
+-- a fault of writing is none of reading
+not_read : {f : Fault} → f ≡ fault.Write → f ≢ fault.Read
+not_read writes reads = (let both : ◌≡◌ {A = Fault} fault.Write fault.Read = sym writes ∙ reads in cc)
+
+pub returns-in_err-write_reply-clause-fault : goal.returns-in_err-write_reply-clause-fault
+returns-in_err-write_reply-clause-fault g c =
+    let p = err_from_is_err_and c.from_residual-in_err-write_reply.result c.from_residual-in_err-write_reply.ensures.1 in
+    rw p.1 (not_read (p.2 ∙ ap fault_of c.in_err-write_reply.ensures.fault))

@@ -1,8 +1,12 @@
-use Rattle.std.proofs.Common.{[], ◌∷◌, length, arith, sym, ap, ◌∙◌}
-use Rattle.std.proofs.lemmas.List.{append_assoc}
+use Rattle.std.proofs.Common.{take, drop, ◌+◌, refl, arith, sym, ◌∙◌}
+use Rattle.std.specs.Prelude.{slice_index_or}
+use Rattle.std.proofs.lemmas.List.{take_more, take_all}
+use Rattle.ic_name.specs.declared.kinds.Kind.TheVariants.{Gamma}
 use Rattle.ic_path.proofs.Alikes.{alike_self, alike_back}
 use Rattle.ic_cause.proofs.KeptViews.{at_error}
-use Rattle.ic_set.proofs.EnteredInTurn.{enters_none, next_can, next_enters, all_entered}
+use Rattle.ic_set.specs.declared.entering.NewAgent.{NewAgent}
+use Rattle.ic_set.proofs.InPlace.{split_at}
+use Rattle.ic_set.proofs.EnteredInTurn.{enters_none, next_can, next_enters}
 use Rattle.ic_set.proofs.entering.enter_all.Goals as goal
 
 pub returns-in_err-ids-clause-unchanged : goal.returns-in_err-ids-clause-unchanged
@@ -10,51 +14,61 @@ returns-in_err-ids-clause-unchanged c = at_error c.from_residual.result (alike_s
 
 pub loop-agent-init : goal.loop-agent-init
 loop-agent-init c =
-    let gives = c.into_iter-agent-iterator.ensures.into_iter_gives in
-    let long = ap length gives.0 in
     let capacity = c.in_ok-ids.ensures.capacity in
     let none = c.in_ok-ids.ensures.len in
-    let len = c.len.ensures in
-    let ok = c.args.entering.ok.0 in
     record {
-      whole = gives.0;
       entered = rw c.in_ok-ids.ensures.items (enters_none _ c.args.serial);
+      names = refl;
+      events = refl;
       room = omega arith;
     }
 
 pub insert-requires : goal.insert-requires
 insert-requires c =
-    let i = c.loop-agent.invariant in
-    next_can _ _ c.loop-agent.yielded c.next.new.self.rest.items c.args.entering.items c.in-Some.agent c.args.serial _ (rw c.in-Some.ensures.steps.0 at i.whole) c.requires i.entered
+    let i = c.loop-agent.agent-index in
+    let all = c.args.entering.now in
+    let none : NewAgent = record { name = record { place = 0 }; kind = Gamma } in
+    let here = c.loop-agent-test.true in
+    let same = c.loop-agent.invariant.names in
+    record {
+      inside = rw same (c.requires.inside i none here);
+      is_new = rw same (next_can _ _ _ (take i all) (drop (i + 1) all) all (slice_index_or all i none) c.args.serial _ (sym (split_at all i none here)) c.requires.can c.loop-agent.invariant.entered);
+    }
 
 pub returns-in_default-clause-unchanged : goal.returns-in_default-clause-unchanged
 returns-in_default-clause-unchanged c =
     let i = c.loop-agent.invariant.entered in
-    c.remove_all.ensures i.entered _ (i.under ∙ sym c.deref.ensures.value) (rw c.in_default.ensures.unchanged (alike_back i.alike))
+    c.remove_all.ensures.left i.entered _ (i.under ∙ sym c.deref.ensures.value) (rw c.in_default.ensures.unchanged (alike_back i.alike))
+
+pub returns-in_default-clause-names : goal.returns-in_default-clause-names
+returns-in_default-clause-names c = c.remove_all.ensures.names ∙ c.in_default.ensures.names ∙ c.loop-agent.invariant.names
+
+pub returns-in_default-clause-events : goal.returns-in_default-clause-events
+returns-in_default-clause-events c = c.remove_all.ensures.events ∙ c.in_default.ensures.events ∙ c.loop-agent.invariant.events
 
 pub push_reserved-requires : goal.push_reserved-requires
 push_reserved-requires c =
-    let long = ap length c.in-Some.ensures.steps.0 in
+    let here = c.loop-agent-test.true in
     let room = c.loop-agent.invariant.room in
     omega arith
 
 pub loop-agent-preserved : goal.loop-agent-preserved
 loop-agent-preserved c =
+    let k = c.loop-agent.agent-index in
+    let all = c.args.entering.now in
+    let none : NewAgent = record { name = record { place = 0 }; kind = Gamma } in
     let i = c.loop-agent.invariant in
-    let steps = c.in-Some.ensures.steps.0 in
-    let long = ap length steps in
     let room = i.room in
     let pushed = c.push_reserved.ensures in
     let len = pushed.len in
     let capacity = pushed.capacity in
+    let there = rw i.names at c.in-Ok.ensures.entered.1 in
     record {
-      whole = append_assoc c.loop-agent.yielded (c.in-Some.agent ∷ []) c.next.new.self.rest.items ∙ (rw steps at i.whole);
-      entered = rw pushed.items (next_enters _ _ _ c.loop-agent.yielded c.in-Some.agent c.args.serial _ c.in-Ok.id i.entered c.in-Ok.ensures.entered.0 c.in-Ok.ensures.entered.1);
+      entered = rw (pushed.items, take_more all k none c.loop-agent-test.true) (next_enters _ _ _ _ (take k all) (slice_index_or all k none) c.args.serial _ c.in-Ok.id i.entered c.in-Ok.ensures.entered.0 there);
+      names = c.in-Ok.ensures.names ∙ i.names;
+      events = c.in-Ok.ensures.events ∙ i.events;
       room = omega arith;
     }
 
 pub returns-clause-entered : goal.returns-clause-entered
-returns-clause-entered c =
-    let i = c.loop-agent.invariant in
-    let rest = c.loop-agent.agent-iterator.rest in
-    all_entered _ _ c.loop-agent.yielded rest.items c.args.entering.items c.args.serial _ i.whole (sym rest.ok.0 ∙ c.in-None.ensures.steps.0) i.entered
+returns-clause-entered c = rw (take_all c.loop-agent.agent-index c.args.entering.now c.loop-agent-test.false) at c.loop-agent.invariant.entered

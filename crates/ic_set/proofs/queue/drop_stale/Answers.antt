@@ -1,25 +1,45 @@
-use Rattle.std.proofs.Common.{arith}
+use Rattle.std.proofs.Common.{◌<◌, length, arith, subst, ◌∙◌}
+use Rattle.std.proofs.lemmas.List.{length-map}
 use Rattle.ic_path.proofs.Alikes.{alike-length}
-use Rattle.ic_set.proofs.QueuedLeads.{never, others_lead, front_leads, takes_front, room_stays}
+use Rattle.ic_queue.specs.Queues.{place_of}
+use Rattle.ic_queue.proofs.Heaps.{one_least, queued_inside}
+use Rattle.ic_set.specs.Queues.{Leads}
+use Rattle.ic_set.proofs.QueuedLeads.{never, others_lead, takes_front}
 use Rattle.ic_set.proofs.queue.drop_stale.Goals as goal
 
-pub loop-front-smaller : goal.loop-front-smaller
-loop-front-smaller g c =
-    let least = c.in-Some.ensures.least in
-    let taken = takes_front _ _ _ c.take_least.result least.present c.take_least.ensures.taken c.take_least.ensures.none in
-    let fewer = alike-length taken.1.others in
-    omega arith
+pub is_lead-requires : goal.is_lead-requires
+is_lead-requires g c =
+    let heap = c.loop-name.invariant.heap in
+    queued_inside heap.named (c.in-Some.ensures.least c.args.set.now.names heap).present
 
-pub loop-front-preserved : goal.loop-front-preserved
-loop-front-preserved g c =
-    let least = c.in-Some.ensures.least in
-    let taken = takes_front _ _ _ c.take_least.result least.present c.take_least.ensures.taken c.take_least.ensures.none in
-    let room = c.loop-front.invariant.room in
-    let stays = room_stays c.loop-front.queue c.take_least.new.self c.take_least.result c.take_least.ensures.room c.take_least.ensures.unchanged in
+pub loop-name-smaller : goal.loop-name-smaller
+loop-name-smaller g c =
+    let heap = c.loop-name.invariant.heap in
+    let names = c.names.ensures ∙ c.roster.ensures.names in
+    let least = rw names at c.take_least.ensures.least in
+    let taken = takes_front c.args.set.now.names _ _ c.in-Some.name.place c.take_least.result c.lawful.ensures.table heap (c.in-Some.ensures.least c.args.set.now.names heap) least c.take_least.ensures.others c.take_least.ensures.none in
+    let fewer = alike-length taken in
+    let before = length-map c.loop-name.queue.leads place_of in
+    let after = length-map c.take_least.new.self.leads place_of in
+    let smaller : length c.take_least.new.self.leads < length c.loop-name.queue.leads = omega arith in
+    smaller
+
+pub loop-name-preserved : goal.loop-name-preserved
+loop-name-preserved g c =
+    let heap = c.loop-name.invariant.heap in
+    let names = c.names.ensures ∙ c.roster.ensures.names in
+    let least = rw names at c.take_least.ensures.least in
+    let taken = takes_front c.args.set.now.names _ _ c.in-Some.name.place c.take_least.result c.lawful.ensures.table heap (c.in-Some.ensures.least c.args.set.now.names heap) least c.take_least.ensures.others c.take_least.ensures.none in
+    let before = c.loop-name.invariant.room in
+    let after = c.take_least.ensures.room in
     record {
-      each = others_lead c.args.set.now _ _ _ taken.0 c.loop-front.invariant.each least (λ l. never c.is_lead.result c.if-is_lead.false (c.is_lead.ensures.1 l)) taken.1;
+      heap = rw names at c.take_least.ensures.heap;
+      each = others_lead c.args.set.now _ _ c.in-Some.name.place c.loop-name.invariant.each (λ l. never c.is_lead.result c.if-is_lead.false (c.is_lead.ensures.1 l)) taken;
       room = omega arith;
     }
 
 pub returns-then-is_lead-clause-front : goal.returns-then-is_lead-clause-front
-returns-then-is_lead-clause-front g c = front_leads c.args.set.now _ _ c.in-Some.ensures.least (c.is_lead.ensures.0 c.if-is_lead.true)
+returns-then-is_lead-clause-front g c =
+    let heap = c.loop-name.invariant.heap in
+    let least = c.in-Some.ensures.least c.args.set.now.names heap in
+    λ n also. subst (Leads c.args.set.now) (one_least c.args.set.now.names _ c.in-Some.name.place n c.lawful.ensures.table heap least also) (c.is_lead.ensures.0 c.if-is_lead.true)

@@ -1,14 +1,16 @@
 use Rattle.std.proofs.Common.{◌≤◌, length}
+use Rattle.ic_queue.specs.Queues.{IsHeap}
 use Rattle.ic_set.specs.Queues.{HasLeads}
 use Rattle.ic_set.proofs.queue.drop_stale.Given as goal
 
--- each lead has an entry still
-abbrev pub invariant-loop-front : goal.invariant-loop-front
-invariant-loop-front g l = record {
-  each : HasLeads l.set l.queue.entries;
+-- each lead is in the queue still
+abbrev pub invariant-loop-name : goal.invariant-loop-name
+invariant-loop-name g l = record {
+  heap : IsHeap l.set.names l.queue.leads;
+  each : HasLeads l.set l.queue.leads;
   room : l.fn.queue.room ≤ l.queue.room;
 }
 
--- the entries become fewer
-abbrev pub decreases-loop-front : goal.decreases-loop-front
-decreases-loop-front g l = length l.queue.entries
+-- the leads become fewer
+abbrev pub decreases-loop-name : goal.decreases-loop-name
+decreases-loop-name g l = length l.queue.leads

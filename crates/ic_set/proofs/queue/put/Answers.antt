@@ -1,28 +1,31 @@
-use Rattle.std.proofs.Common.{sym, subst}
-use Rattle.ic_path.specs.Orders.{IsIn}
-use Rattle.ic_path.proofs.Alikes.{alike-in}
-use Rattle.ic_path.proofs.Picks.{in_first, in_more}
-use Rattle.ic_set.proofs.QueuedLeads.{never, entry_of, none_has}
+use Rattle.std.proofs.Common.{◌≡◌, false, inl, inr, refl, rules}
+use borrow.Author.Tests.{tests}
+use Rattle.ic_set.proofs.QueuedLeads.{leads_own, lead_queued, still_queued}
 use Rattle.ic_set.proofs.queue.put.Goals as goal
 
 pub returns-in_default-clause-led : goal.returns-in_default-clause-led
-returns-in_default-clause-led g c =
-    let absent = rw c.agents.ensures at c.in_default.ensures.absent in
-    λ e p h same. absurd (absent _ h.lead same)
+returns-in_default-clause-led g c = λ e p h same. absurd (c.in_default.ensures.absent e p (inl same) h)
 
-pub returns-then-is_lead-clause-stay : goal.returns-then-is_lead-clause-stay
-returns-then-is_lead-clause-stay g c = λ x i. alike-in c.put.ensures.entered (in_more _ i)
-
-pub returns-then-is_lead-clause-led : goal.returns-then-is_lead-clause-led
-returns-then-is_lead-clause-led g c =
-    let there = rw c.agents.ensures at c.in-Some.ensures.found in
+pub returns-then-ne-clause-led : goal.returns-then-ne-clause-led
+returns-then-ne-clause-led g c =
+    let pair = c.in-Some.ensures.found in
     λ e p h same. (
-    let entry = entry_of c.args.set.now c.lawful.ensures c.in-Some.agent c.args.name there.0 there.1 e p h same in
-    subst (λ y. IsIn y c.put.new.self.entries) (sym entry) (alike-in c.put.ensures.entered (in_first _ _)))
+    let own : c.in-Some.pair.lead ≡ c.args.agent = leads_own c.args.set.now c.lawful.ensures.set pair.1 e c.in-Some.pair p pair.2 h c.args.agent pair.0 same in
+    let off : c.ne.result ≡ false = search (rules, tests) in
+    absurd cc)
 
-pub returns-else-is_lead-clause-led : goal.returns-else-is_lead-clause-led
-returns-else-is_lead-clause-led g c =
-    let there = rw c.agents.ensures at c.in-Some.ensures.found in
-    λ e p h same. (
-    let entry = entry_of c.args.set.now c.lawful.ensures c.in-Some.agent c.args.name there.0 there.1 e p h same in
-    absurd (none_has c.args.set.now _ (λ l. never c.is_lead.result c.if-is_lead.false (c.is_lead.ensures.1 l)) e p h entry))
+pub unreachable-requires : goal.unreachable-requires
+unreachable-requires g c =
+    let absent = rw c.roster.ensures.agents at c.in_default-agent.ensures.absent in
+    let pair = c.in-Some.ensures.found in
+    let own : c.in-Some.pair.lead ≡ c.args.agent = search (rules, tests) in
+    absurd (absent _ pair.2.lead own)
+
+pub returns-clause-stay : goal.returns-clause-stay
+returns-clause-stay g c = still_queued c.args.set.now.names _ _ (λ n i. (c.put.ensures.entered n).1 (inr i))
+
+pub returns-clause-led : goal.returns-clause-led
+returns-clause-led g c =
+    let there = rw (c.roster.ensures.agents, c.roster.ensures.names) at c.in-Some-agent.ensures.found in
+    let inside = rw c.roster.ensures.names at c.in-Some-agent.ensures.inside in
+    lead_queued c.args.set.now c.lawful.ensures.set _ c.args.agent c.in-Some-agent.entry.name.place _ there inside ((c.put.ensures.entered c.in-Some-agent.entry.name.place).1 (inl refl))

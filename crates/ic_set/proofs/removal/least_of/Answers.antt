@@ -16,8 +16,8 @@ loop-id-preserved c =
           | in_default-via-in-Some+else-not-comes_before u ↦
               let so_far = rw u.in-Some.is at i.found in
               let there = c.requires u.in-Some.found (in_taken c.loop-id.id-index _ so_far.among) in
-              least_moves _ c.lawful.ensures _ _ _ there.0 there.1 there.2 u.comes_before.result u.if-not-comes_before.false u.comes_before.ensures so_far
-          | in_default-via-in_default u ↦ least_first _ c.lawful.ensures _ _ (rw u.in_default.is at i.absent)
+              least_moves _ c.lawful.ensures.lines _ _ _ there.0 there.1 there.2 u.comes_before.result u.if-not-comes_before.false u.comes_before.ensures so_far
+          | in_default-via-in_default u ↦ least_first _ c.lawful.ensures.lines _ _ (rw u.in_default.is at i.absent)
         ];
         absent = tt;
       })

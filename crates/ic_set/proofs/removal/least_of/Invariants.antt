@@ -6,6 +6,6 @@ use Rattle.ic_set.proofs.removal.least_of.Given as goal
 
 abbrev pub invariant-loop-id : goal.invariant-loop-id
 invariant-loop-id l = record {
-  found : IfSome l.least (λ least. IsLeastOf l.events (take l.id-index l.ids) least);
+  found : IfSome l.least (λ least. IsLeastOf l.roster.events (take l.id-index l.ids) least);
   absent : IfNone l.least ((d : EventId) → IsIn d (take l.id-index l.ids) → ⊥);
 }

@@ -1,4 +1,5 @@
 use Rattle.std.proofs.Common.{◌≡◌, ◌+◌, length, refl, sym, ap, ◌∙◌, arith}
+use Rattle.ic_shared.specs.Agrees.{other_start}
 use Rattle.ic_shared.specs.Settles.{lengths}
 use Rattle.ic_shared.proofs.Agreeing.{agrees, false_at, line_false_at, put_back}
 use Rattle.ic_shared.proofs.settling.settle.Goals as goal
@@ -59,3 +60,11 @@ returns-clause-err g c =
     c.as_slice-2.result.now
     (c.as_slice-2.ensures.value ∙ put_back c.audit.new.passes c.args.passes.items c.args.passes.len (c.audit.ensures.passes ∙ c.as_mut_slice.ensures.value) len)
     c.in-Err.ensures.err
+
+pub returns-then-not-same-clause-err : goal.returns-then-not-same-clause-err
+returns-then-not-same-clause-err g c =
+    let v = c.opening.view_is in
+    let len = sym (ap length c.as_mut_slice.ensures.value) ∙ c.as_mut_slice.ensures.len in (
+      len ∙ sym c.len.ensures ∙ c.if-len-count.false ∙ ap (λ o. o.passes) v,
+      other_start c.lines-number.ensures (λ e. (let same = c.if-not-same.ensures.1 (c.start-2.ensures ∙ e ∙ sym (ap (λ o. o.start) v)) in cc)),
+    )

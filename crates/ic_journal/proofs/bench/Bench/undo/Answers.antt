@@ -14,13 +14,13 @@ use Rattle.ic_journal.proofs.bench.Bench.undo.Goals as goal
 pub invariant_of-self-in_default-at_line : goal.invariant_of-self-in_default-at_line
 invariant_of-self-in_default-at_line g c =
     let lines : c.note.new.self.lines ≡ c.self.inside.history.lines ++ record { call = Undo c.args.id.line; reply = reply.NotStanding } ∷ [] = rw c.reserve.ensures.lines at c.note.ensures.lines in
-    let none : (x : Stander) → IsIn x c.self.inside.set.events → x.id.line ≢ c.args.id.line = subst (λ (xs : List Stander). (x : Stander) → IsIn x xs → x.id.line ≢ c.args.id.line) c.events.ensures c.in_default-at_line.ensures.absent in
+    let none : (x : Stander) → IsIn x c.self.inside.set.events → x.id.line ≢ c.args.id.line = subst (λ (xs : List Stander). (x : Stander) → IsIn x xs → x.id.line ≢ c.args.id.line) c.roster.ensures.events c.in_default-at_line.ensures.absent in
     refused_running (view_of c.self.inside.set c.self.inside.history) (view_of c.self.inside.set c.note.new.self) (Undo c.args.id.line) reply.NotStanding c.self.invariant refl lines c.note.ensures.few (absent_answer (view_of c.self.inside.set c.self.inside.history) c.args.id.line none)
 
 pub returns-in_default-at_line : goal.returns-in_default-at_line
 returns-in_default-at_line g c =
     let lines : c.note.new.self.lines ≡ c.self.inside.history.lines ++ record { call = Undo c.args.id.line; reply = reply.NotStanding } ∷ [] = rw c.reserve.ensures.lines at c.note.ensures.lines in
-    let none : (x : Stander) → IsIn x c.self.inside.set.events → x.id.line ≢ c.args.id.line = subst (λ (xs : List Stander). (x : Stander) → IsIn x xs → x.id.line ≢ c.args.id.line) c.events.ensures c.in_default-at_line.ensures.absent in
+    let none : (x : Stander) → IsIn x c.self.inside.set.events → x.id.line ≢ c.args.id.line = subst (λ (xs : List Stander). (x : Stander) → IsIn x xs → x.id.line ≢ c.args.id.line) c.roster.ensures.events c.in_default-at_line.ensures.absent in
     let more = c.reserve.ensures.more in
     let room = c.note.ensures.room in
     rw (← c.self.view_is) (refused (view_of c.self.inside.set c.self.inside.history) (view_of c.self.inside.set c.note.new.self) (Undo c.args.id.line) reply.NotStanding refl lines (omega (arith, more, room)) (absent_answer (view_of c.self.inside.set c.self.inside.history) c.args.id.line none))

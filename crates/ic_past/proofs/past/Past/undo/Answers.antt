@@ -3,7 +3,7 @@ use Rattle.std.specs.Prelude.{slice_get}
 use Rattle.ic_name.specs.Events.{pair}
 use Rattle.ic_path.specs.Orders.{IsIn, Alike}
 use Rattle.ic_roster.specs.Rosters.{Stander}
-use Rattle.ic_roster.proofs.StandingFacts.{at_none, at_some}
+use Rattle.ic_roster.proofs.Options.{at_none, at_some}
 use Rattle.ic_set.specs.Changes.{TakesOut}
 use Rattle.ic_set.specs.Removal.{IsFree, IsLeast}
 use Rattle.ic_past.specs.declared.deep.DeepEvent.{DeepEvent}
@@ -31,12 +31,12 @@ returns-in-Some c =
     let named : pair d.0.event ≡ c.args.event.now = d.2 ∙ (λ i. record { lead = c.lead.ensures i; other = c.other.ensures i }) in
     rw (← c.self.view_is) (undoes_deep c.self.inside.set c.lawful.ensures ds c.self.invariant d.0 c.swap_remove.new.self.items left c.args.event.now named)
 
-pub returns-in_default-find : goal.returns-in_default-find
-returns-in_default-find c =
+pub returns-in_default-find_event : goal.returns-in_default-find_event
+returns-in_default-find_event c =
     let ds = c.self.inside.deep.items in
     let new : (d : DeepEvent) → IsIn d ds → pair d.event ≡ c.args.event.now → ⊥ =
     λ d i q. c.in_default.ensures.absent d (rw c.deref.ensures.value i) (q ∙ (λ j. record { lead = sym c.lead.ensures j; other = sym c.other.ensures j })) in
-    let none : (x : Stander) → IsIn x c.self.inside.set.events → pair x.event ≡ c.args.event.now → ⊥ = λ x i. c.in_default-find.ensures.absent x (rw c.events.ensures i) in
+    let none : (x : Stander) → IsIn x c.self.inside.set.events → pair x.event ≡ c.args.event.now → ⊥ = λ x i. c.in_default-find_event.ensures.absent x (rw c.roster.ensures.events i) in
     rw (← c.self.view_is) (undoes_none c.self.inside.set c.lawful.ensures ds c.self.invariant c.args.event.now new none)
 
 pub returns-then-rest_on : goal.returns-then-rest_on
@@ -44,8 +44,8 @@ returns-then-rest_on c =
     let ds = c.self.inside.deep.items in
     let new : (d : DeepEvent) → IsIn d ds → pair d.event ≡ c.args.event.now → ⊥ =
     λ d i q. c.in_default.ensures.absent d (rw c.deref.ensures.value i) (q ∙ (λ j. record { lead = sym c.lead.ensures j; other = sym c.other.ensures j })) in
-    let x = c.in-Some-find.ensures.found in
-    let there = subst (λ (xs : List Stander). IsIn x.0 xs) c.events.ensures x.1 in
+    let x = c.in-Some-find_event.ensures.found in
+    let there = subst (λ (xs : List Stander). IsIn x.0 xs) c.roster.ensures.events x.1 in
     rw (← c.self.view_is) (elim c.then-rest_on.branch [
       | then-rest_on-via-then-rest_on w ↦ (
           let d = c.rest_on.ensures.0 w.if-rest_on.true in
@@ -65,8 +65,8 @@ invariant_of-self-2 c =
     let ds = c.self.inside.deep.items in
     let new : (d : DeepEvent) → IsIn d ds → pair d.event ≡ c.args.event.now → ⊥ =
     λ d i q. c.in_default.ensures.absent d (rw c.deref.ensures.value i) (q ∙ (λ j. record { lead = sym c.lead.ensures j; other = sym c.other.ensures j })) in
-    let x = c.in-Some-find.ensures.found in
-    let there = subst (λ (xs : List Stander). IsIn x.0 xs) c.events.ensures x.1 in
+    let x = c.in-Some-find_event.ensures.found in
+    let there = subst (λ (xs : List Stander). IsIn x.0 xs) c.roster.ensures.events x.1 in
     let free = at_none c.least_dependent.result (sym c.is_some.ensures ∙ c.if-is_some.false) c.least_dependent.ensures.absent in
     let rests : ((d : DeepEvent) × IsIn d ds × IsIn x.0.id d.causes.items) → ⊥ = λ w. (
     let t = c.rest_on.ensures.1 (w.0, rw c.deref-2.ensures.value w.1, subst (λ e. IsIn e w.0.causes.items) x.2 w.2) in
@@ -80,8 +80,8 @@ returns c =
     let ds = c.self.inside.deep.items in
     let new : (d : DeepEvent) → IsIn d ds → pair d.event ≡ c.args.event.now → ⊥ =
     λ d i q. c.in_default.ensures.absent d (rw c.deref.ensures.value i) (q ∙ (λ j. record { lead = sym c.lead.ensures j; other = sym c.other.ensures j })) in
-    let x = c.in-Some-find.ensures.found in
-    let there = subst (λ (xs : List Stander). IsIn x.0 xs) c.events.ensures x.1 in
+    let x = c.in-Some-find_event.ensures.found in
+    let there = subst (λ (xs : List Stander). IsIn x.0 xs) c.roster.ensures.events x.1 in
     let free = at_none c.least_dependent.result (sym c.is_some.ensures ∙ c.if-is_some.false) c.least_dependent.ensures.absent in
     let rests : ((d : DeepEvent) × IsIn d ds × IsIn x.0.id d.causes.items) → ⊥ = λ w. (
     let t = c.rest_on.ensures.1 (w.0, rw c.deref-2.ensures.value w.1, subst (λ e. IsIn e w.0.causes.items) x.2 w.2) in

@@ -1,10 +1,11 @@
-use Rattle.std.proofs.Common.{rules}
-use Rattle.ic_queue.proofs.Tops.{least_top, front_there}
+use Rattle.std.proofs.Common.{length, sym, subst, ap, ◌∙◌, arith}
+use Rattle.ic_queue.specs.Queues.{place_of, lead_at, IsLeast}
+use Rattle.ic_queue.proofs.Heaps.{top_least}
 use Rattle.ic_queue.proofs.queue.LeadQueue.least.Goals as goal
 
 pub returns-clause-least : goal.returns-clause-least
-returns-clause-least c =
-    let top = c.in_ok-lead.field-0.now in
-    let there = front_there top _ (search rules) c.in_ok-lead.ensures.lookup in
-    let bound = c.in_ok-lead.ensures.greatest c.self.invariant in
-    rw (← c.self.view_is) (least_top top _ there bound)
+returns-clause-least c ns heap =
+    let seen = ap (λ v. v.leads) c.self.view_is in
+    let same = ap length seen in
+    let is = ap place_of (c.lead.ensures ∙ ap (λ ls. lead_at ls 0) seen) in
+    subst (IsLeast ns c.args.self.now.leads) (sym is) (top_least heap (omega arith))

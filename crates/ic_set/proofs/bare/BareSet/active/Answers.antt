@@ -19,7 +19,7 @@ loop-agent-init g c = ([], nothing, search rules)
 pub loop-agent-preserved-in_default : goal.loop-agent-preserved-in_default
 loop-agent-preserved-in_default g c =
     let i = c.loop-agent.invariant in
-    (i.0, rw (take_more c.deref-agent-items.result.now c.loop-agent.agent-index none c.loop-agent-test.true) (led_passes c.args.self.now _ i.1 (λ e p same h. c.in_default.ensures.absent e p (inl same) h)), i.2)
+    (i.0, rw (take_more c.deref-agent-items.result.now c.loop-agent.agent-index none c.loop-agent-test.true) (led_passes c.args.self.now.set _ i.1 (λ e p same h. c.in_default.ensures.absent e p (inl same) h)), i.2)
 
 pub loop-agent-preserved : goal.loop-agent-preserved
 loop-agent-preserved g c =
@@ -29,21 +29,21 @@ loop-agent-preserved g c =
       | then-eq+in_ok-push w ↦ (
           let is : c.in-Some.pair.lead ≡ slice_index_or c.deref-agent-items.result.now c.loop-agent.agent-index none = search (rules, tests) in (
             i.0 ++ (found.1, c.in-Some.pair) ∷ [],
-            rw (take_more c.deref-agent-items.result.now c.loop-agent.agent-index none c.loop-agent-test.true) (led_more c.args.self.now _ (found.1, c.in-Some.pair) i.1 is found.2),
+            rw (take_more c.deref-agent-items.result.now c.loop-agent.agent-index none c.loop-agent-test.true) (led_more c.args.self.now.set _ (found.1, c.in-Some.pair) i.1 is found.2),
             map-append (λ (x : Event × ActivePair). x.1) i.0 ((found.1, c.in-Some.pair) ∷ []) ∙ ap (λ ps. ps ++ c.in-Some.pair ∷ []) i.2 ∙ sym w.in_ok-push.ensures.items ∙ ap (λ ps. ps.items) (sym w.pairs-is),
           ))
       | else-eq w ↦ (
           let is : c.in-Some.pair.lead ≢ slice_index_or c.deref-agent-items.result.now c.loop-agent.agent-index none = search (rules, tests) in
           let second : c.in-Some.pair.other ≡ slice_index_or c.deref-agent-items.result.now c.loop-agent.agent-index none = elim found.0 [ inl q ↦ absurd (is q) | inr q ↦ q ] in (
             i.0,
-            rw (take_more c.deref-agent-items.result.now c.loop-agent.agent-index none c.loop-agent-test.true) (led_passes c.args.self.now _ i.1 (λ e p same h. second_leads_none c.args.self.now c.lawful.ensures found.1 e c.in-Some.pair p found.2 h (second ∙ sym same))),
+            rw (take_more c.deref-agent-items.result.now c.loop-agent.agent-index none c.loop-agent-test.true) (led_passes c.args.self.now.set _ i.1 (λ e p same h. second_leads_none c.args.self.now.set c.lawful.ensures.set found.1 e c.in-Some.pair p found.2 h (second ∙ sym same))),
             i.2 ∙ ap (λ ps. ps.items) (sym w.pairs-is),
           ))
     ]
 
 pub returns : goal.returns
 returns g c =
-    let v : SetView = record { start = c.self.inside.start; agents = c.self.inside.agents; events = c.self.inside.events } in
+    let v : SetView = record { start = c.self.inside.start; agents = c.self.inside.roster.agents; events = c.self.inside.roster.events } in
     let i = c.loop-agent.invariant in
     let whole = take_all c.loop-agent.agent-index c.deref-agent-items.result.now c.loop-agent-test.false in
     let led : LedBy v c.in_ok-in_order.field-0.items i.0 = rw (whole, c.deref-agent-items.ensures.value, ← c.self.view_is) at i.1 in

@@ -1,5 +1,5 @@
 use Rattle.std.proofs.Common.{refl, sym, ◌∙◌}
-use Rattle.ic_roster.proofs.StandingFacts.{if_none, at_none, at_some}
+use Rattle.ic_roster.proofs.Options.{if_none, at_none, at_some}
 use Rattle.ic_set.proofs.Partners.{joined_far, joined_one, far_joined, joined_unled, joined_back}
 use Rattle.ic_set.proofs.bare.BareSet.partner.Goals.{then-is_some-via-then-is_some, then-is_some-via-else-is_some+then-is_some-2}
 use Rattle.ic_set.proofs.bare.BareSet.partner.Goals as goal

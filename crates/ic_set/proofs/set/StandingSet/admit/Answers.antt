@@ -1,15 +1,20 @@
-use Rattle.std.proofs.Common.{List, length, ap, arith}
+use Rattle.std.proofs.Common.{◌≡◌, ◌≤◌, length, arith, refl, ap, ◌∙◌}
+use Rattle.ic_path.proofs.Alikes.{alike-in}
+use Rattle.ic_path.proofs.Picks.{in_first}
 use Rattle.ic_cause.proofs.KeptViews.{at_error}
-use Rattle.ic_roster.specs.Rosters.{Stander}
+use Rattle.ic_queue.proofs.Heaps.{kept_heap}
+use Rattle.ic_set.specs.Pairs.{IsPairOf}
 use Rattle.ic_set.proofs.Admissions.{same_self}
-use Rattle.ic_set.proofs.PairsAdmitted.{same_keeps, admitted_each, one_more}
+use Rattle.ic_set.proofs.GrownNames.{grown_keeps, grown_length}
+use Rattle.ic_set.proofs.PairsAdmitted.{same_keeps, admitted_each}
 use Rattle.ic_set.proofs.set.StandingSet.admit.Goals as goal
 
-pub returns-in_err-names-clause-unchanged : goal.returns-in_err-names-clause-unchanged
-returns-in_err-names-clause-unchanged g c = rw (← c.self.view_is) (at_error _ (same_self _))
-
 pub invariant_of-self : goal.invariant_of-self
-invariant_of-self g c = rw c.reserve.ensures.same (same_keeps c.self.inside.bare c.self.inside.bare c.self.inside.queue.entries _ _ (same_self _) c.reserve.ensures.kept c.self.invariant)
+invariant_of-self g c =
+    let i = c.self.invariant in
+    let kept = c.reserve.ensures.kept in
+    let room = i.room in
+    rw c.reserve.ensures.same (record { heap = i.heap; each = i.each; front = i.front; room = omega (arith, kept, room) })
 
 pub returns-in_err-reserve-clause-unchanged : goal.returns-in_err-reserve-clause-unchanged
 returns-in_err-reserve-clause-unchanged g c = rw (← c.self.view_is) (at_error _ (same_self _))
@@ -19,23 +24,26 @@ admit-requires-clause-new_line g c = rw c.self.view_is c.requires.new_line
 
 pub invariant_of-self-in_err-id : goal.invariant_of-self-in_err-id
 invariant_of-self-in_err-id g c =
-    rw c.reserve.ensures.same (same_keeps c.self.inside.bare c.admit.new.self c.self.inside.queue.entries _ _ c.in_err-id.ensures.unchanged c.reserve.ensures.kept c.self.invariant)
+    let before = c.self.inside.bare.names in
+    let after = c.admit.new.self.names in
+    let grown = c.admit.ensures.grown in
+    let count : c.len-names.result ≡ length before = c.len-names.ensures ∙ ap length (c.names.ensures ∙ c.roster.ensures.names) in
+    let enough : length after ≤ c.reserve.new.self.room = omega (arith, count, grown_length before after grown, c.in_ok-reserve.ensures.reserved) in
+    rw c.reserve.ensures.same (same_keeps c.self.inside.bare c.admit.new.self c.self.inside.queue.leads c.self.inside.queue.room _ c.in_err-id.ensures.unchanged (grown_keeps before after grown) enough c.self.invariant)
 
-pub drop_stale-requires : goal.drop_stale-requires
-drop_stale-requires g c =
-    let stay = rw c.reserve.ensures.same at c.put_all.ensures.stay in
-    record {
-      each = admitted_each c.self.inside.bare c.admit.new.self c.lawful.ensures c.lawful-2.ensures c.args.event.now c.args.line _ c.in_ok-id.ensures.admitted
-          c.self.inside.queue.entries _ c.in_ok-names.names.items c.self.invariant.each c.in_ok-names.ensures.each stay c.put_all.ensures.led;
-    }
+pub put_all-requires-clause-heap : goal.put_all-requires-clause-heap
+put_all-requires-clause-heap g c = rw c.reserve.ensures.same (kept_heap c.self.inside.bare.names c.admit.new.self.names c.self.inside.queue.leads (grown_keeps _ _ c.admit.ensures.grown) c.self.invariant.heap)
 
-pub invariant_of-self-2 : goal.invariant_of-self-2
-invariant_of-self-2 g c =
-    let one = one_more c.self.inside.bare c.admit.new.self c.lawful.ensures c.lawful-2.ensures c.args.event.now c.args.line _ c.in_ok-id.ensures.admitted in
-    let events = ap (λ (xs : List Stander). length xs) c.events.ensures in
-    let long = c.len.ensures in
-    let reserved = c.in_ok-reserve.ensures.reserved in
-    let few = c.in_ok-names.ensures.few in
-    let put = c.put_all.ensures.room in
-    let dropped = c.drop_stale.ensures.room in
-    record { each = c.drop_stale.ensures.each; front = c.drop_stale.ensures.front; room = omega arith }
+pub put_children-requires-clause-standing : goal.put_children-requires-clause-standing
+put_children-requires-clause-standing g c =
+    let a = c.in_ok-id.ensures.admitted in
+    (a.entry, alike-in a.events (in_first a.entry c.self.inside.bare.set.events), a.under)
+
+pub drop_stale-requires-clause-each : goal.drop_stale-requires-clause-each
+drop_stale-requires-clause-each g c =
+    let a = c.in_ok-id.ensures.admitted in
+    let there = alike-in a.events (in_first a.entry c.self.inside.bare.set.events) in
+    let active : IsPairOf c.self.inside.bare.set c.args.event.now c.args.pair = rw c.self.view_is c.requires.active in
+    admitted_each c.self.inside.bare c.admit.new.self c.lawful.ensures.set c.lawful-2.ensures.set c.args.event.now c.args.line c.in_ok-id.id a
+    c.self.inside.queue.leads c.put_all.new.queue.leads c.put_children.new.queue.leads (grown_keeps _ _ c.admit.ensures.grown) c.args.pair c.beside-beside.result a.entry.born (c.beside-beside.ensures c.args.event.now active) refl
+    c.self.invariant.each (rw c.reserve.ensures.same at c.put_all.ensures.stay) c.put_all.ensures.led c.put_children.ensures.stay (λ f q h i. c.put_children.ensures.led a.entry there a.under f q h i)

@@ -1,0 +1,166 @@
+-- What the records of standing events and their indexes tell of the events.
+use Rattle.std.proofs.Common.{◌≡◌, ◌≢◌, ℕ, List, [], ◌∷◌, map, Option, Some, None, refl, sym, ap, subst, ◌∙◌}
+use Rattle.std.specs.Prelude.{IsSome}
+use Rattle.slab.specs.Slab.{entries_from}
+use Rattle.ic_slots.specs.Slots.{slot_of, Gives}
+use Rattle.ic_path.specs.Orders.{IsIn, Alike}
+use Rattle.ic_name.specs.declared.ids.EventId.{EventId}
+use Rattle.ic_names.specs.declared.table.NameId.{NameId}
+use Rattle.ic_roster.specs.declared.event_records.EventRecord.{EventRecord}
+use Rattle.ic_roster.specs.Placed.{PlacedEvent, HaveOwnKeys, IsNewKey}
+use Rattle.ic_roster.specs.Slots.{slot_at, HoldsOneMore}
+use Rattle.ic_roster.specs.EventSlots.{event_at, events_in, event_line, event_lead, AreIndexed}
+use Rattle.ic_roster.proofs.Slots.{ShowsAt, slot_from_shown, shown_from_slot, shown_apart, shown_emptied}
+use Rattle.ic_roster.proofs.Indexes.{holder, held_number, none_numbered, lacks_number, one_slot, index_entered, index_taken}
+
+-- the slot of an event is that of its id
+key_shown : (slots : List (Option EventRecord)) (x : PlacedEvent) (s : ShowsAt event_at slots x) → s.key ≡ x.id.slot
+key_shown slots x s = ap (λ (y : PlacedEvent). y.id.slot) (sym s.shows)
+
+-- the line of an event is that of its record
+line_shown : (slots : List (Option EventRecord)) (x : PlacedEvent) (s : ShowsAt event_at slots x) → event_line s.value ≡ x.id.line
+line_shown slots x s = ap (λ (y : PlacedEvent). y.id.line) (sym s.shows)
+
+-- the place of the lead of an event is that of its record
+lead_shown : (slots : List (Option EventRecord)) (x : PlacedEvent) (s : ShowsAt event_at slots x) → event_lead s.value ≡ x.interaction.lead.place
+lead_shown slots x s = ap (λ (y : PlacedEvent). y.interaction.lead.place) (sym s.shows)
+
+-- each event has a slot, a line and a place of the lead of its own
+pub own_keys : (slots : List (Option EventRecord)) (lines leads : List (Option ℕ)) → AreIndexed slots lines leads → HaveOwnKeys (events_in slots)
+own_keys slots lines leads t = record {
+  slots = λ x y rest k i same.
+      let a = shown_apart event_at slots x y rest k i in
+      a.apart (key_shown slots y a.second ∙ same ∙ sym (key_shown slots x a.first));
+  lines = λ x y rest k i same.
+      let a = shown_apart event_at slots x y rest k i in
+      a.apart (one_slot event_line slots lines t.lined a.second.key a.first.key a.second.value a.first.value a.second.holds a.first.holds (line_shown slots y a.second ∙ same ∙ sym (line_shown slots x a.first)));
+  leads = λ x y rest k i same.
+      let a = shown_apart event_at slots x y rest k i in
+      a.apart (one_slot event_lead slots leads t.led a.second.key a.first.key a.second.value a.first.value a.second.holds a.first.holds (lead_shown slots y a.second ∙ same ∙ sym (lead_shown slots x a.first)));
+}
+
+-- the slot of a line holds an event of that line
+pub line_found : (slots : List (Option EventRecord)) (lines leads : List (Option ℕ)) → AreIndexed slots lines leads → (line k : ℕ) → slot_of lines line ≡ Some k
+    → (x : PlacedEvent) × IsIn x (events_in slots) × (x.id ≡ record { slot = k; line = line })
+line_found slots lines leads t line k found =
+    let d = holder event_line slots lines t.lined line k found in
+    let n : d.0.line ≡ line = d.2 in
+    (event_at (k, d.0), shown_from_slot event_at slots k d.0 d.1, λ i. record { slot = k; line = n i })
+
+-- no event has a line that the index lacks
+pub line_absent : (slots : List (Option EventRecord)) (lines leads : List (Option ℕ)) → AreIndexed slots lines leads → (line : ℕ) → slot_of lines line ≡ None
+    → (x : PlacedEvent) → IsIn x (events_in slots) → x.id.line ≢ line
+line_absent slots lines leads t line lacks x i e =
+    let s = slot_from_shown event_at slots x i in
+    none_numbered event_line slots lines t.lined line lacks s.key s.value s.holds (line_shown slots x s ∙ e)
+
+-- the record of an event under its id
+record RecordOf (slots : List (Option EventRecord)) (id : EventId) (x : PlacedEvent) : Type 0 where
+  kept : EventRecord
+  holds : slot_at slots id.slot ≡ Some kept
+  line : kept.line ≡ id.line
+  shows : x ≡ event_at (id.slot, kept)
+
+-- an event of an id has a record in the slot of that id
+record_of : (slots : List (Option EventRecord)) (id : EventId) (x : PlacedEvent) → IsIn x (events_in slots) → x.id ≡ id → RecordOf slots id x
+record_of slots id x i e =
+    let s = slot_from_shown event_at slots x i in
+    let n : s.key ≡ id.slot = key_shown slots x s ∙ ap (λ (d : EventId). d.slot) e in
+    record {
+      kept = s.value;
+      holds = ap (slot_at slots) (sym n) ∙ s.holds;
+      line = line_shown slots x s ∙ ap (λ (d : EventId). d.line) e;
+      shows = s.shows ∙ ap (λ k. event_at (k, s.value)) n;
+    }
+
+-- the slot of the id of an event holds something
+pub holds_event : (slots : List (Option EventRecord)) (xs : List PlacedEvent) (x : PlacedEvent) → events_in slots ≡ xs → IsIn x xs → IsSome (slot_at slots x.id.slot)
+holds_event slots xs x e i = let r = record_of slots x.id x (subst (λ s. IsIn x s) (sym e) i) refl in rw r.holds refl
+
+-- what the slot of the id of an event holds has the line of the id
+pub line_kept : (slots : List (Option EventRecord)) (xs : List PlacedEvent) (x : PlacedEvent) (r : EventRecord) → events_in slots ≡ xs → IsIn x xs → slot_at slots x.id.slot ≡ Some r → r.line ≡ x.id.line
+line_kept slots xs x r e i h =
+    let k = record_of slots x.id x (subst (λ s. IsIn x s) (sym e) i) refl in
+    let both : Some k.kept ≡ Some r = sym k.holds ∙ h in
+    let one : k.kept ≡ r = cc in
+    ap event_line (sym one) ∙ k.line
+
+-- where a slot is vacant, no event has an id with it
+pub id_absent : (slots : List (Option EventRecord)) (id : EventId) → slot_at slots id.slot ≡ None → (x : PlacedEvent) → IsIn x (events_in slots) → x.id ≢ id
+id_absent slots id h x i e = let r = record_of slots id x i e in let found : None ≡ Some r.kept = sym h ∙ r.holds in cc
+
+-- where a slot holds an event of another line, no event has the id
+pub id_elsewhere : (slots : List (Option EventRecord)) (id : EventId) (r : EventRecord) → slot_at slots id.slot ≡ Some r → r.line ≢ id.line
+    → (x : PlacedEvent) → IsIn x (events_in slots) → x.id ≢ id
+id_elsewhere slots id r h differs x i e =
+    let k = record_of slots id x i e in
+    let n : Some k.kept ≡ Some r = sym k.holds ∙ h in
+    let m : k.kept ≡ r = cc in
+    differs (ap event_line (sym m) ∙ k.line)
+
+-- a record of the line of an id, in its slot, is the event of that id
+pub event_of_id : (slots : List (Option EventRecord)) (id : EventId) (r : EventRecord) → slot_at slots id.slot ≡ Some r → r.line ≡ id.line
+    → IsIn (record { id = id; interaction = r.interaction; rank = r.rank; born = r.born.items }) (events_in slots)
+event_of_id slots id r h e =
+    subst (λ l. IsIn (record { id = record { slot = id.slot; line = l }; interaction = r.interaction; rank = r.rank; born = r.born.items }) (events_in slots)) e (shown_from_slot event_at slots id.slot r h)
+
+-- the record in the slot of a place is the event that is led there
+pub lead_found : (slots : List (Option EventRecord)) (lines leads : List (Option ℕ)) → AreIndexed slots lines leads → (lead : NameId) (k : ℕ) (r : EventRecord) → slot_of leads lead.place ≡ Some k → slot_at slots k ≡ Some r
+    → (x : PlacedEvent) × IsIn x (events_in slots) × (x.id ≡ record { slot = k; line = r.line }) × (x.interaction.lead ≡ lead)
+lead_found slots lines leads t lead k r found h =
+    let p : r.interaction.lead.place ≡ lead.place = held_number event_lead slots leads t.led lead.place k r found h in
+    (event_at (k, r), shown_from_slot event_at slots k r h, refl, λ i. record { place = p i })
+
+-- no event is led from a place that the index lacks
+pub lead_absent : (slots : List (Option EventRecord)) (lines leads : List (Option ℕ)) → AreIndexed slots lines leads → (place : ℕ) → slot_of leads place ≡ None
+    → (x : PlacedEvent) → IsIn x (events_in slots) → x.interaction.lead.place ≢ place
+lead_absent slots lines leads t place lacks x i e =
+    let s = slot_from_shown event_at slots x i in
+    none_numbered event_lead slots leads t.led place lacks s.key s.value s.holds (lead_shown slots x s ∙ e)
+
+-- an event of a new line and a new lead is entered
+pub keys_entered : (old new : List (Option EventRecord)) (lines lines' leads leads' : List (Option ℕ)) (k : ℕ) (r : EventRecord) → AreIndexed old lines leads → HoldsOneMore old new k r
+    → IsNewKey (events_in old) (event_line r) (event_lead r) → Gives (event_line r) (Some k) lines lines' → Gives (event_lead r) (Some k) leads leads' → AreIndexed new lines' leads'
+keys_entered old new lines lines' leads leads' k r t more fresh lines_give leads_give = record {
+  lined = index_entered event_line old new lines lines' k r t.lined more (lacks_number event_line old lines t.lined (event_line r) (λ j x h e. (fresh (event_at (j, x)) (shown_from_slot event_at old j x h)).0 e)) lines_give;
+  led = index_entered event_lead old new leads leads' k r t.led more (lacks_number event_lead old leads t.led (event_lead r) (λ j x h e. (fresh (event_at (j, x)) (shown_from_slot event_at old j x h)).1 e)) leads_give;
+}
+
+-- an event is taken out with its line and its lead
+pub keys_taken : (old new : List (Option EventRecord)) (lines lines' leads leads' : List (Option ℕ)) (k : ℕ) (r : EventRecord) → AreIndexed old lines leads → HoldsOneMore new old k r
+    → Gives (event_line r) None lines lines' → Gives (event_lead r) None leads leads' → AreIndexed new lines' leads'
+keys_taken old new lines lines' leads leads' k r t more lines_take leads_take = record {
+  lined = index_taken event_line old new lines lines' k r t.lined more lines_take;
+  led = index_taken event_lead old new leads leads' k r t.led more leads_take;
+}
+
+-- where the slot of an id is emptied, the event of that id goes
+pub event_gone : (old new : List (Option EventRecord)) (id : EventId) (r : EventRecord) → HoldsOneMore new old id.slot r
+    → (x : PlacedEvent) → IsIn x (events_in old) → x.id ≡ id → Alike (events_in old) (x ∷ events_in new)
+event_gone old new id r more x i e =
+    let k = record_of old id x i e in
+    let n : Some k.kept ≡ Some r = sym k.holds ∙ more.filled in
+    let m : k.kept ≡ r = cc in
+    subst (λ y. Alike (events_in old) (y ∷ events_in new)) (sym (k.shows ∙ ap (λ v. event_at (id.slot, v)) m)) (shown_emptied event_at old new id.slot r more)
+
+-- the record in the slot of an id has the lead and the children of the event of that id
+pub event_given : (slots : List (Option EventRecord)) (id : EventId) (r : EventRecord) → slot_at slots id.slot ≡ Some r
+    → (x : PlacedEvent) → IsIn x (events_in slots) → x.id ≡ id → (r.interaction.lead ≡ x.interaction.lead) × (r.born.items ≡ x.born)
+event_given slots id r h x i e =
+    let k = record_of slots id x i e in
+    let n : Some r ≡ Some k.kept = sym h ∙ k.holds in
+    let m : r ≡ k.kept = cc in
+    let y : event_at (id.slot, r) ≡ x = ap (λ v. event_at (id.slot, v)) m ∙ sym k.shows in
+    (ap (λ (z : PlacedEvent). z.interaction.lead) y, ap (λ (z : PlacedEvent). z.born) y)
+
+-- the id of the event of the record under a slot
+abbrev pub id_at : ℕ × EventRecord → EventId
+id_at p = (event_at p).id
+
+-- the ids of all events
+pub ids_shown : (slots : List (Option EventRecord)) → map id_at (entries_from 0 slots) ≡ map (λ (x : PlacedEvent). x.id) (events_in slots)
+ids_shown slots = by (entries_from 0 slots)
+  where
+    by : (es : List (ℕ × EventRecord)) → map id_at es ≡ map (λ (x : PlacedEvent). x.id) (map event_at es)
+    by [] = refl
+    by (e ∷ es) = ap (λ ds. id_at e ∷ ds) (by es)

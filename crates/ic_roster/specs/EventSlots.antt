@@ -1,0 +1,26 @@
+-- How standing events are kept: records under slots, and indexes of the slots by line and by the place of the lead.
+use Rattle.std.specs.Prelude.{ℕ, List, Option}
+use Rattle.ic_roster.specs.declared.event_records.EventRecord.{EventRecord}
+use Rattle.ic_roster.specs.Placed.{PlacedEvent}
+use Rattle.ic_roster.specs.Slots.{shown, IsIndexOf}
+
+-- the event of the record under a slot
+abbrev pub event_at : ℕ × EventRecord → PlacedEvent
+event_at p = record { id = record { slot = p.0; line = p.1.line }; interaction = p.1.interaction; rank = p.1.rank; born = p.1.born.items }
+
+-- the events, by rising slot
+abbrev pub events_in : List (Option EventRecord) → List PlacedEvent
+events_in slots = shown event_at slots
+
+-- the line of a record
+abbrev pub event_line : EventRecord → ℕ
+event_line e = e.line
+
+-- the place of the name of a record's lead
+abbrev pub event_lead : EventRecord → ℕ
+event_lead e = e.interaction.lead.place
+
+-- the indexes have each event's slot under its line and under the place of its lead, and nothing else
+pub record AreIndexed (slots : List (Option EventRecord)) (lines leads : List (Option ℕ)) : Type 0 where
+  pub lined : IsIndexOf event_line slots lines
+  pub led : IsIndexOf event_lead slots leads

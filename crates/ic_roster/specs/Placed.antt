@@ -1,0 +1,59 @@
+-- Agents and events that tell their names by places in the table.
+use Rattle.std.specs.Prelude.{◌≡◌, ◌≢◌, ◌<◌, ℕ, List, map, length, Option, Some, None}
+use Rattle.ic_path.specs.Orders.{Pick, IsIn}
+use Rattle.ic_name.specs.Names.{Name}
+use Rattle.ic_name.specs.declared.ids.AgentId.{AgentId}
+use Rattle.ic_name.specs.declared.ids.EventId.{EventId}
+use Rattle.ic_names.specs.Tables.{name_at}
+use Rattle.ic_roster.specs.declared.events.GoneEvent.{GoneEvent}
+use Rattle.ic_roster.specs.declared.interaction.Interaction.{Interaction}
+use Rattle.ic_roster.specs.declared.agent_records.PlacedAgent.{PlacedAgent}
+use Rattle.ic_roster.specs.Rosters.{Member, Stander, RosterView, event_in, IsNamed}
+
+-- each agent has a slot and a place of its own
+pub record HaveOwnPlaces (xs : List PlacedAgent) : Type 0 where
+  pub slots : (x y : PlacedAgent) (rest : List PlacedAgent) → Pick x xs rest → IsIn y rest → y.id.slot ≢ x.id.slot
+  pub places : (x y : PlacedAgent) (rest : List PlacedAgent) → Pick x xs rest → IsIn y rest → y.name.place ≢ x.name.place
+
+-- no agent of the list has its name at the place
+abbrev pub IsNewPlace : List PlacedAgent → ℕ → Type 0
+IsNewPlace xs place = (x : PlacedAgent) → IsIn x xs → x.name.place ≢ place
+
+-- a standing event under its id, with the places of its names, its rank and the ids of its children
+pub record PlacedEvent : Type 0 where
+  pub id : EventId
+  pub interaction : Interaction
+  pub rank : ℕ
+  pub born : List AgentId
+
+-- each event has a slot, a line and a place of the lead of its own
+pub record HaveOwnKeys (xs : List PlacedEvent) : Type 0 where
+  pub slots : (x y : PlacedEvent) (rest : List PlacedEvent) → Pick x xs rest → IsIn y rest → y.id.slot ≢ x.id.slot
+  pub lines : (x y : PlacedEvent) (rest : List PlacedEvent) → Pick x xs rest → IsIn y rest → y.id.line ≢ x.id.line
+  pub leads : (x y : PlacedEvent) (rest : List PlacedEvent) → Pick x xs rest → IsIn y rest → y.interaction.lead.place ≢ x.interaction.lead.place
+
+-- no event of the list has the line, or its lead at the place
+abbrev pub IsNewKey : List PlacedEvent → ℕ → ℕ → Type 0
+IsNewKey xs line lead = (x : PlacedEvent) → IsIn x xs → (x.id.line ≢ line) × (x.interaction.lead.place ≢ lead)
+
+-- what is given is the place of the event's lead, and the ids of its children
+abbrev pub IsGiven : PlacedEvent → Option GoneEvent → Type 0
+IsGiven x None = ⊥
+IsGiven x (Some gone) = (gone.lead ≡ x.interaction.lead) × (gone.born.items ≡ x.born)
+
+-- the agent with its name
+abbrev pub member_in : List Name → PlacedAgent → Member
+member_in ns x = record { id = x.id; name = name_at ns x.name.place; kind = x.kind }
+
+-- the event with its names
+abbrev pub stander_in : List Name → PlacedEvent → Stander
+stander_in ns x = record { id = x.id; event = event_in ns x.interaction; rank = x.rank; born = x.born }
+
+-- the names, and the agents and events with their names
+abbrev pub roster_in : List Name → List PlacedAgent → List PlacedEvent → RosterView
+roster_in ns xs es = record { names = ns; agents = map (member_in ns) xs; events = map (stander_in ns) es }
+
+-- the places of all agents and events are among the names
+pub record AreNamed (ns : List Name) (xs : List PlacedAgent) (es : List PlacedEvent) : Type 0 where
+  pub agents : (x : PlacedAgent) → IsIn x xs → x.name.place < length ns
+  pub events : (x : PlacedEvent) → IsIn x es → IsNamed ns x.interaction

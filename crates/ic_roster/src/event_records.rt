@@ -1,0 +1,177 @@
+ghost use Rattle.std.specs.Prelude.{◌≡◌, ◌≢◌, ◌∷◌, [], length, map, IsNone, IfSome, IfNone, IfOk, OnErr};
+ghost use Rattle.ic_path.specs.Orders.{Alike, IsIn};
+ghost use Rattle.ic_roster.specs.Placed.{PlacedEvent, HaveOwnKeys, IsNewKey, IsGiven};
+
+use crate::events::{GoneEvent, StandingEntry};
+use crate::interaction::Interaction;
+use crate::reserving::reserve_slot;
+use ic_name::{AgentId, EventId};
+use ic_names::NameId;
+use ic_slots::SlotIndex;
+use slab::Slab;
+use smallvec::SmallVec;
+use std::alloc::{AllocError, Global};
+use std::marker::Model;
+
+/// The standing events of a bench, each under its id, and found by its line and by the place of its lead's name.
+#[derive(Drop)]
+pub(crate) struct EventRecords {
+    records: Slab<EventRecord>,
+    lines: SlotIndex,
+    leads: SlotIndex,
+    alloc: Global,
+}
+
+/// What is kept of a standing event under its slot.
+#[derive(Drop)]
+struct EventRecord {
+    interaction: Interaction,
+    line: u32,
+    rank: u32,
+    born: SmallVec<AgentId, 4>,
+}
+
+impl Model for EventRecords {
+    ghost use Rattle.std.specs.Prelude.{List};
+    ghost use Rattle.ic_roster.specs.Placed.{PlacedEvent};
+
+    ghost Value = { List PlacedEvent };
+
+    ghost use Rattle.ic_roster.specs.EventSlots.{events_in, AreIndexed};
+
+    ghost view = { λ e. events_in e.records.slots };
+
+    ghost invariant = { λ e. AreIndexed e.records.slots e.lines e.leads };
+}
+
+impl EventRecords {
+    /// No events. It takes no memory yet.
+    pub fn new(alloc: Global) -> EventRecords
+        ensures { result ≡ [] }
+    {
+        EventRecords {
+            records: Slab::new(alloc),
+            lines: SlotIndex::new(alloc),
+            leads: SlotIndex::new(alloc),
+            alloc,
+        }
+    }
+
+    /// What holds of all records, for whoever has to show it.
+    pub fn lawful(&self)
+        ensures { HaveOwnKeys self.now }
+    {
+        let _ = &self.records;
+    }
+
+    /// The number of events.
+    pub fn len(&self) -> usize
+        ensures { result ≡ length self.now }
+    {
+        self.records.len()
+    }
+
+    /// The id of the event that was fired in this line, if it stands, in constant time. It takes no memory.
+    pub fn at_line(&self, line: u32) -> Option<EventId>
+        ensures found { IfSome result (λ id. (x : PlacedEvent) × IsIn x self.now × (x.id ≡ id) × (id.line ≡ line)) }
+        ensures absent { IfNone result ((x : PlacedEvent) → IsIn x self.now → x.id.line ≢ line) }
+    {
+        let slot = self.lines.get(line)?;
+        Some(EventId { slot, line })
+    }
+
+    /// The event under an id, slot and line both; `None` for an id that holds no more. It takes no memory.
+    pub fn get(&self, id: EventId) -> Option<StandingEntry<'_>>
+        ensures found { IfSome result (λ entry. IsIn (record { id = id; interaction = entry.interaction; rank = entry.rank; born = entry.born.now }) self.now) }
+        ensures absent { IfNone result ((x : PlacedEvent) → IsIn x self.now → x.id ≢ id) }
+    {
+        let event = self.records.get(id.slot as usize)?;
+        if event.line != id.line {
+            return None;
+        }
+        Some(StandingEntry {
+            interaction: event.interaction,
+            rank: event.rank,
+            born: event.born.as_slice(),
+        })
+    }
+
+    /// The ids of all events.
+    pub fn ids(&self, alloc: Global) -> Result<Vec<EventId>, AllocError>
+        ensures { IfOk result (λ ids. ids.items ≡ map (λ x. x.id) self.now) }
+    {
+        let mut ids = Vec::with_capacity(alloc, self.records.len())?;
+        for (_, event) in self.records.iter() {
+            let Some(slot) = self.lines.get(event.line) else {
+                unreachable!()
+            };
+            ids.push(EventId {
+                slot,
+                line: event.line,
+            })?;
+        }
+        Ok(ids)
+    }
+
+    /// The id of the event whose lead has its name at this place, if one stands, in constant time. It takes no memory.
+    pub fn led_by(&self, lead: NameId) -> Option<EventId>
+        ensures found { IfSome result (λ id. (x : PlacedEvent) × IsIn x self.now × (x.id ≡ id) × (x.interaction.lead ≡ lead)) }
+        ensures absent { IfNone result ((x : PlacedEvent) → IsIn x self.now → x.interaction.lead.place ≢ lead.place) }
+    {
+        let slot = self.leads.get(lead.place)?;
+        let Some(event) = self.records.get(slot as usize) else {
+            unreachable!()
+        };
+        Some(EventId {
+            slot,
+            line: event.line,
+        })
+    }
+
+    /// One event more, fired in this line, in constant time but for growth. At an error nothing changes.
+    pub fn insert(
+        &mut self,
+        interaction: Interaction,
+        line: u32,
+        rank: u32,
+        born: &[AgentId],
+    ) -> Result<EventId, AllocError>
+        requires { IsNewKey self.old line interaction.lead.place }
+        ensures entered { IfOk result (λ id. (id.line ≡ line) × Alike (record { id = id; interaction = interaction; rank = rank; born = born.now } ∷ self.old) self.new) }
+        ensures unchanged { OnErr result (self.new ≡ self.old) }
+    {
+        let born = SmallVec::from_slice(self.alloc, born)?;
+        let slot = reserve_slot(&mut self.records)?;
+        self.lines.reserve(line)?;
+        self.leads.reserve(interaction.lead.place)?;
+        self.lines.put(line, slot);
+        self.leads.put(interaction.lead.place, slot);
+        self.records.insert_reserved(EventRecord {
+            interaction,
+            line,
+            rank,
+            born,
+        });
+        Ok(EventId { slot, line })
+    }
+
+    /// The event under the id goes, if it stands, in constant time, and what was kept of it is handed out; `None` where none
+    /// stands under the id. It takes no memory.
+    pub fn remove(&mut self, id: EventId) -> Option<GoneEvent>
+        ensures gone { (x : PlacedEvent) → IsIn x self.old → x.id ≡ id → Alike self.old (x ∷ self.new) }
+        ensures handed { (x : PlacedEvent) → IsIn x self.old → x.id ≡ id → IsGiven x result }
+        ensures absent { ((x : PlacedEvent) → IsIn x self.old → x.id ≢ id) → IsNone result }
+        ensures left { (x : PlacedEvent) → IsIn x self.new → IsIn x self.old }
+        ensures unchanged { ((x : PlacedEvent) → IsIn x self.old → x.id ≢ id) → self.new ≡ self.old }
+    {
+        self.get(id)?;
+        let event = self.records.remove(id.slot as usize);
+        let lead = event.interaction.lead;
+        self.lines.take(id.line);
+        self.leads.take(lead.place);
+        Some(GoneEvent {
+            lead,
+            born: event.born,
+        })
+    }
+}

@@ -1,0 +1,116 @@
+ghost use Rattle.std.specs.Prelude.{◌≡◌, ◌≢◌, ◌<◌, ◌∷◌, length, map, IsNone, IfSome, IfNone, IfOk, OnErr};
+ghost use Rattle.ic_path.specs.Orders.{Alike, IsIn};
+ghost use Rattle.ic_name.specs.Events.{pair};
+ghost use Rattle.ic_names.specs.Tables.{name_at};
+ghost use Rattle.ic_roster.specs.Rosters.{Stander, IsNewEvent, event_in, IsNamed, IsHanded};
+
+use crate::interaction::Interaction;
+use crate::roster::Roster;
+use ic_name::{AgentId, EventId, EventName};
+use ic_names::NameId;
+use smallvec::SmallVec;
+use std::alloc::{AllocError, Global};
+
+/// A standing event, to be read.
+#[derive(Clone, Copy)]
+pub struct StandingEntry<'a> {
+    pub interaction: Interaction,
+    pub rank: u32,
+    pub born: &'a [AgentId],
+}
+
+/// What was kept of an event that goes: the place of its lead's name, and the ids of its children.
+#[derive(Drop)]
+pub struct GoneEvent {
+    pub lead: NameId,
+    pub born: SmallVec<AgentId, 4>,
+}
+
+impl Roster {
+    /// The number of standing events.
+    pub fn event_count(&self) -> usize
+        ensures { result ≡ length self.now.events }
+    {
+        self.events.len()
+    }
+
+    /// The id of the event that was fired in this line, if it stands, in constant time. It takes no memory.
+    pub fn at_line(&self, line: u32) -> Option<EventId>
+        ensures found { IfSome result (λ id. (x : Stander) × IsIn x self.now.events × (x.id ≡ id) × (id.line ≡ line)) }
+        ensures absent { IfNone result ((x : Stander) → IsIn x self.now.events → x.id.line ≢ line) }
+    {
+        self.events.at_line(line)
+    }
+
+    /// The event under an id, slot and line both; `None` for an id that holds no more. It takes no memory.
+    pub fn event(&self, id: EventId) -> Option<StandingEntry<'_>>
+        ensures found { IfSome result (λ entry. IsIn (record { id = id; event = event_in self.now.names entry.interaction; rank = entry.rank; born = entry.born.now }) self.now.events) }
+        ensures named { IfSome result (λ entry. IsNamed self.now.names entry.interaction) }
+        ensures absent { IfNone result ((x : Stander) → IsIn x self.now.events → x.id ≢ id) }
+    {
+        self.events.get(id)
+    }
+
+    /// The ids of all events, in no promised order.
+    pub fn event_ids(&self, alloc: Global) -> Result<Vec<EventId>, AllocError>
+        ensures { IfOk result (λ ids. Alike (map (λ x. x.id) self.now.events) ids.items) }
+    {
+        self.events.ids(alloc)
+    }
+
+    /// The id of the event whose lead has its name at this place, if one stands, in constant time. It takes no memory.
+    pub fn led_by(&self, lead: NameId) -> Option<EventId>
+        requires { lead.place < length self.now.names }
+        ensures found { IfSome result (λ id. (x : Stander) × IsIn x self.now.events × (x.id ≡ id) × (x.event.lead ≡ name_at self.now.names lead.place)) }
+        ensures absent { IfNone result ((x : Stander) → IsIn x self.now.events → x.event.lead ≢ name_at self.now.names lead.place) }
+    {
+        self.names.lawful();
+        self.events.led_by(lead)
+    }
+
+    /// The id of the event of this name, if it stands. It takes no memory.
+    pub fn find_event(&self, name: &EventName) -> Option<EventId>
+        ensures found { IfSome result (λ id. (x : Stander) × IsIn x self.now.events × (x.id ≡ id) × (pair x.event ≡ name.now)) }
+        ensures absent { IfNone result ((x : Stander) → IsIn x self.now.events → pair x.event ≢ name.now) }
+    {
+        self.lawful();
+        let lead = self.names.find(name.lead())?;
+        let id = self.led_by(lead)?;
+        match self.event(id) {
+            Some(event) if self.names.is(event.interaction.other, name.other()) => Some(id),
+            Some(_) => None,
+            None => unreachable!(),
+        }
+    }
+
+    /// One event more, fired in this line, in constant time but for growth. At an error nothing changes.
+    pub fn insert_event(
+        &mut self,
+        interaction: Interaction,
+        line: u32,
+        rank: u32,
+        born: &[AgentId],
+    ) -> Result<EventId, AllocError>
+        requires named { IsNamed self.old.names interaction }
+        requires is_new { IsNewEvent self.old.events line (event_in self.old.names interaction) }
+        ensures entered { IfOk result (λ id. (id.line ≡ line) × Alike (record { id = id; event = event_in self.old.names interaction; rank = rank; born = born.now } ∷ self.old.events) self.new.events) }
+        ensures names { self.new.names ≡ self.old.names }
+        ensures agents { self.new.agents ≡ self.old.agents }
+        ensures unchanged { OnErr result (self.new ≡ self.old) }
+    {
+        self.events.insert(interaction, line, rank, born)
+    }
+
+    /// The event under the id goes, if it stands, in constant time, and what was kept of it is handed out; `None` where none
+    /// stands under the id. It takes no memory.
+    pub fn remove_event(&mut self, id: EventId) -> Option<GoneEvent>
+        ensures gone { (x : Stander) → IsIn x self.old.events → x.id ≡ id → Alike self.old.events (x ∷ self.new.events) }
+        ensures handed { (x : Stander) → IsIn x self.old.events → x.id ≡ id → IsHanded self.old.names x result }
+        ensures absent { ((x : Stander) → IsIn x self.old.events → x.id ≢ id) → IsNone result }
+        ensures names { self.new.names ≡ self.old.names }
+        ensures agents { self.new.agents ≡ self.old.agents }
+        ensures unchanged { ((x : Stander) → IsIn x self.old.events → x.id ≢ id) → self.new ≡ self.old }
+    {
+        self.events.remove(id)
+    }
+}
