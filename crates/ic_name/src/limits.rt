@@ -2,7 +2,7 @@
 pub const MAX_START_AGENTS: usize = 65_535;
 
 /// The digits of an agent's name, at most.
-pub const MAX_DEPTH: usize = 1_023;
+pub const MAX_DEPTH: usize = 16_383;
 
 /// The agents of a start and of a standing set together, at most.
 pub const MAX_AGENTS: usize = 262_144;

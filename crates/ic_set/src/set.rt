@@ -13,10 +13,11 @@ use std::marker::Model;
 
 /// The standing set of a bench over a start: its events, and the agents, the links and the causes that they leave, with
 /// a queue of the leads of its active pairs. There is room in it for each name that is known, so an undo takes none. The
-/// name of an agent that leads no pair any more goes when it comes to the front.
+/// name of an agent that leads no pair any more goes when it comes to the front. All but the queue is in a box, so that a
+/// proof of a function that lets go of the set has one step for it.
 #[derive(Drop)]
 pub struct StandingSet<L: LinkStore> {
-    pub(crate) bare: BareSet<L>,
+    pub(crate) bare: Box<BareSet<L>>,
     pub(crate) queue: LeadQueue,
 }
 
@@ -26,9 +27,9 @@ impl<L: LinkStore> Model for StandingSet<L> {
 
     ghost Value = { SetView };
 
-    ghost view = { λ a. a.bare.set };
+    ghost view = { λ a. a.bare.value.set };
 
-    ghost invariant = { λ a. KeepsQueue a.bare a.queue.leads a.queue.room };
+    ghost invariant = { λ a. KeepsQueue a.bare.value a.queue.leads a.queue.room };
 }
 
 impl<L: LinkStore> StandingSet<L> {
@@ -43,7 +44,10 @@ impl<L: LinkStore> StandingSet<L> {
         queue.reserve(bare.roster().names().len())?;
         put_all(&mut queue, &bare, &ids);
         drop_stale(&mut queue, &bare);
-        Ok(StandingSet { bare, queue })
+        Ok(StandingSet {
+            bare: Box::new(alloc, bare)?,
+            queue,
+        })
     }
 
     /// What holds of every standing set, for whoever has to show it.

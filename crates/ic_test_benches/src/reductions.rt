@@ -43,7 +43,7 @@ fn as_many_are_fired_as_are_asked_for(rt: HostRuntime) -> Result<(), Fail> {
 
 #[test]
 fn names_are_long_at_a_limit(rt: HostRuntime) -> Result<(), Fail> {
-    let reductions = Reductions(&[(2_000, 1_023, End::Limit)], 1_023, 1_024);
+    let reductions = Reductions(&[(20_000, 16_383, End::Limit)], 16_383, 16_384);
     assert!(rt; wins(rt.alloc(), ENDLESS, &reductions)?);
     Ok(())
 }

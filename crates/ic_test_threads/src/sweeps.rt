@@ -102,8 +102,8 @@ fn no_more_is_fired_than_the_budget(rt: HostRuntime) -> Result<(), Fail> {
 
 #[test]
 fn names_are_long_at_the_limit(rt: HostRuntime) -> Result<(), Fail> {
-    let ended = ending(&rt, rt.alloc(), ENDLESS, 2, 2_000);
-    assert!(rt; ended == Some((1_023, End::Limit)));
+    let ended = ending(&rt, rt.alloc(), ENDLESS, 2, 20_000);
+    assert!(rt; ended == Some((16_383, End::Limit)));
     Ok(())
 }
 

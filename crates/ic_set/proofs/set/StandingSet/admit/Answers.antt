@@ -4,6 +4,9 @@ use Rattle.ic_path.proofs.Picks.{in_first}
 use Rattle.ic_cause.proofs.KeptViews.{at_error}
 use Rattle.ic_queue.proofs.Heaps.{kept_heap}
 use Rattle.ic_set.specs.Pairs.{IsPairOf}
+use Rattle.ic_set.specs.Queues.{KeepsQueue}
+use Rattle.ic_set.specs.Sets.{IsStandingSet}
+use Rattle.ic_set.specs.Views.{BareView}
 use Rattle.ic_set.proofs.Admissions.{same_self}
 use Rattle.ic_set.proofs.GrownNames.{grown_keeps, grown_length}
 use Rattle.ic_set.proofs.PairsAdmitted.{same_keeps, admitted_each}
@@ -20,30 +23,49 @@ pub returns-in_err-reserve-clause-unchanged : goal.returns-in_err-reserve-clause
 returns-in_err-reserve-clause-unchanged g c = rw (← c.self.view_is) (at_error _ (same_self _))
 
 pub admit-requires-clause-new_line : goal.admit-requires-clause-new_line
-admit-requires-clause-new_line g c = rw c.self.view_is c.requires.new_line
+admit-requires-clause-new_line g c = rw (c.deref_mut.ensures.value, c.self.view_is) c.requires.new_line
 
 pub invariant_of-self-in_err-id : goal.invariant_of-self-in_err-id
 invariant_of-self-in_err-id g c =
-    let before = c.self.inside.bare.names in
+    let before = c.self.inside.bare.value.names in
     let after = c.admit.new.self.names in
-    let grown = c.admit.ensures.grown in
-    let count : c.len-names.result ≡ length before = c.len-names.ensures ∙ ap length (c.names.ensures ∙ c.roster.ensures.names) in
+    let grown = rw c.deref_mut.ensures.value at c.admit.ensures.grown in
+    let count : c.len-names.result ≡ length before = c.len-names.ensures ∙ ap length (c.names.ensures ∙ c.roster.ensures.names ∙ ap (λ (v : BareView). v.names) c.deref-3.ensures) in
     let enough : length after ≤ c.reserve.new.self.room = omega (arith, count, grown_length before after grown, c.in_ok-reserve.ensures.reserved) in
-    rw c.reserve.ensures.same (same_keeps c.self.inside.bare c.admit.new.self c.self.inside.queue.leads c.self.inside.queue.room _ c.in_err-id.ensures.unchanged (grown_keeps before after grown) enough c.self.invariant)
+    rw c.reserve.ensures.same (same_keeps c.self.inside.bare.value c.admit.new.self c.self.inside.queue.leads c.self.inside.queue.room _ (rw c.deref_mut.ensures.value at c.in_err-id.ensures.unchanged) (grown_keeps before after grown) enough c.self.invariant)
 
 pub put_all-requires-clause-heap : goal.put_all-requires-clause-heap
-put_all-requires-clause-heap g c = rw c.reserve.ensures.same (kept_heap c.self.inside.bare.names c.admit.new.self.names c.self.inside.queue.leads (grown_keeps _ _ c.admit.ensures.grown) c.self.invariant.heap)
+put_all-requires-clause-heap g c =
+    let grown = rw c.deref_mut.ensures.value at c.admit.ensures.grown in
+    rw (c.deref-5.ensures, c.reserve.ensures.same) (kept_heap c.self.inside.bare.value.names c.admit.new.self.names c.self.inside.queue.leads (grown_keeps _ _ grown) c.self.invariant.heap)
 
 pub put_children-requires-clause-standing : goal.put_children-requires-clause-standing
 put_children-requires-clause-standing g c =
     let a = c.in_ok-id.ensures.admitted in
-    (a.entry, alike-in a.events (in_first a.entry c.self.inside.bare.set.events), a.under)
+    rw c.deref-6.ensures (a.entry, alike-in a.events (in_first a.entry c.deref_mut.result.now.set.events), a.under)
 
 pub drop_stale-requires-clause-each : goal.drop_stale-requires-clause-each
 drop_stale-requires-clause-each g c =
-    let a = c.in_ok-id.ensures.admitted in
-    let there = alike-in a.events (in_first a.entry c.self.inside.bare.set.events) in
-    let active : IsPairOf c.self.inside.bare.set c.args.event.now c.args.pair = rw c.self.view_is c.requires.active in
-    admitted_each c.self.inside.bare c.admit.new.self c.lawful.ensures.set c.lawful-2.ensures.set c.args.event.now c.args.line c.in_ok-id.id a
-    c.self.inside.queue.leads c.put_all.new.queue.leads c.put_children.new.queue.leads (grown_keeps _ _ c.admit.ensures.grown) c.args.pair c.beside-beside.result a.entry.born (c.beside-beside.ensures c.args.event.now active) refl
-    c.self.invariant.each (rw c.reserve.ensures.same at c.put_all.ensures.stay) c.put_all.ensures.led c.put_children.ensures.stay (λ f q h i. c.put_children.ensures.led a.entry there a.under f q h i)
+    let a = rw c.deref_mut.ensures.value at c.in_ok-id.ensures.admitted in
+    let grown = rw c.deref_mut.ensures.value at c.admit.ensures.grown in
+    let there = alike-in a.events (in_first a.entry c.self.inside.bare.value.set.events) in
+    let active : IsPairOf c.self.inside.bare.value.set c.args.event.now c.args.pair = rw c.self.view_is c.requires.active in
+    let before : IsStandingSet c.self.inside.bare.value.set = rw c.deref.ensures at c.lawful.ensures.set in
+    let after : IsStandingSet c.admit.new.self.set = rw c.deref-4.ensures at c.lawful-2.ensures.set in
+    let beside = rw c.deref-2.ensures at c.beside-beside.ensures in
+    rw c.deref-7.ensures (admitted_each c.self.inside.bare.value c.admit.new.self before after c.args.event.now c.args.line c.in_ok-id.id a
+    c.self.inside.queue.leads c.put_all.new.queue.leads c.put_children.new.queue.leads (grown_keeps _ _ grown) c.args.pair c.beside-beside.result a.entry.born (beside c.args.event.now active) refl
+    c.self.invariant.each (rw (c.reserve.ensures.same, c.deref-5.ensures) at c.put_all.ensures.stay) (rw c.deref-5.ensures at c.put_all.ensures.led) (rw c.deref-6.ensures at c.put_children.ensures.stay) (λ f q h i. (rw c.deref-6.ensures at c.put_children.ensures.led) a.entry there a.under f q h i))
+
+pub invariant_of-self-2 : goal.invariant_of-self-2
+invariant_of-self-2 g c =
+    let before = c.self.inside.bare.value.names in
+    let after = c.admit.new.self.names in
+    let grown = rw c.deref_mut.ensures.value at c.admit.ensures.grown in
+    let count : c.len-names.result ≡ length before = c.len-names.ensures ∙ ap length (c.names.ensures ∙ c.roster.ensures.names ∙ ap (λ (v : BareView). v.names) c.deref-3.ensures) in
+    let all = c.put_all.ensures.room in
+    let children = c.put_children.ensures.room in
+    let left = c.drop_stale.ensures.room in
+    let enough : length after ≤ c.drop_stale.new.queue.room = omega (arith, count, grown_length before after grown, c.in_ok-reserve.ensures.reserved, all, children, left) in
+    let kept : KeepsQueue c.deref-7.result.now c.drop_stale.new.queue.leads c.drop_stale.new.queue.room = record { heap = c.drop_stale.ensures.heap; each = c.drop_stale.ensures.each; front = c.drop_stale.ensures.front; room = rw c.deref-7.ensures enough } in
+    rw c.deref-7.ensures at kept
