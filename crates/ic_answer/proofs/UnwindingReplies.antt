@@ -111,18 +111,20 @@ module _ (old new : BenchView) (ok : IsBench old) (lawful : IsBench new) where
           (did.next, subst (λ t. Replies old.start st (Unwind p) t did.next) (sym text_is) (unwound (named_event old p at x h.there h.name) last_first did.did), did.at)
 
   -- all events are undone
-  pub undoes_all : (names : List Pair) (text : List ℕ) → bench.IsUnwound old IsAny names new
-      → text ≡ undone_all_text (length names) → Turns old UndoAll text new
-  undoes_all names text u e = record { start = u.did.start; replies = replies }
+  pub undoes_all : (n : ℕ) (text : List ℕ) → bench.IsCleared old n new → text ≡ undone_all_text n → Turns old UndoAll text new
+  undoes_all n text c e = record { start = c.did.start; replies = replies }
     where
-      count : length (map fired_in u.undone) ≡ length names
-      count = length-map u.undone fired_in ∙ sym (length-map u.undone (λ x. pair x.event)) ∙ ap length u.named
+      unwound_so : bench.IsUnwound old IsAny (map (λ x. pair x.event) c.undone) new
+      unwound_so = record { undone = c.undone; which = c.which; did = c.did; named = refl }
+
+      count : n ≡ length (map fired_in c.undone)
+      count = c.counted ∙ sym (length-map c.undone fired_in)
 
       replies : (st : State) → IsAt old st → (next : State) × Replies old.start st UndoAll text next × IsAt new next
       replies st at =
-          let did = undone_so old new IsAny names ok lawful (all_with_dependents old) u st at in
-          let last_first = last_first_at old ok at IsAny (λ f. Unit {0}) (any_same old ok at) u.undone u.which in
-          let text_is = e ∙ ap undone_all_text (sym count) in
+          let did = undone_so old new IsAny (map (λ x. pair x.event) c.undone) ok lawful (all_with_dependents old) unwound_so st at in
+          let last_first = last_first_at old ok at IsAny (λ f. Unit {0}) (any_same old ok at) c.undone c.which in
+          let text_is = e ∙ ap undone_all_text count in
           (did.next, subst (λ t. Replies old.start st UndoAll t did.next) (sym text_is) (undone_all last_first did.did), did.at)
 
   -- a line for each of the events that rest on one doesn't fit

@@ -10,7 +10,7 @@ use crate::named::push_name;
 use crate::refused::Refused;
 use ic_journal::{Bench, LinkStore};
 use ic_name::EventName;
-use ic_undo::{UndoAllFault, UnwindFault, undo_all, unwind};
+use ic_undo::{UndoAllFault, UnwindFault, clear, unwind};
 use std::alloc::{AllocError, Global};
 
 /// Undoes an event with all that rests on it. An error where there is no memory to tell what was undone.
@@ -43,10 +43,10 @@ pub(crate) fn undo_everything<L: LinkStore>(
     ensures { MatchResult result (λ answer. Turns bench.old UndoAll (answer_text answer) bench.new) (λ _. bench.new.start ≡ bench.old.start) }
 {
     bench.lawful();
-    let undone = undo_all(alloc, bench);
+    let cleared = clear(bench);
     bench.lawful();
-    match undone {
-        Ok(names) => Ok(Answer::Text(undone_all_text(alloc, names.len())?)),
+    match cleared {
+        Ok(count) => Ok(Answer::Text(undone_all_text(alloc, count)?)),
         Err(UndoAllFault::HistoryFull) => Ok(Answer::Refused(Refused::HistoryFull)),
         Err(UndoAllFault::Memory) => Ok(Answer::Refused(Refused::Memory)),
     }

@@ -1,13 +1,12 @@
 -- Causes and dependents stay each other's as an event comes.
 use Rattle.std.proofs.Common.{◌≡◌, Bool, true, false, cond, [], ◌∷◌, Some, None, refl, sym, ap, ◌∙◌, subst}
 use Rattle.std.specs.Prelude.{unwrap_or}
-use Rattle.std.specs.BTreeMap.{BTreeMap}
 use Rattle.ic_path.specs.Orders.{Alike}
 use Rattle.ic_path.proofs.EachOnce.{once_cons}
 use Rattle.ic_name.specs.declared.ids.EventId.{EventId}
 use Rattle.ic_name.specs.Spots.{same_event}
 use Rattle.ic_cause.specs.declared.nodes.Node.{Node}
-use Rattle.ic_cause.specs.Nodes.{node_of, causes_of, causes_at, dependents_at, has, IsOnce, AreLinked}
+use Rattle.ic_cause.specs.Nodes.{Nodes, node_of, causes_of, causes_at, dependents_at, has, IsOnce, AreLinked}
 use Rattle.ic_cause.specs.NodeChanges.{Changes, Puts}
 use Rattle.ic_cause.proofs.EventOrder.{same_event_true}
 use Rattle.ic_cause.proofs.ListTests.{any-alike}
@@ -15,7 +14,7 @@ use Rattle.ic_cause.proofs.OnceLists.{once-alike}
 use Rattle.ic_cause.proofs.NodeLoops.{in_has}
 
 -- an event with new causes: `m` is what was, `mid` has its node, too, and `n` has the event at the dependents of its causes
-module _ (m mid n : BTreeMap EventId Node) (event : EventId) (node : Node) (is : AreLinked m) (fresh : node_of m event ≡ None) (empty : node.dependents.items ≡ [])
+module _ (m mid n : Nodes) (event : EventId) (node : Node) (is : AreLinked m) (fresh : node_of m event ≡ None) (empty : node.dependents.items ≡ [])
     (put : (q : EventId) → node_of mid q ≡ cond (same_event q event) (Some node) (node_of m q)) (once : IsOnce node.causes.items) (apart : has event node.causes.items ≡ false)
     (changes : Changes (Puts event) node.causes.items mid n) where
   -- its node is there

@@ -3,12 +3,13 @@ pub mod ListEnds
 pub mod OnceLists
 pub mod ListTests
 pub mod RankFacts
-pub mod EventSets
 pub mod MakerFacts
 pub mod PathEnds
 pub mod SwapRemoves
+pub mod SlotNodes
 pub mod NodeFacts
 pub mod NodeLoops
+pub mod IndexEvents
 pub mod SameLinks
 pub mod AddedLinks
 pub mod RemovedLinks

@@ -1,26 +1,29 @@
 -- The makers of the links of a path, as more links come.
-use Rattle.std.proofs.Common.{◌≡◌, Bool, true, false, not, List, [], ◌∷◌, ◌++◌, ◌⊎◌, inl, inr, refl, sym, ◌∙◌, ap, subst}
-use Rattle.std.specs.List.{list_any}
-use Rattle.std.specs.Bool.{OnFalse}
-use Rattle.std.specs.BTreeMap.{is_at}
-use Rattle.std.specs.BTreeSet.{insert_key}
-use Rattle.ic_path.specs.Orders.{Alike, IsIn}
-use Rattle.ic_path.proofs.Picks.{none_in}
+use Rattle.std.proofs.Common.{◌≡◌, List, [], ◌∷◌, ◌++◌, ◌⊎◌, inl, inr, sym, ◌∙◌, ap, subst}
+use Rattle.std.specs.List.{dedup}
+use Rattle.std.specs.List.Sorted.{IsPermutation, IsSorted}
+use Rattle.std.proofs.lemmas.List.Kept.{Contains-dedup, Contains-from_dedup, IsStrictlySortedBy-dedup}
+use Rattle.std.proofs.lemmas.List.Sorted.{IsPermutation-sym, Contains-permutation}
+use Rattle.ic_path.specs.Orders.{IsIn}
+use Rattle.ic_path.proofs.Picks.{none_in, in-contains, contains-in}
 use Rattle.ic_name.specs.declared.ids.EventId.{EventId}
 use Rattle.ic_name.specs.declared.ids.LinkId.{LinkId}
 use Rattle.ic_name.specs.declared.ids.MakerId.TheVariants as maker
 use Rattle.ic_name.specs.Spots.{same_event}
 use Rattle.ic_cause.specs.Makers.{IsMaker, AreMakers}
 use Rattle.ic_cause.specs.EventOrders.{event_cmp}
-use Rattle.ic_cause.proofs.EventOrder.{same_event_true, same_event_self}
-use Rattle.ic_cause.proofs.EventSets.{insert_key-alike, found_at}
+use Rattle.ic_cause.proofs.EventOrder.{event_total, event_at, event_equivalence, same_event_true}
 use Rattle.ic_cause.proofs.ListEnds.{in-end_cases, in_end, in_before}
-use Rattle.ic_cause.proofs.ListTests.{any-picked, any_in}
-use Rattle.ic_cause.proofs.OnceLists.{each_once_so, each_once_more}
+use Rattle.ic_cause.proofs.StrictOrders.{strict_once}
+
+-- the events made links of these ids, and some may be there twice
+pub record HasMakers (ids : List LinkId) (es : List EventId) : Type 0 where
+  pub each : (e : EventId) → IsMaker ids e → IsIn e es
+  pub only : (e : EventId) → IsIn e es → IsMaker ids e
 
 -- where there is no link there is no maker
-pub makers_of_none : AreMakers [] []
-makers_of_none = record { each = λ e m. absurd (none_in m.1); only = λ e i. absurd (none_in i); once = λ e rest k i. elim k [ ] }
+pub no_makers : HasMakers [] []
+no_makers = record { each = λ e m. absurd (none_in m.1); only = λ e i. absurd (none_in i) }
 
 -- a maker with a link more is the maker of that one, or was one
 maker_cases : (ids : List LinkId) (id : LinkId) (e : EventId) → IsMaker (ids ++ id ∷ []) e → (id.maker ≡ maker.Event e) ⊎ IsMaker ids e
@@ -35,38 +38,29 @@ maker_before : (ids : List LinkId) (id : LinkId) (e : EventId) → IsMaker ids e
 maker_before ids id e (i, k, m) = (i, in_before id k, m)
 
 -- a link that no event made adds no maker
-pub no_maker_more : (ids : List LinkId) (id : LinkId) (es : List EventId) → ((e : EventId) → id.maker ≡ maker.Event e → ⊥) → AreMakers ids es → AreMakers (ids ++ id ∷ []) es
-no_maker_more ids id es none are = each_once_so (maker_before ids id) (λ e m. by e (maker_cases ids id e m)) are
+pub no_maker_more : (ids : List LinkId) (id : LinkId) (es : List EventId) → ((e : EventId) → id.maker ≡ maker.Event e → ⊥) → HasMakers ids es → HasMakers (ids ++ id ∷ []) es
+no_maker_more ids id es none has = record { each = λ e m. each e (maker_cases ids id e m); only = λ e i. maker_before ids id e (has.only e i) }
   where
-    by : (e : EventId) → (id.maker ≡ maker.Event e) ⊎ IsMaker ids e → IsMaker ids e
-    by e (inl m) = absurd (none e m)
-    by e (inr m) = m
+    each : (e : EventId) → (id.maker ≡ maker.Event e) ⊎ IsMaker ids e → IsIn e es
+    each e (inl m) = absurd (none e m)
+    each e (inr m) = has.each e m
 
--- a link that an event made adds that event, if it isn't there
-pub maker_more : (ids : List LinkId) (id : LinkId) (e : EventId) (es new : List EventId) (added : Bool) → id.maker ≡ maker.Event e → AreMakers ids es
-    → added ≡ not (list_any (is_at (event_cmp e)) es) → new ≡ insert_key event_cmp es e → OnFalse added (new ≡ es) → AreMakers (ids ++ id ∷ []) new
-maker_more ids id e es new added made are a put same = by (list_any (is_at (event_cmp e)) es) refl
+-- a link that an event made adds that event
+pub maker_more : (ids : List LinkId) (id : LinkId) (e : EventId) (es : List EventId) → id.maker ≡ maker.Event e → HasMakers ids es → HasMakers (ids ++ id ∷ []) (es ++ e ∷ [])
+maker_more ids id e es made has = record { each = λ f m. each f (maker_cases ids id f m); only = λ f i. only f (in-end_cases i) }
   where
-    one : (f : EventId) → id.maker ≡ maker.Event f → f ≡ e
-    one f m = let both : maker.Event f ≡ maker.Event e = sym m ∙ made in cc
+    each : (f : EventId) → (id.maker ≡ maker.Event f) ⊎ IsMaker ids f → IsIn f (es ++ e ∷ [])
+    each f (inl m) = let both : maker.Event f ≡ maker.Event e = sym m ∙ made in let one : f ≡ e = cc in subst (λ g. IsIn g (es ++ e ∷ [])) (sym one) (in_end e es)
+    each f (inr m) = in_before e (has.each f m)
 
-    here_now : IsMaker (ids ++ id ∷ []) e
-    here_now = (id, in_end id ids, made)
+    only : (f : EventId) → (f ≡ e) ⊎ IsIn f es → IsMaker (ids ++ id ∷ []) f
+    only f (inl s) = (id, in_end id ids, made ∙ ap (λ g. maker.Event g) (sym s))
+    only f (inr i) = maker_before ids id f (has.only f i)
 
-    by : (b : Bool) → list_any (is_at (event_cmp e)) es ≡ b → AreMakers (ids ++ id ∷ []) new
-    by true f =
-        let unchanged : new ≡ es = let no : added ≡ false = a ∙ ap not f in rw no at same in
-        let there : IsIn e es = any_in (same_event e) e es (same_event_true e) (sym (found_at e es) ∙ f) in
-        subst (λ xs. AreMakers (ids ++ id ∷ []) xs) (sym unchanged) (each_once_so (maker_before ids id) (λ g m. among g there (maker_cases ids id g m)) are)
-      where
-        among : (g : EventId) → IsIn e es → (id.maker ≡ maker.Event g) ⊎ IsMaker ids g → IsMaker ids g
-        among g i (inl m) = subst (IsMaker ids) (sym (one g m)) (are.only e i)
-        among g i (inr m) = m
-    by false f =
-        each_once_more e are (subst (λ xs. Alike (e ∷ es) xs) (sym put) (insert_key-alike event_cmp e es f))
-        (λ m. let i = are.each e m in let t : list_any (same_event e) es ≡ true = any-picked (same_event e) i.1 (same_event_self e) in let u : list_any (same_event e) es ≡ false = sym (found_at e es) ∙ f in cc)
-        here_now (maker_before ids id) (λ g m. cases g (maker_cases ids id g m))
-      where
-        cases : (g : EventId) → (id.maker ≡ maker.Event g) ⊎ IsMaker ids g → (g ≡ e) ⊎ IsMaker ids g
-        cases g (inl m) = inl (one g m)
-        cases g (inr m) = inr m
+-- sorted, and without those that are there twice, each is there once
+pub makers_once : (ids : List LinkId) (es sorted : List EventId) → HasMakers ids es → IsPermutation es sorted → IsSorted event_cmp sorted → AreMakers ids (dedup same_event sorted)
+makers_once ids es sorted has moved rises = record {
+  each = λ e m. contains-in e _ (Contains-dedup event_equivalence same_event_true sorted e (Contains-permutation es sorted e moved (in-contains (has.each e m))));
+  only = λ e i. has.only e (contains-in e es (Contains-permutation sorted es e (IsPermutation-sym es sorted moved) (Contains-from_dedup same_event sorted e (in-contains i))));
+  once = strict_once event_total (dedup same_event sorted) (IsStrictlySortedBy-dedup event_total (λ a b. sym (event_at a b)) sorted rises);
+}

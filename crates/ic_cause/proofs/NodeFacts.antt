@@ -1,15 +1,14 @@
 -- What a write to the dependents of one event changes.
 use Rattle.std.proofs.Common.{◌≡◌, ◌≤◌, Bool, true, false, cond, ◌||◌, List, [], ◌∷◌, Some, refl, sym, ap, ◌∙◌, subst, arith}
 use Rattle.std.specs.Prelude.{option_map, unwrap_or, IsSome}
-use Rattle.std.specs.BTreeMap.{BTreeMap, WritesThrough}
 use Rattle.smallvec.specs.SmallVec.{small_vec_len}
 use Rattle.ic_name.specs.declared.ids.EventId.{EventId}
 use Rattle.ic_name.specs.Spots.{same_event}
 use Rattle.ic_cause.specs.declared.nodes.Node.{Node}
-use Rattle.ic_cause.specs.EventOrders.{event_cmp}
-use Rattle.ic_cause.specs.Nodes.{node_of, has}
+use Rattle.ic_cause.specs.Nodes.{Nodes, node_of, has}
 use Rattle.ic_cause.specs.NodeChanges.{HasRoom, SameNodes, Changes}
-use Rattle.ic_cause.proofs.EventOrder.{event_at, same_event_flips, same_event_true}
+use Rattle.ic_cause.specs.LentNodes.{WritesNode}
+use Rattle.ic_cause.proofs.EventOrder.{same_event_true}
 
 -- a second test that fails makes no difference
 or_false : (b : Bool) → b || false ≡ b
@@ -21,12 +20,10 @@ pub has_one : (e f : EventId) → has e (f ∷ []) ≡ same_event e f
 has_one e f = or_false (same_event e f)
 
 -- what a write through the lent node of an event leaves
-module _ (m n : BTreeMap EventId Node) (c : EventId) (old new : Node) (found : Some old ≡ node_of m c) (writes : WritesThrough event_cmp (event_cmp c) m new n) where
+module _ (m n : Nodes) (c : EventId) (old new : Node) (found : Some old ≡ node_of m c) (writes : WritesNode c m new n) where
   -- the node of the event is the new one, and each other node is as it was
   pub node_after : (q : EventId) → node_of n q ≡ cond (same_event q c) (Some new) (node_of m q)
-  node_after q =
-      let some : IsSome (node_of m c) = subst IsSome found refl in
-      (writes.3 some).0 q ∙ ap (λ b. cond b (Some new) (node_of m q)) (event_at c q ∙ same_event_flips c q)
+  node_after = writes (subst IsSome found refl)
 
   -- the event had the old node
   node_before : (q : EventId) → same_event q c ≡ true → node_of m q ≡ Some old

@@ -2,13 +2,11 @@
 use Rattle.std.proofs.Common.{◌≡◌, ℕ, ◌<◌, Bool, true, false, ◌||◌, List, [], ◌∷◌, ◌++◌, length, get_or, take, Option, Some, None, refl, sym, ap, ◌∙◌, subst}
 use Rattle.std.specs.Prelude.{option_map, is_some}
 use Rattle.std.specs.Option.{IsSomeAnd}
-use Rattle.std.specs.BTreeMap.{BTreeMap}
 use Rattle.smallvec.specs.SmallVec.{HasRoomFor}
 use Rattle.ic_path.specs.Orders.{IsIn}
 use Rattle.ic_name.specs.declared.ids.EventId.{EventId}
 use Rattle.ic_name.specs.Spots.{same_event}
-use Rattle.ic_cause.specs.declared.nodes.Node.{Node}
-use Rattle.ic_cause.specs.Nodes.{node_of, causes_of, dependents_at, has, IsOnce}
+use Rattle.ic_cause.specs.Nodes.{Nodes, node_of, causes_of, dependents_at, has, IsOnce}
 use Rattle.ic_cause.specs.NodeChanges.{HasRoom, Changes}
 use Rattle.ic_cause.proofs.EventOrder.{same_event_true, same_event_self}
 use Rattle.ic_cause.proofs.ListTests.{any-picked, any_in, any-end}
@@ -55,7 +53,7 @@ cases_of e c es = by (has e es) (same_event e c) refl refl
     by false false h k = neither h k (has_end e c es false false h k)
 
 -- one more event's dependents are changed
-pub changes_more : (P : List EventId → List EventId → Type 0) (c : EventId) (es : List EventId) (a b d : BTreeMap EventId Node) → has c es ≡ false
+pub changes_more : (P : List EventId → List EventId → Type 0) (c : EventId) (es : List EventId) (a b d : Nodes) → has c es ≡ false
     → Changes P es a b → Changes P (c ∷ []) b d → Changes P (es ++ c ∷ []) a d
 changes_more P c es a b d new first second = record {
   causes = λ e. second.causes e ∙ first.causes e;
@@ -83,15 +81,15 @@ some_mapped f None = refl
 some_mapped f (Some x) = refl
 
 -- an event is kept where its causes are the same
-pub kept_still : (m n : BTreeMap EventId Node) (e : EventId) → causes_of n e ≡ causes_of m e → is_some (node_of n e) ≡ is_some (node_of m e)
+pub kept_still : (m n : Nodes) (e : EventId) → causes_of n e ≡ causes_of m e → is_some (node_of n e) ≡ is_some (node_of m e)
 kept_still m n e same = sym (some_mapped (λ x. x.causes.items) (node_of n e)) ∙ ap is_some same ∙ some_mapped (λ x. x.causes.items) (node_of m e)
 
 -- room stays where the node does
-pub room_still : (m n : BTreeMap EventId Node) (e : EventId) → node_of n e ≡ node_of m e → HasRoom m e → HasRoom n e
+pub room_still : (m n : Nodes) (e : EventId) → node_of n e ≡ node_of m e → HasRoom m e → HasRoom n e
 room_still m n e same room = subst (λ o. IsSomeAnd o (λ x. HasRoomFor x.dependents 1)) (sym same) room
 
 -- those that are left keep their room as one event's dependents are written
-pub rooms_left : (m n : BTreeMap EventId Node) (c : EventId) (done : List EventId) (e : EventId) → (has e done ≡ false → HasRoom m e) → (same_event e c ≡ false → node_of n e ≡ node_of m e) → has e (done ++ c ∷ []) ≡ false → HasRoom n e
+pub rooms_left : (m n : Nodes) (c : EventId) (done : List EventId) (e : EventId) → (has e done ≡ false → HasRoom m e) → (same_event e c ≡ false → node_of n e ≡ node_of m e) → has e (done ++ c ∷ []) ≡ false → HasRoom n e
 rooms_left m n c done e room others new = by (cases_of e c done)
   where
     by : Cases e c done → HasRoom n e
@@ -100,7 +98,7 @@ rooms_left m n c done e room others new = by (cases_of e c done)
     by (neither k l _) = room_still m n e (others l) (room k)
 
 -- one more event has room
-pub rooms_more : (m n : BTreeMap EventId Node) (c : EventId) (done : List EventId) (e : EventId) → (has e done ≡ true → HasRoom m e) → (HasRoom m e → HasRoom n e) → HasRoom n c → has e (done ++ c ∷ []) ≡ true → HasRoom n e
+pub rooms_more : (m n : Nodes) (c : EventId) (done : List EventId) (e : EventId) → (has e done ≡ true → HasRoom m e) → (HasRoom m e → HasRoom n e) → HasRoom n c → has e (done ++ c ∷ []) ≡ true → HasRoom n e
 rooms_more m n c done e room kept this h = by (cases_of e c done)
   where
     by : Cases e c done → HasRoom n e

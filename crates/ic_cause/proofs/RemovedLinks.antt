@@ -1,13 +1,12 @@
 -- Causes and dependents stay each other's as an event goes.
 use Rattle.std.proofs.Common.{◌≡◌, Bool, true, false, cond, ◌||◌, [], ◌∷◌, Some, None, refl, sym, ap, ◌∙◌, subst}
 use Rattle.std.specs.Prelude.{unwrap_or}
-use Rattle.std.specs.BTreeMap.{BTreeMap}
 use Rattle.ic_path.specs.Orders.{here, Alike}
 use Rattle.ic_path.proofs.EachOnce.{once_rest}
 use Rattle.ic_name.specs.declared.ids.EventId.{EventId}
 use Rattle.ic_name.specs.Spots.{same_event}
 use Rattle.ic_cause.specs.declared.nodes.Node.{Node}
-use Rattle.ic_cause.specs.Nodes.{node_of, causes_of, causes_at, dependents_at, has, IsOnce, AreLinked}
+use Rattle.ic_cause.specs.Nodes.{Nodes, node_of, causes_of, causes_at, dependents_at, has, IsOnce, AreLinked}
 use Rattle.ic_cause.specs.NodeChanges.{Changes, Takes}
 use Rattle.ic_cause.proofs.EventOrder.{same_event_true}
 use Rattle.ic_cause.proofs.ListTests.{any-alike}
@@ -16,7 +15,7 @@ use Rattle.ic_cause.proofs.NodeLoops.{has_in}
 use Rattle.ic_cause.proofs.SameLinks.{once_none}
 
 -- an event that is no cause: `m` is what was, `mid` lacks its node, and `n` lacks it at the dependents of its causes, too
-module _ (m mid n : BTreeMap EventId Node) (event : EventId) (node : Node) (is : AreLinked m) (found : node_of m event ≡ Some node)
+module _ (m mid n : Nodes) (event : EventId) (node : Node) (is : AreLinked m) (found : node_of m event ≡ Some node)
     (taken : (q : EventId) → node_of mid q ≡ cond (same_event q event) None (node_of m q)) (free : (f : EventId) → has event (causes_at m f) ≡ false)
     (changes : Changes (Takes event) node.causes.items mid n) where
   -- its node is gone

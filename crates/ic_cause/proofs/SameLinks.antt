@@ -1,10 +1,8 @@
 -- Links with nothing in them, and links that are the same.
 use Rattle.std.proofs.Common.{◌≡◌, [], sym, ap, ◌∙◌, subst}
 use Rattle.std.specs.Prelude.{unwrap_or}
-use Rattle.std.specs.BTreeMap.{BTreeMap}
 use Rattle.ic_name.specs.declared.ids.EventId.{EventId}
-use Rattle.ic_cause.specs.declared.nodes.Node.{Node}
-use Rattle.ic_cause.specs.Nodes.{causes_at, dependents_at, has, IsOnce, AreLinked}
+use Rattle.ic_cause.specs.Nodes.{Nodes, causes_at, dependents_at, has, IsOnce, AreLinked}
 use Rattle.ic_cause.specs.NodeChanges.{SameNodes}
 
 -- no event is in the empty list twice
@@ -12,7 +10,7 @@ pub once_none : IsOnce []
 once_none e rest k i = elim k [ ]
 
 -- lists that are the same are linked the same
-pub same_linked : (m n : BTreeMap EventId Node) → SameNodes m n → AreLinked m → AreLinked n
+pub same_linked : (m n : Nodes) → SameNodes m n → AreLinked m → AreLinked n
 same_linked m n same is = record {
   linked = λ e f. ap (has f) (users e) ∙ is.linked e f ∙ ap (has e) (sym (causes f));
   causes_once = λ e. subst IsOnce (sym (causes e)) (is.causes_once e);

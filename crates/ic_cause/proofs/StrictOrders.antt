@@ -1,4 +1,4 @@
--- Lists in strict order that have the same elements are one.
+-- Lists in strict order: those that have the same elements are one, and none has an element twice.
 use Rattle.std.proofs.Common.{◌≡◌, List, [], ◌∷◌, ◌⊎◌, inl, inr, refl, sym, subst}
 use Rattle.std.specs.Cmp.{IsTotalOrder}
 use Rattle.std.specs.List.{AllByRecursion}
@@ -8,6 +8,7 @@ use Rattle.std.specs.declared.cmp.Ordering.{Ordering}
 use Rattle.std.specs.declared.cmp.Ordering.TheVariants.{Less, Equal, Greater}
 use Rattle.ic_path.specs.Orders.{Pick, here, there, Alike, IsIn}
 use Rattle.ic_path.proofs.Alikes.{alike_back, alike-in, alike-cancel}
+use Rattle.ic_path.proofs.EachOnce.{IsOnce, once_cons}
 use Rattle.ic_path.proofs.Picks.{none_in, in_first, in-cons_cases}
 
 -- what holds of all holds of each
@@ -39,3 +40,9 @@ module _ {K : Type 0} {cmp : K → K → Ordering} (total : IsTotalOrder cmp) wh
       by (inl e) q rec = same_first e rec
       by (inr i) (inl e) rec = same_first (sym e) rec
       by (inr i) (inr j) rec = absurd (never_both _ _ (total.antisymm x y) (all_at (λ z. cmp x z ≡ Less) h.0 j.1) (all_at (λ z. cmp y z ≡ Less) k.0 i.1))
+
+  -- a list in strict order has nothing twice
+  pub strict_once : (xs : List K) → IsStrictlySortedBy cmp xs → IsOnce xs
+  unfolding IsStrictlySortedBy
+  strict_once [] h = λ x rest k i. elim k [ ]
+  strict_once (y ∷ ys) h = once_cons (λ i. never_both _ _ (total.antisymm y y) (all_at (λ z. cmp y z ≡ Less) h.0 i.1) (all_at (λ z. cmp y z ≡ Less) h.0 i.1)) (strict_once ys h.1)

@@ -6,3 +6,4 @@ pub mod EventOrders
 pub mod Dependents
 pub mod Nodes
 pub mod NodeChanges
+pub mod LentNodes

@@ -1,38 +1,65 @@
 -- The nodes of the events that are kept.
-use Rattle.std.specs.Prelude.{◌≡◌, Bool, List, [], map, Option, option_map, unwrap_or}
-use Rattle.std.specs.BTreeMap.{BTreeMap, get}
+use Rattle.std.specs.Prelude.{◌≡◌, ℕ, ◌+◌, Bool, List, [], ◌∷◌, ◌++◌, map, filter_map, Option, Some, None, IsSome, option_map, option_and_then, unwrap_or, slice_index_or}
 use Rattle.std.specs.FinMap.{from_entries}
 use Rattle.std.specs.List.{list_any}
 use Rattle.ic_path.specs.Orders.{Pick, IsIn}
 use Rattle.ic_name.specs.declared.ids.EventId.{EventId}
 use Rattle.ic_name.specs.Spots.{same_event}
+use Rattle.ic_spots.specs.declared.event_rows.EventRow.{EventRow}
+use Rattle.ic_spots.specs.Events.{EventSlots, slot_under}
 use Rattle.ic_cause.specs.declared.nodes.Node.{Node}
-use Rattle.ic_cause.specs.EventOrders.{event_cmp}
 use Rattle.ic_cause.specs.Dependents.{Causes, KeptEvents}
 
--- the events that are kept, without their dependents
-abbrev pub kept_events : BTreeMap EventId Node → KeptEvents
-kept_events nodes = from_entries (map (λ e. (e.0, e.1.causes.items)) nodes.entries)
+-- the slots of events, and the nodes in the slots
+pub record Nodes : Type 0 where
+  pub index : EventSlots
+  pub slots : List (Option Node)
+
+-- the node in a slot
+abbrev pub node_in : Nodes → ℕ → Option Node
+node_in nodes slot = slice_index_or nodes.slots slot None
 
 -- the node of an event
-abbrev pub node_of : BTreeMap EventId Node → EventId → Option Node
-node_of nodes e = get event_cmp nodes e
+abbrev pub node_of : Nodes → EventId → Option Node
+node_of nodes e = option_and_then (node_in nodes) (slot_under nodes.index e)
+
+-- the slot of an event has a node, and is no other event's
+pub record IsSound (nodes : Nodes) : Type 0 where
+  pub held : (e : EventId) (slot : ℕ) → slot_under nodes.index e ≡ Some slot → IsSome (node_in nodes slot)
+  pub own : (e f : EventId) (slot : ℕ) → slot_under nodes.index e ≡ Some slot → slot_under nodes.index f ≡ Some slot → e ≡ f
 
 -- its direct causes
-abbrev pub causes_of : BTreeMap EventId Node → Causes
+abbrev pub causes_of : Nodes → Causes
 causes_of nodes e = option_map (λ n. n.causes.items) (node_of nodes e)
 
 -- the events whose direct cause it is
-abbrev pub dependents_of : BTreeMap EventId Node → Causes
+abbrev pub dependents_of : Nodes → Causes
 dependents_of nodes e = option_map (λ n. n.dependents.items) (node_of nodes e)
 
 -- its direct causes, none where it is not kept
-abbrev pub causes_at : BTreeMap EventId Node → EventId → List EventId
+abbrev pub causes_at : Nodes → EventId → List EventId
 causes_at nodes e = unwrap_or (causes_of nodes e) []
 
 -- its dependents, none where it is not kept
-abbrev pub dependents_at : BTreeMap EventId Node → EventId → List EventId
+abbrev pub dependents_at : Nodes → EventId → List EventId
 dependents_at nodes e = unwrap_or (dependents_of nodes e) []
+
+-- the events of rows, of which the first has this number
+abbrev pub row_events : ℕ → List EventRow → List EventId
+row_events number [] = []
+row_events number (row ∷ rows) = record { slot = number; line = row.line } ∷ row_events (number + 1) rows
+
+-- the events that may have a slot
+abbrev pub events_of : EventSlots → List EventId
+events_of index = row_events 0 index.rows ++ map (λ x. x.0) index.others
+
+-- an event with its causes, if it is kept
+abbrev pub entry_of : Nodes → EventId → Option (EventId × List EventId)
+entry_of nodes e = option_map (λ causes. (e, causes)) (causes_of nodes e)
+
+-- the events that are kept, without their dependents
+abbrev pub kept_events : Nodes → KeptEvents
+kept_events nodes = from_entries (filter_map (entry_of nodes) (events_of nodes.index))
 
 -- whether the event is in the list
 abbrev pub has : EventId → List EventId → Bool
@@ -43,7 +70,7 @@ abbrev pub IsOnce : List EventId → Type 0
 IsOnce es = (e : EventId) (rest : List EventId) → Pick e es rest → IsIn e rest → ⊥
 
 -- the dependents of an event are those that have it among their causes, and no list has an event twice
-pub record AreLinked (nodes : BTreeMap EventId Node) : Type 0 where
+pub record AreLinked (nodes : Nodes) : Type 0 where
   pub linked : (e f : EventId) → has f (dependents_at nodes e) ≡ has e (causes_at nodes f)
   pub causes_once : (e : EventId) → IsOnce (causes_at nodes e)
   pub dependents_once : (e : EventId) → IsOnce (dependents_at nodes e)

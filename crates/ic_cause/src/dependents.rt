@@ -4,17 +4,17 @@ ghost use Rattle.ic_path.specs.Rings.{HasEachOnce};
 ghost use Rattle.ic_name.specs.declared.ids.EventId.{EventId as AnEventId};
 ghost use Rattle.ic_cause.specs.Dependents.{causes_in, with_event, DependsOn, AreDependents};
 
+use crate::node_slots::NodeSlots;
 use crate::nodes::{Node, put_at_each, reserve_places, take_at_each};
 use ic_name::EventId;
 use smallvec::SmallVec;
 use std::alloc::{AllocError, Global};
-use std::collections::BTreeMap;
 use std::marker::Model;
 
 /// Standing events with their direct causes, and with those whose direct cause each is; kept both ways.
 #[derive(Drop)]
 pub struct Dependents {
-    nodes: BTreeMap<EventId, Node>,
+    nodes: NodeSlots,
     alloc: Global,
 }
 
@@ -40,7 +40,7 @@ impl Dependents {
         ensures { (e : AnEventId) → causes_in result e ≡ None }
     {
         Dependents {
-            nodes: BTreeMap::new(alloc),
+            nodes: NodeSlots::new(alloc),
             alloc,
         }
     }
@@ -70,7 +70,7 @@ impl Dependents {
         requires { (f : AnEventId) → DependsOn (causes_in self.old) event f → ⊥ }
         ensures { (e : AnEventId) → causes_in self.new e ≡ with_event event None (causes_in self.old) e }
     {
-        let Some(node) = self.nodes.remove(&event) else {
+        let Some(node) = self.nodes.remove(event) else {
             return;
         };
         take_at_each(&mut self.nodes, node.causes.as_slice(), event);
@@ -80,7 +80,7 @@ impl Dependents {
     pub fn causes(&self, event: EventId) -> Option<&[EventId]>
         ensures { option_map (λ causes. causes.now) result ≡ causes_in self.now event }
     {
-        match self.nodes.get(&event) {
+        match self.nodes.get(event) {
             Some(node) => Some(node.causes.as_slice()),
             None => None,
         }
@@ -90,7 +90,7 @@ impl Dependents {
     pub fn dependents(&self, event: EventId) -> &[EventId]
         ensures { AreDependents (causes_in self.now) event result.now }
     {
-        match self.nodes.get(&event) {
+        match self.nodes.get(event) {
             Some(node) => node.dependents.as_slice(),
             None => &[],
         }

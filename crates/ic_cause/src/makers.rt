@@ -8,7 +8,6 @@ ghost use Rattle.ic_cause.specs.Makers.{AreMakers};
 use ic_link::LinkStore;
 use ic_name::{AgentId, EventId, LinkId, MakerId, Spot};
 use std::alloc::{AllocError, Global};
-use std::collections::BTreeSet;
 
 /// The direct causes of an event of two agents whose principal ports a path of the store joins: the events that made
 /// links of the path, each once (Danos and Krivine 2004).
@@ -31,15 +30,13 @@ pub fn direct_causes<L: LinkStore>(
 fn makers_of(alloc: Global, ids: &[LinkId]) -> Result<Vec<EventId>, AllocError>
     ensures { IfOk result (λ makers. AreMakers ids.now makers.items) }
 {
-    let mut makers = BTreeSet::new(alloc);
+    let mut makers = Vec::new(alloc);
     for id in ids {
         if let MakerId::Event(event) = id.maker {
-            let _ = makers.insert(event)?;
+            makers.push(event)?;
         }
     }
-    let mut events = Vec::with_capacity(alloc, makers.len())?;
-    for event in &makers {
-        events.push(*event)?;
-    }
-    Ok(events)
+    makers.sort_unstable();
+    makers.dedup();
+    Ok(makers)
 }

@@ -4,10 +4,10 @@ ghost use Rattle.ic_name.specs.Spots.{same_event};
 ghost use Rattle.ic_cause.specs.Nodes.{node_of, has, IsOnce};
 ghost use Rattle.ic_cause.specs.NodeChanges.{HasRoom, SameNodes, Changes, Puts, Takes};
 
+use crate::node_slots::NodeSlots;
 use ic_name::EventId;
 use smallvec::SmallVec;
 use std::alloc::AllocError;
-use std::collections::BTreeMap;
 
 /// An event's direct causes, and the events whose direct cause it is.
 #[derive(Drop)]
@@ -18,10 +18,7 @@ pub(crate) struct Node {
 
 /// Makes room for a dependent more of each of these events, which are kept. At an error some have room, and nothing else
 /// differs.
-pub(crate) fn reserve_places(
-    nodes: &mut BTreeMap<EventId, Node>,
-    causes: &[EventId],
-) -> Result<(), AllocError>
+pub(crate) fn reserve_places(nodes: &mut NodeSlots, causes: &[EventId]) -> Result<(), AllocError>
     requires { All (λ cause. IsSome (node_of nodes.old cause)) causes.now }
     ensures same { SameNodes nodes.old nodes.new }
     ensures room { OnOk result ((e : AnEventId) → has e causes.now ≡ true → HasRoom nodes.new e) }
@@ -33,7 +30,7 @@ pub(crate) fn reserve_places(
 }
 
 /// Puts an event to the dependents of each of its direct causes, where there is room. It takes no memory.
-pub(crate) fn put_at_each(nodes: &mut BTreeMap<EventId, Node>, causes: &[EventId], event: EventId)
+pub(crate) fn put_at_each(nodes: &mut NodeSlots, causes: &[EventId], event: EventId)
     requires once { IsOnce causes.now }
     requires room { (e : AnEventId) → has e causes.now ≡ true → HasRoom nodes.old e }
     ensures { Changes (Puts event) causes.now nodes.old nodes.new }
@@ -44,7 +41,7 @@ pub(crate) fn put_at_each(nodes: &mut BTreeMap<EventId, Node>, causes: &[EventId
 }
 
 /// Takes an event out of the dependents of each of its direct causes. It takes no memory.
-pub(crate) fn take_at_each(nodes: &mut BTreeMap<EventId, Node>, causes: &[EventId], event: EventId)
+pub(crate) fn take_at_each(nodes: &mut NodeSlots, causes: &[EventId], event: EventId)
     requires { IsOnce causes.now }
     ensures { Changes (Takes event) causes.now nodes.old nodes.new }
 {
@@ -54,34 +51,34 @@ pub(crate) fn take_at_each(nodes: &mut BTreeMap<EventId, Node>, causes: &[EventI
 }
 
 /// Makes room for a dependent more of an event. At an error there is less room, and nothing else differs.
-fn reserve_place(nodes: &mut BTreeMap<EventId, Node>, cause: EventId) -> Result<(), AllocError>
+fn reserve_place(nodes: &mut NodeSlots, cause: EventId) -> Result<(), AllocError>
     requires { IsSome (node_of nodes.old cause) }
     ensures same { SameNodes nodes.old nodes.new }
     ensures kept { (e : AnEventId) → HasRoom nodes.old e → HasRoom nodes.new e }
     ensures room { OnOk result (HasRoom nodes.new cause) }
 {
-    if let Some(node) = nodes.get_mut(&cause) {
+    if let Some(node) = nodes.get_mut(cause) {
         node.dependents.reserve(1)?;
     }
     Ok(())
 }
 
 /// Puts an event to the dependents of another, where there is room. It takes no memory.
-fn put_at(nodes: &mut BTreeMap<EventId, Node>, cause: EventId, event: EventId)
+fn put_at(nodes: &mut NodeSlots, cause: EventId, event: EventId)
     requires { HasRoom nodes.old cause }
     ensures changed { Changes (Puts event) (cause ∷ []) nodes.old nodes.new }
     ensures others { (e : AnEventId) → same_event e cause ≡ false → node_of nodes.new e ≡ node_of nodes.old e }
 {
-    if let Some(node) = nodes.get_mut(&cause) {
+    if let Some(node) = nodes.get_mut(cause) {
         node.dependents.push_reserved(event);
     }
 }
 
 /// Takes an event out of the dependents of another. It takes no memory.
-fn take_at(nodes: &mut BTreeMap<EventId, Node>, cause: EventId, event: EventId)
+fn take_at(nodes: &mut NodeSlots, cause: EventId, event: EventId)
     ensures { Changes (Takes event) (cause ∷ []) nodes.old nodes.new }
 {
-    if let Some(node) = nodes.get_mut(&cause) {
+    if let Some(node) = nodes.get_mut(cause) {
         take_out(&mut node.dependents, event);
     }
 }

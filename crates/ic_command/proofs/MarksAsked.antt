@@ -1,5 +1,5 @@
 -- Words that ask for something with a mark.
-use Rattle.std.proofs.Common.{◌≡◌, ℕ, List, [], ◌∷◌, sym, subst, ◌∙◌, ap}
+use Rattle.std.proofs.Common.{◌≡◌, ℕ, List, [], ◌∷◌}
 use Rattle.std.specs.Prelude.{codes}
 use Rattle.ic_command.specs.declared.request.Request.TheVariants.{Mark, Back}
 use Rattle.ic_command.specs.MarkNames.{IsMarkName}

@@ -34,10 +34,14 @@ pub record AreAgents (ws : List (List ℕ)) (event : Pair) : Type 0 where
   pub written : ws ≡ name_text first ∷ name_text second ∷ []
   pub named : event ≡ pair_of first second
 
--- the word is a decimal number without leading zeros, at most as great as a history may be long
-pub record IsNumber (w : List ℕ) (n : ℕ) : Type 0 where
+-- the word is a decimal number without leading zeros, at most so great
+pub record IsNumberUpTo (most : ℕ) (w : List ℕ) (n : ℕ) : Type 0 where
   pub written : w ≡ decimal n
-  pub small : n ≤ MAX_LINES
+  pub small : n ≤ most
+
+-- at most as great as a history may be long
+abbrev pub IsNumber : List ℕ → ℕ → Type 0
+IsNumber w n = IsNumberUpTo MAX_LINES w n
 
 -- what the words of a line ask for
 pub data Asks : List (List ℕ) → Command → Type 0 where
@@ -73,15 +77,19 @@ abbrev pub IsEventIn : List (List ℕ) → Option Pair → Type 0
 IsEventIn ws (Some e) = AreAgents ws e
 IsEventIn ws None = (e : Pair) → AreAgents ws e → ⊥
 
--- the number that a word writes, if it writes one
-abbrev pub IsNumberIn : List ℕ → Option ℕ → Type 0
-IsNumberIn w (Some n) = IsNumber w n
-IsNumberIn w None = (n : ℕ) → ¬ (IsNumber w n)
+-- the number that a word writes, if it writes one that is at most so great
+abbrev pub IsNumberIn : ℕ → List ℕ → Option ℕ → Type 0
+IsNumberIn most w (Some n) = IsNumberUpTo most w n
+IsNumberIn most w None = (n : ℕ) → ¬ (IsNumberUpTo most w n)
 
 -- the number that words write, if they are one word that writes one
+abbrev pub AreNumberUpTo : ℕ → List (List ℕ) → Option ℕ → Type 0
+AreNumberUpTo most ws (Some n) = (w : List ℕ) × (ws ≡ w ∷ []) × IsNumberUpTo most w n
+AreNumberUpTo most ws None = (w : List ℕ) (n : ℕ) → ws ≡ w ∷ [] → ¬ (IsNumberUpTo most w n)
+
+-- one that is at most as great as a history may be long
 abbrev pub AreNumber : List (List ℕ) → Option ℕ → Type 0
-AreNumber ws (Some n) = (w : List ℕ) × (ws ≡ w ∷ []) × IsNumber w n
-AreNumber ws None = (w : List ℕ) (n : ℕ) → ws ≡ w ∷ [] → ¬ (IsNumber w n)
+AreNumber ws o = AreNumberUpTo MAX_LINES ws o
 
 -- the command in a session that fires at most so many events at once
 abbrev pub within : ℕ → Command → Command

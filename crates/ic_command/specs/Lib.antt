@@ -2,3 +2,5 @@ pub mod Words
 pub mod Commands
 pub mod MarkNames
 pub mod Requests
+pub mod Listed
+pub mod Asked

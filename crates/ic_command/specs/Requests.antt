@@ -1,9 +1,9 @@
 -- What a line of a session asks for: to mark what stands, to go back to a mark, or a command of the bench.
-use Rattle.std.specs.Prelude.{◌≡◌, ◌⊎◌, ℕ, true, List, [], ◌∷◌, codes, Option, Some, None}
+use Rattle.std.specs.Prelude.{◌≡◌, ℕ, true, List, [], ◌∷◌, codes, Option, Some, None}
 use Rattle.std.specs.Io.BufRead.{strip_last}
 use Rattle.ic_command.specs.declared.command.Command.{Command}
 use Rattle.ic_command.specs.declared.request.Request.{Request}
-use Rattle.ic_command.specs.declared.request.Request.TheVariants.{Bench, Mark, Back}
+use Rattle.ic_command.specs.declared.request.Request.TheVariants.{Bench, Mark, Back, Absorb}
 use Rattle.ic_command.specs.Commands as commands
 use Rattle.ic_command.specs.Commands.{IsCommand, is_well_formed}
 use Rattle.ic_command.specs.MarkNames.{IsMarkName}
@@ -30,3 +30,4 @@ abbrev pub within : ℕ → Request → Request
 within budget (Bench c) = Bench (commands.within budget c)
 within budget (Mark name) = Mark name
 within budget (Back name) = Back name
+within budget (Absorb names) = Absorb names

@@ -1,7 +1,7 @@
-ghost use Rattle.std.specs.Prelude.{◌≡◌, ◌≢◌, [], IfOk};
+ghost use Rattle.std.specs.Prelude.{◌≡◌, ◌≢◌, [], ◌∷◌, IfOk};
 ghost use Rattle.std.specs.List.{list_all};
 ghost use Rattle.std.specs.Io.BufRead.{strip_last};
-ghost use Rattle.ic_command.specs.Commands.{AreNumber, AreWordsOf, IsCommand, IsEventIn, IsNameIn, IsNumberIn, is_comment, is_plain, is_well_formed, within};
+ghost use Rattle.ic_command.specs.Commands.{AreNumberUpTo, AreWordsOf, IsCommand, IsEventIn, IsNameIn, IsNumberIn, is_comment, is_plain, is_well_formed, within};
 ghost use Rattle.ic_command.specs.Words.{words};
 ghost use Rattle.ic_command.specs.declared.command.Command.TheVariants.{Malformed};
 
@@ -120,7 +120,7 @@ fn command_of_words(alloc: Global, body: &[u8]) -> Result<Command, AllocError>
     } else if word == b"undo-all".as_slice() {
         Ok(alone(behind, Command::UndoAll))
     } else if word == b"reduce".as_slice() {
-        Ok(match number_in(alloc, behind)? {
+        Ok(match number_in(alloc, behind, MAX_LINES as u32)? {
             Some(most) => Command::Reduce(most),
             None => Command::Malformed,
         })
@@ -173,6 +173,17 @@ fn event_in(alloc: Global, line: &[u8]) -> Result<Option<EventName>, AllocError>
     if next_word(behind).is_some() {
         return Ok(None);
     }
+    event_of(alloc, first, second)
+}
+
+/// The event that two words name; `None` where they aren't the names of two agents.
+pub(crate) fn event_of(
+    alloc: Global,
+    first: &[u8],
+    second: &[u8],
+) -> Result<Option<EventName>, AllocError>
+    ensures { IfOk result (λ event. IsEventIn (first.now ∷ second.now ∷ []) event) }
+{
     let Some(left) = name_in(alloc, first)? else {
         return Ok(None);
     };
@@ -193,9 +204,9 @@ fn name_in(alloc: Global, word: &[u8]) -> Result<Option<AgentName>, AllocError>
     }
 }
 
-/// The number that the words of a line write; `None` where they aren't one number that a history may be long.
-fn number_in(alloc: Global, line: &[u8]) -> Result<Option<u32>, AllocError>
-    ensures { IfOk result (λ number. AreNumber (words line.now) number) }
+/// The number that the words of a line write; `None` where they aren't one number that is at most so great.
+pub(crate) fn number_in(alloc: Global, line: &[u8], most: u32) -> Result<Option<u32>, AllocError>
+    ensures { IfOk result (λ number. AreNumberUpTo most (words line.now) number) }
 {
     let Some((word, rest)) = next_word(line) else {
         return Ok(None);
@@ -203,12 +214,12 @@ fn number_in(alloc: Global, line: &[u8]) -> Result<Option<u32>, AllocError>
     if next_word(rest).is_some() {
         return Ok(None);
     }
-    number_of(alloc, word)
+    number_of(alloc, word, most)
 }
 
-/// The number that a word writes, without leading zeros; `None` where it writes none that a history may be long.
-fn number_of(alloc: Global, word: &[u8]) -> Result<Option<u32>, AllocError>
-    ensures { IfOk result (λ number. IsNumberIn word.now number) }
+/// The number that a word writes, without leading zeros; `None` where it writes none that is at most so great.
+fn number_of(alloc: Global, word: &[u8], most: u32) -> Result<Option<u32>, AllocError>
+    ensures { IfOk result (λ number. IsNumberIn most word.now number) }
 {
     let Ok(text) = str::from_utf8(word) else {
         return Ok(None);
@@ -216,7 +227,7 @@ fn number_of(alloc: Global, word: &[u8]) -> Result<Option<u32>, AllocError>
     let Ok(number) = text.parse::<u32>() else {
         return Ok(None);
     };
-    if number as usize > MAX_LINES || format!(in alloc; "{}", number)?.as_bytes() != word {
+    if number > most || format!(in alloc; "{}", number)?.as_bytes() != word {
         return Ok(None);
     }
     Ok(Some(number))

@@ -5,6 +5,7 @@ ghost use Rattle.ic_command.specs.Words.{words};
 use crate::command::{Command, command_of, is_well_formed, without_return};
 use crate::mark_name::MarkName;
 use crate::words::next_word;
+use ic_name::EventName;
 use std::alloc::{AllocError, Global};
 
 /// What a line of a session asks for.
@@ -16,6 +17,8 @@ pub enum Request {
     Mark(MarkName),
     /// To go back to a mark.
     Back(MarkName),
+    /// To absorb events.
+    Absorb(Vec<EventName>),
 }
 
 impl Request {

@@ -5,3 +5,6 @@ pub mod BackReplies
 pub mod Marks
 pub mod DeskTurns
 pub mod Sweeping
+pub mod AbsorbedRuns
+pub mod AbsorbReplies
+pub mod AbsorbTurns

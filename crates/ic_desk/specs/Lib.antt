@@ -4,3 +4,4 @@ pub mod Replies
 pub mod Views
 pub mod Places
 pub mod ManyWorkers
+pub mod Absorbs

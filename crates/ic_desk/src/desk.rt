@@ -5,6 +5,7 @@ ghost use Rattle.ic_command.specs.declared.request.Request.TheVariants as reques
 ghost use Rattle.ic_desk.specs.ManyWorkers.{TurnsWith};
 ghost use Rattle.ic_desk.specs.Views.{IsOver, Turns};
 
+use crate::absorbing::absorb_events;
 use crate::fault::DeskFault;
 use crate::going_back::go_back;
 use crate::marking::mark_under;
@@ -68,6 +69,7 @@ impl<L: LinkStore> Desk<L> {
             ),
             Request::Mark(name) => Ok(mark_under(alloc, &self.bench, &mut self.marks, name)),
             Request::Back(name) => go_back(alloc, &mut self.bench, &self.marks, &name),
+            Request::Absorb(names) => absorb_events(alloc, &mut self.bench, &self.marks, &names),
         }
     }
 }

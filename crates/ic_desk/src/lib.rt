@@ -1,6 +1,7 @@
 // A bench with marks of what stood on it, and what it answers to each request.
 #![tactic(auto)]
 
+mod absorbing;
 pub mod desk;
 pub mod fault;
 mod going_back;

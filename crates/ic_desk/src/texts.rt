@@ -1,7 +1,8 @@
 ghost use Rattle.std.specs.Prelude.{◌≡◌, IfOk};
-ghost use Rattle.ic_desk.specs.Replies.{back_text, marked_text, wanting_text};
+ghost use Rattle.ic_desk.specs.Replies.{absorbed_text, back_text, marked_text, never_text, wanting_text};
 
 use ic_command::MarkName;
+use ic_name::EventName;
 use ic_undo::Counts;
 use std::alloc::{AllocError, Global};
 
@@ -40,4 +41,23 @@ pub(crate) fn wanting_text(alloc: Global, counts: Counts) -> Result<Vec<u8>, All
         counts.undone, counts.fired
     )?;
     Ok(text.into_bytes())
+}
+
+/// How many events were absorbed.
+pub(crate) fn absorbed_text(alloc: Global, count: u32) -> Result<Vec<u8>, AllocError>
+    ensures { IfOk result (λ text. text.items ≡ absorbed_text count) }
+{
+    Ok(format!(in alloc; "absorbed {}\n", count)?.into_bytes())
+}
+
+/// The event that can't come to stand.
+pub(crate) fn never_text(alloc: Global, event: &EventName) -> Result<Vec<u8>, AllocError>
+    ensures { IfOk result (λ text. text.items ≡ never_text event.now) }
+{
+    let mut text = Vec::from_slice(alloc, b"refused 51 ")?;
+    event.lead().write_to(&mut text)?;
+    text.push(b' ')?;
+    event.other().write_to(&mut text)?;
+    text.push(b'\n')?;
+    Ok(text)
 }

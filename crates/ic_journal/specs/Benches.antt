@@ -7,7 +7,10 @@ use Rattle.ic_theory.specs.Starts.{Start}
 use Rattle.ic_theory.specs.Machine.{Standing, State, IsHistory}
 use Rattle.ic_roster.specs.Rosters.{Member, Stander}
 use Rattle.ic_set.specs.Sets.{IsStandingSet}
-use Rattle.ic_journal.specs.Views.{BenchView, set_of}
+use Rattle.ic_set.specs.Views.{NamedView}
+use Rattle.ic_journal.specs.Kept.{AreLinesNamed}
+use Rattle.ic_journal.specs.Histories.{HistoryView}
+use Rattle.ic_journal.specs.Views.{BenchView, set_of, view_of}
 
 -- an event with the line of its firing
 abbrev pub fired_in : Stander → Standing
@@ -31,6 +34,11 @@ pub record IsRunning (v : BenchView) : Type 0 where
   pub at : IsAt v state
   pub short : length v.lines + v.room ≤ MAX_LINES
   pub serials : HaveOwnSerials v
+
+-- what a bench is made of shows what a bench keeps, and the places in its history are those of known names
+pub record IsKept (s : NamedView) (h : HistoryView) : Type 0 where
+  pub running : IsRunning (view_of s h)
+  pub named : AreLinesNamed s.names h.lines
 
 -- what holds of every bench
 pub record IsBench (v : BenchView) : Type 0 where

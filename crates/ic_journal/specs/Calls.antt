@@ -10,11 +10,15 @@ use Rattle.ic_name.specs.declared.lines.Reply.TheVariants as reply
 use Rattle.ic_path.specs.Orders.{IsIn}
 use Rattle.ic_theory.specs.Machine.{State, Answers}
 use Rattle.ic_roster.specs.Rosters.{Stander}
+use Rattle.ic_set.specs.declared.pairs.Fired.{Fired}
 use Rattle.ic_set.specs.Changes.{IsSame, Admits, TakesOut}
+use Rattle.ic_set.specs.Pairs.{Awakes}
 use Rattle.ic_journal.specs.Views.{BenchView, set_of}
 use Rattle.ic_journal.specs.Benches.{IsAt}
 use Rattle.ic_journal.specs.declared.faults.FireFault.{FireFault}
 use Rattle.ic_journal.specs.declared.faults.FireFault.TheVariants as fire
+use Rattle.ic_journal.specs.declared.faults.PairFault.{PairFault}
+use Rattle.ic_journal.specs.declared.faults.PairFault.TheVariants as pair
 use Rattle.ic_journal.specs.declared.faults.UndoFault.{UndoFault}
 use Rattle.ic_journal.specs.declared.faults.UndoFault.TheVariants as undo
 use Rattle.ic_journal.specs.declared.faults.ReserveFault.{ReserveFault}
@@ -45,6 +49,14 @@ Fires old e (Err fire.Deep) new = Refuses old (Fire e) reply.Deep new
 Fires old e (Err fire.Full) new = Refuses old (Fire e) reply.Full new
 Fires old e (Err (fire.HistoryFull f)) new = (length old.lines ≡ MAX_LINES) × (f ≡ e) × (new ≡ old)
 Fires old e (Err (fire.Memory f)) new = (length old.lines < MAX_LINES) × (f ≡ e) × Stays old new
+
+-- what firing the event of an active pair does, and the pairs that become active by it
+abbrev pub FiresPair : BenchView → Event → Result Fired PairFault → BenchView → Type 0
+FiresPair old e (Ok fired) new = Fires old e (Ok fired.id) new × Awakes (set_of old) (set_of new) fired.awoken
+FiresPair old e (Err pair.Deep) new = Refuses old (Fire e) reply.Deep new
+FiresPair old e (Err pair.Full) new = Refuses old (Fire e) reply.Full new
+FiresPair old e (Err pair.HistoryFull) new = (length old.lines ≡ MAX_LINES) × (new ≡ old)
+FiresPair old e (Err pair.Memory) new = (length old.lines < MAX_LINES) × Stays old new
 
 -- the event whose firing is the line of the id is there no more, nor are its children
 abbrev pub LeavesOut : BenchView → EventId → BenchView → Type 0

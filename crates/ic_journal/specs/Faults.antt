@@ -3,6 +3,8 @@ use Rattle.std.specs.Prelude.{ℕ}
 use Rattle.ic_name.specs.declared.numbers.TheConstants.{DEEP, FULL, HELD, HISTORY_FULL, MEMORY, NOT_ACTIVE, NOT_STANDING}
 use Rattle.ic_journal.specs.declared.faults.FireFault.{FireFault}
 use Rattle.ic_journal.specs.declared.faults.FireFault.TheVariants as fire
+use Rattle.ic_journal.specs.declared.faults.PairFault.{PairFault}
+use Rattle.ic_journal.specs.declared.faults.PairFault.TheVariants as pair
 use Rattle.ic_journal.specs.declared.faults.UndoFault.{UndoFault}
 use Rattle.ic_journal.specs.declared.faults.UndoFault.TheVariants as undo
 use Rattle.ic_journal.specs.declared.faults.ReserveFault.{ReserveFault}
@@ -17,6 +19,13 @@ fire_number fire.NotActive = NOT_ACTIVE
 fire_number fire.Deep = DEEP
 fire_number fire.Full = FULL
 fire_number (fire.Memory e) = MEMORY
+
+-- the number of a refusal of `fire_pair`
+abbrev pub pair_number : PairFault → ℕ
+pair_number pair.HistoryFull = HISTORY_FULL
+pair_number pair.Deep = DEEP
+pair_number pair.Full = FULL
+pair_number pair.Memory = MEMORY
 
 -- the number of a refusal of `undo`
 abbrev pub undo_number : UndoFault → ℕ

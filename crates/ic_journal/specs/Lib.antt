@@ -1,4 +1,5 @@
 pub mod Views
+pub mod Kept
 pub mod Histories
 pub mod Benches
 pub mod Calls

@@ -4,11 +4,12 @@ ghost use Rattle.ic_journal.specs.Calls.{Fires, Undoes, Reserves};
 
 use crate::faults::{FireFault, ReserveFault, UndoFault};
 use crate::history::History;
+use crate::kept::KeptCall;
 use crate::proposal::Proposal;
 use crate::verdict::judge;
 use ic_link::LinkStore;
 use ic_name::limits::MAX_LINES;
-use ic_name::{Call, EventId, Reply};
+use ic_name::{EventId, Reply};
 use ic_set::StandingSet;
 use ic_start::Start;
 use std::alloc::{AllocError, Global};
@@ -24,13 +25,13 @@ pub struct Bench<L: LinkStore> {
 
 impl<L: LinkStore> Model for Bench<L> {
     ghost use Rattle.ic_journal.specs.Views.{BenchView, view_of};
-    ghost use Rattle.ic_journal.specs.Benches.{IsRunning};
+    ghost use Rattle.ic_journal.specs.Benches.{IsKept};
 
     ghost Value = { BenchView };
 
     ghost view = { λ b. view_of b.set b.history };
 
-    ghost invariant = { λ b. IsRunning (view_of b.set b.history) };
+    ghost invariant = { λ b. IsKept b.set b.history };
 }
 
 impl<L: LinkStore> Bench<L> {
@@ -102,18 +103,21 @@ impl<L: LinkStore> Bench<L> {
         let pair = match judge(&self.set, proposal.event()) {
             Ok(pair) => pair,
             Err(refusal) => {
-                let call = Call::Fire(proposal.into_event());
-                self.history.note(call, refusal.reply());
+                let kept = match Box::new(self.alloc, proposal) {
+                    Ok(kept) => kept,
+                    Err(failed) => return Err(FireFault::Memory(failed.value)),
+                };
+                self.history.note(KeptCall::Refused(kept), refusal.reply());
                 return Err(refusal.fault());
             }
         };
         self.set.lawful();
-        let Ok(id) = self.set.admit(proposal.event(), pair, line as u32) else {
+        let event = self.set.interaction_of(pair);
+        let Ok(fired) = self.set.admit(pair, line as u32) else {
             return Err(FireFault::Memory(proposal));
         };
-        let call = Call::Fire(proposal.into_event());
-        self.history.note(call, Reply::Fired);
-        Ok(id)
+        self.history.note(KeptCall::Fired(event), Reply::Fired);
+        Ok(fired.id)
     }
 
     /// Undoes the firing of the event whose firing is the line of the id: one step of the machine, which adds a line. The
@@ -132,7 +136,7 @@ impl<L: LinkStore> Bench<L> {
         let Ok(()) = self.history.reserve(1) else {
             return Err(UndoFault::Memory);
         };
-        let call = Call::Undo(id.line);
+        let call = KeptCall::Undo(id.line);
         let Some(standing) = self.set.roster().at_line(id.line) else {
             self.history.note(call, Reply::NotStanding);
             return Err(UndoFault::NotStanding);

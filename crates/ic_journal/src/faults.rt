@@ -1,5 +1,5 @@
 ghost use Rattle.std.specs.Prelude.{◌≡◌};
-ghost use Rattle.ic_journal.specs.Faults.{fire_number, undo_number, reserve_number, propose_number};
+ghost use Rattle.ic_journal.specs.Faults.{fire_number, pair_number, undo_number, reserve_number, propose_number};
 
 use crate::proposal::Proposal;
 use ic_name::{EventId, numbers};
@@ -18,6 +18,23 @@ pub enum FireFault {
     Full,
     /// Memory ran out.
     Memory(Proposal),
+}
+
+/// Why an active pair isn't fired.
+#[derive(Clone, Copy, Debug, PartialEq, Eq, Error)]
+pub enum PairFault {
+    /// The history has as many lines as it may have.
+    #[error("the history has no room for a line more")]
+    HistoryFull,
+    /// The rule makes children, and the lead's name has as many digits as a name may have.
+    #[error("the names of the children would have too many digits")]
+    Deep,
+    /// With the children there would be more agents than there may be.
+    #[error("there would be too many agents")]
+    Full,
+    /// Memory ran out.
+    #[error("memory ran out while firing")]
+    Memory,
 }
 
 /// Why the firing of an event isn't undone.
@@ -70,6 +87,20 @@ impl FireFault {
             FireFault::Deep => numbers::DEEP,
             FireFault::Full => numbers::FULL,
             FireFault::Memory(_) => numbers::MEMORY,
+        }
+    }
+}
+
+impl PairFault {
+    /// The number of the refusal: 22, 23, 24 or 25.
+    pub fn number(self) -> u8
+        ensures { result ≡ pair_number self }
+    {
+        match self {
+            PairFault::HistoryFull => numbers::HISTORY_FULL,
+            PairFault::Deep => numbers::DEEP,
+            PairFault::Full => numbers::FULL,
+            PairFault::Memory => numbers::MEMORY,
         }
     }
 }

@@ -1,15 +1,19 @@
-ghost use Rattle.std.specs.Prelude.{◌≡◌, ◌+◌, ◌<◌, ◌≤◌, ◌++◌, ◌∷◌, ◌↔◌, [], length, slice_get, IsTrue, Some, IfOk, OnOk, OnErr};
+ghost use Rattle.std.specs.Prelude.{◌≡◌, ◌+◌, ◌<◌, ◌≤◌, ◌++◌, ◌∷◌, ◌↔◌, [], length, map, slice_get, IsTrue, Some, IfOk, OnOk, OnErr};
 ghost use Rattle.ic_name.specs.declared.limits.TheConstants.{MAX_LINES};
+ghost use Rattle.ic_journal.specs.Kept.{line_in, AreLinesNamed};
 
+use crate::kept::{KeptCall, KeptLine};
 use ic_name::limits::MAX_LINES;
 use ic_name::{Call, Line, Reply};
+use ic_names::NameTable;
+use ic_roster::Roster;
 use std::alloc::{AllocError, Global};
 use std::marker::Model;
 
 /// The lines of a history, and room for further ones; never more than `MAX_LINES` together.
 #[derive(Drop)]
 pub(crate) struct History {
-    lines: Vec<Line>,
+    lines: Vec<KeptLine>,
 }
 
 impl Model for History {
@@ -50,12 +54,13 @@ impl History {
         self.lines.len()
     }
 
-    /// Whether there is a line with this number, and it is this call with this reply.
-    pub fn line_is(&self, number: usize, call: &Call, reply: Reply) -> bool
-        ensures { IsTrue result ↔ (slice_get self.now.lines number ≡ Some (record { call = call.now; reply = reply })) }
+    /// Whether there is a line with this number, and it is this call with this reply, by a table with the names.
+    pub fn line_is(&self, names: &NameTable, number: usize, call: &Call, reply: Reply) -> bool
+        requires { AreLinesNamed names.now self.now.lines }
+        ensures { IsTrue result ↔ (slice_get (map (line_in names.now) self.now.lines) number ≡ Some (record { call = call.now; reply = reply })) }
     {
         match self.lines.get(number) {
-            Some(line) => line.call.is(call) && line.reply == reply,
+            Some(line) => line.call.is(names, call) && line.reply == reply,
             None => false,
         }
     }
@@ -82,37 +87,24 @@ impl History {
     }
 
     /// Notes a call with its reply, where there is room. It takes no memory.
-    pub fn note(&mut self, call: Call, reply: Reply)
+    pub fn note(&mut self, call: KeptCall, reply: Reply)
         requires { 1 ≤ self.old.room }
         ensures lines { self.new.lines ≡ self.old.lines ++ record { call = call; reply = reply } ∷ [] }
         ensures room { self.old.room ≡ self.new.room + 1 }
         ensures few { length self.new.lines + self.new.room ≤ MAX_LINES }
     {
-        self.lines.push_reserved(Line { call, reply });
+        self.lines.push_reserved(KeptLine { call, reply });
     }
 
-    /// The lines once more.
-    pub fn copy(&self, alloc: Global) -> Result<Vec<Line>, AllocError>
-        ensures { IfOk result (λ lines. lines.items ≡ self.now.lines) }
+    /// The lines with the names of a roster. At an error memory ran out.
+    pub fn read(&self, alloc: Global, roster: &Roster) -> Result<Vec<Line>, AllocError>
+        requires { AreLinesNamed roster.now.names self.now.lines }
+        ensures { IfOk result (λ lines. lines.items ≡ map (line_in roster.now.names) self.now.lines) }
     {
-        let mut copies = Vec::with_capacity(alloc, self.lines.len())?;
+        let mut lines = Vec::with_capacity(alloc, self.lines.len())?;
         for line in &self.lines {
-            copies.push(copy_line(line)?)?;
+            lines.push(line.read(roster)?)?;
         }
-        Ok(copies)
+        Ok(lines)
     }
-}
-
-/// A line once more.
-fn copy_line(line: &Line) -> Result<Line, AllocError>
-    ensures { IfOk result (λ copy. copy ≡ line.now) }
-{
-    let call = match &line.call {
-        Call::Fire(event) => Call::Fire(event.copy()?),
-        Call::Undo(fired) => Call::Undo(*fired),
-    };
-    Ok(Line {
-        call,
-        reply: line.reply,
-    })
 }

@@ -4,7 +4,9 @@
 
 pub mod bench;
 pub mod faults;
+mod firing;
 mod history;
+mod kept;
 pub mod laws;
 pub mod lines;
 pub mod proposal;
@@ -12,8 +14,8 @@ pub mod reading;
 mod verdict;
 
 pub use bench::Bench;
-pub use faults::{FireFault, ProposeFault, ReserveFault, UndoFault};
+pub use faults::{FireFault, PairFault, ProposeFault, ReserveFault, UndoFault};
 pub use ic_link::LinkStore;
-pub use ic_set::ActivePair;
+pub use ic_set::{ActivePair, Fired};
 pub use ic_table::PortTable as Store;
 pub use proposal::Proposal;

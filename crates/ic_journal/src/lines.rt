@@ -23,6 +23,7 @@ impl<L: LinkStore> Bench<L> {
     pub fn line_is(&self, number: u32, call: &Call, reply: Reply) -> bool
         ensures { IsTrue result ↔ (slice_get self.now.lines number ≡ Some (record { call = call.now; reply = reply })) }
     {
-        self.history.line_is(number as usize, call, reply)
+        let names = self.set.roster().names();
+        self.history.line_is(names, number as usize, call, reply)
     }
 }

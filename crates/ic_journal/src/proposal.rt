@@ -36,11 +36,4 @@ impl Proposal {
     {
         &self.event
     }
-
-    /// The event alone.
-    pub fn into_event(self) -> Event
-        ensures { result ≡ self }
-    {
-        self.event
-    }
 }

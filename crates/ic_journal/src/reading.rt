@@ -1,5 +1,6 @@
 ghost use Rattle.std.specs.Prelude.{◌≡◌, ◌≢◌, ◌<◌, ◌≤◌, All, List, [], length, option_map, IfSome, IfNone, IfOk};
 ghost use Rattle.ic_name.specs.Events.{Event as AnEvent, event_of, pair};
+ghost use Rattle.ic_name.specs.Events.{pair as pair_name};
 ghost use Rattle.ic_name.specs.declared.kinds.Kind.{Kind as AKind};
 ghost use Rattle.ic_names.specs.Tables.{name_at};
 ghost use Rattle.ic_path.specs.Orders.{Alike, IsIn};
@@ -11,7 +12,7 @@ ghost use Rattle.ic_theory.specs.Steps.{AreDefined, steps};
 ghost use Rattle.ic_roster.specs.Rosters.{Stander, IsNewName};
 ghost use Rattle.ic_set.specs.Views.{standing};
 ghost use Rattle.ic_set.specs.Orders.{AreInOrder, AreRanked, IsAny};
-ghost use Rattle.ic_set.specs.Pairs.{IsPairOf, IsLeastPair, AreActivePairs};
+ghost use Rattle.ic_set.specs.Pairs.{IsPairOf, IsActivePair, IsLeastPair, AreActivePairs};
 ghost use Rattle.ic_journal.specs.Views.{set_of};
 ghost use Rattle.ic_journal.specs.Proposals.{Proposes};
 ghost use Rattle.ic_journal.specs.Reads.{IsKindOf, IsNameOf, IsEventUnder, IsRankOf, AreCausesOf, AreDependentsOf};
@@ -43,6 +44,49 @@ impl<L: LinkStore> Bench<L> {
         ensures absent { IfNone result ((x : Stander) → IsIn x self.now.events → pair x.event ≢ name.now) }
     {
         self.set.roster().find_event(name)
+    }
+
+    /// The active pair of the agents of this event's name; `None` where no wire joins their principal ports. It takes no
+    /// memory.
+    pub fn pair_named(&self, name: &EventName) -> Option<ActivePair>
+        ensures found { IfSome result (λ p. (e : AnEvent) × IsPairOf (set_of self.now) e p × (pair e ≡ name.now)) }
+        ensures absent { IfNone result ((e : AnEvent) → IsActive self.now.start (standing (set_of self.now)) e → pair e ≢ name.now) }
+    {
+        name.lawful();
+        self.set.lawful();
+        let roster = self.set.roster();
+        let Some(lead) = roster.find(name.lead()) else {
+            return None;
+        };
+        let Some(other) = roster.find(name.other()) else {
+            return None;
+        };
+        let Some(partner) = self.set.partner(lead) else {
+            return None;
+        };
+        if partner != other {
+            return None;
+        }
+        Some(ActivePair { lead, other })
+    }
+
+    /// The name of an active pair's event.
+    pub fn name_of_pair(&self, pair: ActivePair) -> Result<EventName, AllocError>
+        requires { IsActivePair (set_of self.now) pair }
+        ensures { IfOk result (λ name. (e : AnEvent) → IsPairOf (set_of self.now) e pair → name ≡ pair_name e) }
+    {
+        let names = self.set.roster().names();
+        let event = self.set.interaction_of(pair);
+        let Some(lead) = names.name(event.lead)? else {
+            unreachable!()
+        };
+        let Some(other) = names.name(event.other)? else {
+            unreachable!()
+        };
+        let Some(name) = EventName::of(lead, other) else {
+            unreachable!()
+        };
+        Ok(name)
     }
 
     /// The kind of an agent; `None` for an id that holds no more. It takes no memory.
@@ -198,7 +242,7 @@ impl<L: LinkStore> Bench<L> {
     pub fn history(&self) -> Result<Vec<Line>, AllocError>
         ensures { IfOk result (λ lines. lines.items ≡ self.now.lines) }
     {
-        self.history.copy(self.alloc)
+        self.history.read(self.alloc, self.set.roster())
     }
 }
 
@@ -224,7 +268,7 @@ fn pairs_of<L: LinkStore>(
     set: &StandingSet<L>,
     agents: &[AgentId],
 ) -> Result<Vec<ActivePair>, AllocError>
-    ensures active { IfOk result (λ pairs. All (λ pair. (e : AnEvent) × IsPairOf set.now e pair) pairs.items) }
+    ensures active { IfOk result (λ pairs. All (λ pair. (e : AnEvent) × IsPairOf set.now.set e pair) pairs.items) }
     ensures few { IfOk result (λ pairs. length pairs.items ≤ length agents.now) }
 {
     let mut pairs = Vec::new(alloc);

@@ -20,7 +20,7 @@ pub struct Input {
 }
 
 impl Input {
-    ghost use Rattle.std.specs.Prelude.{◌≡◌, ◌+◌, ◌<◌, ◌≤◌, [], length, IfErr, IfOk, IfSome, MatchBool, OnOk, Some};
+    ghost use Rattle.std.specs.Prelude.{◌≡◌, ◌≢◌, ◌+◌, ◌<◌, ◌≤◌, [], false, length, IfErr, IfOk, IfSome, MatchBool, OnOk, Some};
     ghost use Rattle.ic_lines.specs.Lines.{Fills, Takes, TakesFront, behind_line, is_line};
     ghost use Rattle.ic_lines.specs.Left.{unread, left, work};
     ghost use Rattle.ic_lines.specs.Faults.{IsReadFault};
@@ -81,6 +81,7 @@ impl Input {
         ensures short { OnOk result (length line.new.items ≤ most) }
         ensures taken { IfOk result (λ piece. IfSome (left self.old (R.remaining reader.old))
             (λ old. Takes piece line.new.items most old (left self.new (R.remaining reader.new)))) }
+        ensures some { IfOk result (λ piece. piece ≡ Piece.Line false → line.new.items ≢ []) }
         ensures less { IfOk result (λ piece. MatchBool (is_line piece) (work self.new < work self.old) (work self.new ≤ work self.old)) }
         ensures fewer { self.new.reads ≤ self.old.reads }
         ensures fault { IfErr result (IsReadFault self.old.reads self.new.reads) }

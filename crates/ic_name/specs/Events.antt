@@ -1,6 +1,7 @@
 -- Events: two agents that meet, the lesser one first.
 use Rattle.std.specs.Prelude.{if◌then◌else◌}
-use Rattle.std.specs.Ordering.{is_gt}
+use Rattle.std.specs.declared.cmp.Ordering.{Ordering}
+use Rattle.std.specs.Ordering.{is_gt, on, then_cmp}
 use Rattle.ic_name.specs.Names.{Name, name_cmp}
 use Rattle.ic_name.specs.declared.kinds.Kind.{Kind}
 
@@ -8,6 +9,10 @@ use Rattle.ic_name.specs.declared.kinds.Kind.{Kind}
 pub record Pair : Type 0 where
   pub lead : Name
   pub other : Name
+
+-- names of events by lead, then by other agent
+abbrev pub pair_cmp : Pair → Pair → Ordering
+pair_cmp = then_cmp (on (λ p. p.lead) name_cmp) (on (λ p. p.other) name_cmp)
 
 -- an event: its two agents with their kinds
 pub record Event : Type 0 where

@@ -1,7 +1,11 @@
 ghost use Rattle.std.specs.Prelude.{◌≡◌, ◌≢◌, ◌↔◌, IsSome, IfSome, IfOk};
+ghost use Rattle.std.proofs.Common.{rules};
+ghost use Rattle.std.specs.Cmp.{partial_order_from_own_ties};
+ghost use Rattle.std.specs.Cmp.Rules.{comparing};
+ghost use Rattle.std.specs.Ordering.{as_partial_cmp, eq_by_cmp};
 ghost use Rattle.std.specs.declared.cmp.Ordering.TheVariants.{Less};
 ghost use Rattle.ic_name.specs.Names.{name_cmp};
-ghost use Rattle.ic_name.specs.Events.{pair_of};
+ghost use Rattle.ic_name.specs.Events.{pair_of, pair_cmp};
 
 use crate::names::AgentName;
 use std::alloc::AllocError;
@@ -71,5 +75,46 @@ impl EventName {
         let lead = self.lead.copy()?;
         let other = self.other.copy()?;
         Ok(EventName { lead, other })
+    }
+}
+
+impl PartialEq for EventName {
+    ghost eq = { eq_by_cmp pair_cmp };
+
+    ghost laws = { Prim.search (comparing, rules) depth 9 };
+
+    fn eq(&self, other: &EventName) -> bool {
+        self.cmp(other).is_eq()
+    }
+}
+
+impl Eq for EventName {
+    ghost laws = { Prim.search (comparing, rules) depth 9 };
+}
+
+/// By lead, then by the other agent. It takes no memory.
+impl Ord for EventName {
+    ghost cmp = { pair_cmp };
+
+    ghost total = { Prim.search (comparing, rules) depth 9 };
+
+    ghost matches_partial_cmp = { Prim.search (comparing, rules) depth 9 };
+
+    ghost matches_eq = { Prim.search (comparing, rules) depth 9 };
+
+    fn cmp(&self, other: &EventName) -> Ordering {
+        self.lead
+            .cmp(&other.lead)
+            .then_with(|| self.other.cmp(&other.other))
+    }
+}
+
+impl PartialOrd for EventName {
+    ghost partial_cmp = { as_partial_cmp pair_cmp };
+
+    ghost laws = { partial_order_from_own_ties (Prim.search (comparing, rules) depth 9) (Prim.search (comparing, rules) depth 9) };
+
+    fn partial_cmp(&self, other: &EventName) -> Option<Ordering> {
+        Some(self.cmp(other))
     }
 }

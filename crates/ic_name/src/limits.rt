@@ -9,3 +9,6 @@ pub const MAX_AGENTS: usize = 262_144;
 
 /// The lines of a history, at most.
 pub const MAX_LINES: usize = 1_048_576;
+
+/// Events that one call absorbs, at most.
+pub const MAX_ABSORBED: usize = 131_072;

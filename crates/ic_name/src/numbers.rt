@@ -33,8 +33,17 @@ pub const NO_MARK: u8 = 41;
 /// There are as many marks as there may be.
 pub const TOO_MANY_MARKS: u8 = 42;
 
+/// A listed event can't come to stand with what stands and what else is listed.
+pub const NEVER_ACTIVE: u8 = 51;
+
 /// What passes say isn't what the history says.
 pub const MISMATCH: u8 = 61;
 
 /// Passes are missing.
 pub const MISSING: u8 = 62;
+
+/// A list has more letters than it may have.
+pub const TOO_MANY_LETTERS: u8 = 71;
+
+/// A letter of a list isn't accepted.
+pub const NOT_LEGAL: u8 = 72;

@@ -1,6 +1,7 @@
 -- A desk has one answer to each request, where memory isn't wanting.
-use Rattle.std.proofs.Common.{◌≡◌, ◌≤◌, ℕ, List, length, refl, ap, arith}
-use Rattle.ic_name.specs.Events.{Event}
+use Rattle.std.proofs.Common.{◌≡◌, ◌≤◌, ℕ, List, length, refl, sym, ap, subst, arith}
+use Rattle.std.specs.Global.{Vec}
+use Rattle.ic_name.specs.Events.{Event, Pair}
 use Rattle.ic_path.specs.Orders.{Alike}
 use Rattle.ic_path.proofs.Alikes.{alike_back, alike_then, alike-length}
 use Rattle.ic_theory.specs.Starts.{Start, IsProper}
@@ -8,11 +9,14 @@ use Rattle.ic_theory.specs.Sound.{IsSound}
 use Rattle.ic_theory.specs.Machine as machine
 use Rattle.ic_theory.proofs.Ranks.{sound-alike}
 use Rattle.ic_command.specs.declared.request.Request.{Request}
+use Rattle.ic_command.specs.declared.request.Request.TheVariants.{Absorb}
 use Rattle.ic_desk.specs.declared.desk.TheConstants.{MAX_MARKS}
 use Rattle.ic_desk.specs.Desks.{Noted, State, NoneNoted, IsNoted, Puts, replaced, added}
-use Rattle.ic_desk.specs.Replies.{Replies, of_bench, marked, too_many, mark_memory, no_mark, back_history_full, back, back_memory, marked_text, back_text}
+use Rattle.ic_desk.specs.Replies.{Replies, of_bench, marked, too_many, mark_memory, no_mark, back_history_full, back, back_memory, absorbed, never_active, absorb_deep, absorb_full, absorb_history_full, absorb_memory, marked_text, back_text}
 use Rattle.ic_one_text.specs.Wants.{Wants}
+use Rattle.ic_one_text.proofs.AbsorbedOnce.{reached_absorbed, reached_refused, reached_taken_back}
 use Rattle.ic_one_text.proofs.DeskStates.{IsInUse, AreSameDesks}
+use Rattle.ic_one_text.proofs.OneAbsorbing.{told, told_once}
 use Rattle.ic_one_text.proofs.OneAnswer.{one_answer}
 use Rattle.ic_one_text.proofs.Reaching.{reached_on}
 use Rattle.ic_one_text.proofs.SameMarks.{turned, one_mark, none_like, put_apart, put_all, same_put}
@@ -42,6 +46,17 @@ module _ {s : Start} (ok : IsProper s) where
       record { bench = reached_back s used.bench g; sound = used.sound; apart = used.apart }
   in_use_on used (back_memory n g) =
       record { bench = reached_part_way s used.bench g; sound = used.sound; apart = used.apart }
+  in_use_on used (absorbed a all) =
+      record { bench = reached_absorbed s _ used.bench a.fired; sound = used.sound; apart = used.apart }
+  in_use_on used (never_active a n l t) =
+      record { bench = reached_taken_back s (reached_absorbed s _ used.bench a.fired) t; sound = used.sound; apart = used.apart }
+  in_use_on used (absorb_deep a r t) =
+      record { bench = reached_taken_back s (reached_refused s _ (reached_absorbed s _ used.bench a.fired) r) t; sound = used.sound; apart = used.apart }
+  in_use_on used (absorb_full a r t) =
+      record { bench = reached_taken_back s (reached_refused s _ (reached_absorbed s _ used.bench a.fired) r) t; sound = used.sound; apart = used.apart }
+  in_use_on used (absorb_history_full n) = used
+  in_use_on used (absorb_memory a t) =
+      record { bench = reached_taken_back s (reached_absorbed s _ used.bench a.fired) t; sound = used.sound; apart = used.apart }
 
 -- equal texts, and the same desks
 pub record AreOneAnswer (x y : List ℕ) (next after : State) : Type 0 where
@@ -86,9 +101,22 @@ module _ {s : Start} (ok : IsProper s) {st tt : State} (used : IsInUse s st) (ot
   nor_there (replaced {y = y} k e) none many = nor_so (record { there = (_, k); named = e }) none
   nor_there (added lack few) none many = let length = same.marks.many in omega (arith, many, few, length)
 
+  -- a list of the same events is absorbed in one way
+  pub one_absorbing : {x y : List ℕ} {next after : State} (xs ys : Vec Pair) → xs.items ≡ ys.items → Replies s st (Absorb xs) x next → Replies s tt (Absorb ys) y after
+      → ¬ (Wants x) → ¬ (Wants y) → AreOneAnswer x y next after
+  one_absorbing {after = after} xs ys e a b n m =
+      let p = told xs.items refl a n in
+      let q = told xs.items (sym e) b m in
+      let one = told_once s ok xs.items used.bench other.bench same.bench p.tells q.tells in
+      record {
+        texts = one.0;
+        left = subst (λ d. AreSameDesks d after) (sym p.left) (subst (λ d. AreSameDesks (record st { bench = p.bench }) d) (sym q.left) (record { bench = one.1; marks = same.marks }));
+      }
+
   -- the same request has one answer
   pub one_reply : {x y : List ℕ} {next after : State} (r : Request) → Replies s st r x next → Replies s tt r y after
       → ¬ (Wants x) → ¬ (Wants y) → AreOneAnswer x y next after
+  one_reply (Absorb names) a b n m = one_absorbing names names refl a b n m
   one_reply {x} {y} r (of_bench {c = c} {next = next} a) (of_bench {next = after} b) n m =
       let one = one_answer s st.bench tt.bench next after c x y ok used.bench other.bench same.bench a b n m in
       record { texts = one.0; left = record { bench = one.1; marks = same.marks } }

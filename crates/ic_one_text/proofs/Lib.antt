@@ -18,7 +18,10 @@ pub mod WaysBack
 pub mod SameMarks
 pub mod DeskStates
 pub mod WantingParts
+pub mod AbsorbedOnce
+pub mod OneAbsorbing
 pub mod DeskReplies
 pub mod FirstFaults
 pub mod OneRequests
+pub mod OneTaking
 pub mod SessionTexts

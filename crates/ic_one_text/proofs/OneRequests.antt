@@ -1,5 +1,5 @@
 -- A line asks for one thing.
-use Rattle.std.proofs.Common.{◌≡◌, ℕ, Bool, true, false, List, [], ◌∷◌, refl, sym, ap, ◌∙◌, arith}
+use Rattle.std.proofs.Common.{◌≡◌, ℕ, Bool, true, false, List, [], ◌∷◌, ◌++◌, refl, sym, ap, ◌∙◌, arith}
 use Rattle.std.proofs.lemmas.Fmt.{decimal_injective}
 use Rattle.std.specs.Prelude.{codes, if◌then◌else◌, Some}
 use Rattle.std.specs.Str.{bytes_eq}
@@ -11,6 +11,10 @@ use Rattle.ic_command.specs.declared.command.Command.TheVariants.{Nothing, Net, 
 use Rattle.ic_command.specs.declared.request.Request.{Request}
 use Rattle.ic_command.specs.declared.request.Request.TheVariants.{Bench, Mark, Back}
 use Rattle.ic_command.specs.Commands.{AreAgents, IsNumber, AreNumber, Asks, no_words, comment, net, active, journal, undo_all, fire, undo, why, unwind, reduce, is_comment, AreWordsOf, asked, malformed, IsCommand, said, unsaid}
+use Rattle.ic_command.specs.declared.asked.Asked.{Asked}
+use Rattle.ic_command.specs.declared.asked.Asked.TheVariants.{Alone, Absorb}
+use Rattle.ic_command.specs.Asked.{AsksAbsorb, absorb, IsAsked, of_absorb, of_request}
+use Rattle.ic_command.specs.Listed.{Lists, bare, ranked, IsListed}
 use Rattle.ic_command.specs.Requests.{AsksMark, mark, back, IsRequest, of_mark, of_bench}
 
 -- two words name one event
@@ -161,3 +165,37 @@ one_request q r (of_mark f a) (of_mark g b) = marks_one q r refl a b
 one_request q r (of_mark f a) (of_bench n b) = absurd (n q f a)
 one_request q r (of_bench n a) (of_mark g b) = absurd (n r g b)
 one_request q r (of_bench {c = c} n a) (of_bench {c = d} m b) = ap Bench (one_command c d a b)
+
+-- ---- what the lines of an `absorb` ask for
+
+-- the words ask to absorb so many
+absorbs_once : {us vs : List (List ℕ)} {m n : ℕ} → us ≡ vs → AsksAbsorb us m → AsksAbsorb vs n → m ≡ n
+absorbs_once {m = m} {n = n} same (absorb {w = v} a j) (absorb {w = w} b k) =
+    let words : v ≡ w = cc in
+    decimal_injective m n (omega (arith, j)) (omega (arith, k)) (sym a ∙ words ∙ b)
+
+-- a line asks for one thing, alone or with those behind it
+pub one_asked : {line : List ℕ} (a b : Asked) → IsAsked line a → IsAsked line b → a ≡ b
+one_asked a b (of_absorb h) (of_absorb k) = ap Absorb (absorbs_once refl h.1 k.1)
+one_asked a b (of_absorb {n = n} h) (of_request none k) = absurd (none n h)
+one_asked a b (of_request none h) (of_absorb {n = n} k) = absurd (none n k)
+one_asked a b (of_request {r = q} n h) (of_request {r = r} m k) = ap Alone (one_request q r h k)
+
+-- two words in front of others are told by these
+first_two : (xs ys : List (List ℕ)) {a b c d : List ℕ} {us vs : List (List ℕ)} → us ≡ a ∷ b ∷ [] → vs ≡ c ∷ d ∷ [] → us ++ xs ≡ vs ++ ys → us ≡ vs
+first_two xs ys {a} {b} {c} {d} k l same =
+    let words : a ∷ b ∷ xs ≡ c ∷ d ∷ ys = sym (ap (λ ws. ws ++ xs) k) ∙ same ∙ ap (λ ws. ws ++ ys) l in
+    let first : a ≡ c = cc in
+    let second : b ≡ d = cc in
+    k ∙ (λ i. first i ∷ second i ∷ []) ∙ sym l
+
+-- words list one event
+lists_once : {us vs : List (List ℕ)} {e f : Pair} → us ≡ vs → Lists us e → Lists vs f → e ≡ f
+lists_once same (bare a) (bare b) = one_event same a b
+lists_once same (bare a) (ranked b r) = let k = a.written in let l = b.written in cc
+lists_once same (ranked a r) (bare b) = let k = a.written in let l = b.written in cc
+lists_once same (ranked {w = v} a r) (ranked {w = w} b q) = one_event (first_two (codes "rank" ∷ v ∷ []) (codes "rank" ∷ w ∷ []) a.written b.written same) a b
+
+-- a line lists one event
+pub one_listed : (line : List ℕ) {e f : Pair} → IsListed line e → IsListed line f → e ≡ f
+one_listed line h k = lists_once refl h.1 k.1

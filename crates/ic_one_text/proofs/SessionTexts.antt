@@ -1,5 +1,5 @@
 -- A session has one text, where memory isn't wanting.
-use Rattle.std.proofs.Common.{◌≡◌, ℕ, List, ◌∷◌, ◌++◌, refl, sym, ap, ap₂, subst, arith, ◌∙◌}
+use Rattle.std.proofs.Common.{◌≡◌, ℕ, List, [], ◌∷◌, ◌++◌, refl, sym, ap, ap₂, subst, arith, ◌∙◌}
 use Rattle.ic_theory.specs.Starts.{Start, IsProper}
 use Rattle.ic_grammar.proofs.Proper.{proper}
 use Rattle.ic_grammar.proofs.Spelling.{one_start}
@@ -10,14 +10,15 @@ use Rattle.ic_desk.specs.ManyWorkers.{RepliesWith, as_one, swept}
 use Rattle.ic_desk.specs.Replies.{Replies}
 use Rattle.ic_session.specs.InputLines.{TextLine, lines, net_part, command_lines}
 use Rattle.ic_session.specs.Refusals.{refusal_line}
-use Rattle.ic_session.specs.Sessions.{AreAnswers, none, more, AnswersCommands, NamesFault, IsSessionText}
+use Rattle.ic_session.specs.Sessions.{AreAnswers, AreAnswered, none, more, AnswersCommands, NamesFault, IsSessionText}
 use Rattle.ic_session.specs.declared.session.Status.{Status}
 use Rattle.ic_session.specs.declared.session.Status.TheVariants.{Ended, NetRefused}
 use Rattle.ic_one_text.specs.Wants.{Wants}
-use Rattle.ic_one_text.proofs.DeskReplies.{in_use_on, one_reply}
+use Rattle.ic_session.specs.NextRequest.{Takes, alone, listed, unlisted, wanting}
+use Rattle.ic_one_text.proofs.DeskReplies.{in_use_on, AreOneAnswer, one_absorbing, one_reply}
 use Rattle.ic_one_text.proofs.DeskStates.{IsInUse, AreSameDesks, first_in_use, first_same}
 use Rattle.ic_one_text.proofs.FirstFaults.{one_first_fault}
-use Rattle.ic_one_text.proofs.OneRequests.{one_request}
+use Rattle.ic_one_text.proofs.OneTaking.{AskTheSame, one, lists, takes_once}
 use Rattle.ic_one_text.proofs.WantingParts.{front_wants, behind_wants}
 
 -- one worker makes no sweep
@@ -25,22 +26,32 @@ by_one : {s : Start} {st next : State} {r : Request} {text : List ℕ} → Repli
 by_one (as_one a) = a
 by_one (swept many sweep) = absurd (omega (arith, many))
 
+-- of no lines nothing is taken
+nothing_taken : {ls left : List TextLine} {r : Request} → ls ≡ [] → Takes ls r left → ⊥
+nothing_taken same (alone h) = cc
+nothing_taken same (listed h a) = cc
+nothing_taken same (unlisted h a) = cc
+nothing_taken same (wanting h few) = cc
+
+-- requests that ask for the same have one answer
+one_asking : {s : Start} (ok : IsProper s) (budget : ℕ) {st tt next after : State} {q r : Request} {x y : List ℕ} → IsInUse s st → IsInUse s tt → AreSameDesks st tt → AskTheSame q r
+    → Replies s st (within budget q) x next → Replies s tt (within budget r) y after → ¬ (Wants x) → ¬ (Wants y) → AreOneAnswer x y next after
+one_asking ok budget {q = q} used other same one a b n m = one_reply ok used other same (within budget q) a b n m
+one_asking ok budget used other same (lists {xs = xs} {ys = ys} e) a b n m = one_absorbing ok used other same xs ys e a b n m
+
 -- the answers to the same lines over the same desks are equal
-one_answers : {s : Start} → IsProper s → (budget : ℕ) {st tt : State} (ls : List TextLine) {a b : List ℕ}
+one_answers : {s : Start} → IsProper s → (budget : ℕ) {st tt last end : State} {ls ks left others : List TextLine} {a b : List ℕ} → ls ≡ ks → left ≡ [] → others ≡ []
     → IsInUse s st → IsInUse s tt → AreSameDesks st tt
-    → AreAnswers s 1 budget st ls a → AreAnswers s 1 budget tt ls b → ¬ (Wants a) → ¬ (Wants b) → a ≡ b
-one_answers ok budget ls used other same none none n m = refl
-one_answers {s} ok budget {tt = tt} (l ∷ ls) used other same (more {r = q} {reply = x} {behind = xs} asks a as')
-    (more {next = after} {r = r} {reply = y} {behind = ys} asked b bs) n m =
-    let request : within budget r ≡ within budget q = ap (within budget) (one_request r q asked asks) in
+    → AreAnswered s 1 budget st ls a last left → AreAnswered s 1 budget tt ks b end others → ¬ (Wants a) → ¬ (Wants b) → a ≡ b
+one_answers ok budget lines all whole used other same none none n m = refl
+one_answers ok budget lines all whole used other same none (more asked b bs) n m = absurd (nothing_taken (sym lines ∙ all) asked)
+one_answers ok budget lines all whole used other same (more asks a as') none n m = absurd (nothing_taken (lines ∙ whole) asks)
+one_answers ok budget lines all whole used other same (more {reply = x} {behind = xs} asks a as') (more {reply = y} {behind = ys} asked b bs) n m =
+    let took = takes_once lines asks asked in
     let a' = by_one a in
-    let b' = subst (λ p. Replies s tt p y after) request (by_one b) in
-    let nor : ¬ (Wants x) = λ w. n (front_wants xs w) in
-    let one = one_reply ok used other same (within budget q) a' b' nor (λ w. m (front_wants ys w)) in
-    let next = in_use_on ok used a' in
-    let next' = in_use_on ok other b' in
-    let nor' : ¬ (Wants xs) = λ w. n (behind_wants x w) in
-    let others = one_answers ok budget ls next next' one.left as' bs nor' (λ w. m (behind_wants y w)) in
+    let b' = by_one b in
+    let one = one_asking ok budget used other same took.0 a' b' (λ w. n (front_wants xs w)) (λ w. m (front_wants ys w)) in
+    let others = one_answers ok budget took.1 all whole (in_use_on ok used a') (in_use_on ok other b') one.left as' bs (λ w. n (behind_wants x w)) (λ w. m (behind_wants y w)) in
     ap₂ (λ us vs. us ++ vs) one.texts others
 
 -- a session that answers commands
@@ -51,7 +62,7 @@ one_ended budget input a b h k n m =
     let one = one_start (net_part (lines input)) k.start h.start k.denoted h.denoted in
     let answers = subst (λ (s : Start). AreAnswers s 1 budget initial (command_lines (lines input)) b) one k.answers in
     let used = first_in_use h.start in
-    one_answers ok budget (command_lines (lines input)) used used first_same h.answers answers n m
+    one_answers ok budget refl refl refl used used first_same h.answers.1 answers.1 n m
 
 -- a session that names a fault
 one_named : (input a b : List ℕ) → NamesFault input a → NamesFault input b → a ≡ b

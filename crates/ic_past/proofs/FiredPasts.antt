@@ -20,8 +20,11 @@ use Rattle.ic_cause.proofs.OnceLists.{each_once_so}
 use Rattle.ic_roster.specs.Rosters.{Stander}
 use Rattle.ic_set.specs.Admission.{AreCausesOf}
 use Rattle.ic_set.specs.Changes.{Admits, IsSame}
+use Rattle.ic_set.specs.Pairs.{IsPairOf}
 use Rattle.ic_set.specs.Sets.{IsStandingSet}
+use Rattle.ic_set.specs.declared.pairs.ActivePair.{ActivePair}
 use Rattle.ic_set.specs.Views.{SetView, standing}
+use Rattle.ic_set.proofs.Namings.{same_member}
 use Rattle.ic_past.specs.declared.deep.DeepEvent.{DeepEvent}
 use Rattle.ic_past.specs.DeepEvents.{IsShallow, AreShallow, deep_events, KeepsDeep}
 use Rattle.ic_past.specs.Pasts.{PastView, IsSamePast, Fires}
@@ -34,6 +37,13 @@ are_deep v ds k d i = let x = map_cases (λ (y : DeepEvent). y.event) ds i in su
 -- all events of a past
 abbrev pub past_of : SetView → List DeepEvent → PastView
 past_of v ds = record { start = v.start; events = deep_events ds ++ standing v }
+
+-- a pair is of one event
+pub one_event : (v : SetView) → IsStandingSet v → (p : ActivePair) (e f : Event) → IsPairOf v e p → IsPairOf v f p → e ≡ f
+one_event v set p e f a b =
+    let lead = same_member v.agents _ _ set.own_names a.lead b.lead (inl refl) in
+    let other = same_member v.agents _ _ set.own_names a.other b.other (inl refl) in
+    λ u. record { lead = (lead u).name; lead_kind = (lead u).kind; other = (other u).name; other_kind = (other u).kind }
 
 -- a past is the same as it was
 pub same_past : (p : PastView) → IsSamePast p p

@@ -1,4 +1,5 @@
 ghost use Rattle.std.specs.Prelude.{◌≡◌, ◌≢◌, ◌<◌, ℕ, ◌++◌, ◌∷◌, [], length, OnOk, OnErr};
+ghost use Rattle.ic_name.specs.Events.{Event as AnEvent};
 ghost use Rattle.ic_name.specs.declared.ids.EventId.{EventId as AnEventId};
 ghost use Rattle.ic_name.specs.declared.limits.TheConstants.{MAX_LINES};
 ghost use Rattle.ic_path.specs.Orders.{IsIn};
@@ -6,7 +7,7 @@ ghost use Rattle.ic_theory.specs.Machine.{IsDeep};
 ghost use Rattle.ic_roster.specs.Rosters.{Stander};
 ghost use Rattle.ic_set.specs.Admission.{AreCausesOf};
 ghost use Rattle.ic_set.specs.Changes.{Admits, IsSame};
-ghost use Rattle.ic_set.specs.Pairs.{IsPairOf};
+ghost use Rattle.ic_set.specs.Pairs.{IsActivePair, IsPairOf};
 ghost use Rattle.ic_past.specs.declared.deep.DeepEvent.{DeepEvent as ADeepEvent};
 
 use crate::deep::DeepEvent;
@@ -16,20 +17,19 @@ use ic_roster::Roster;
 use ic_set::{ActivePair, StandingSet};
 use std::alloc::AllocError;
 
-/// An active event comes to the set, under any line. At an error nothing changes.
+/// The event of an active pair comes to the set, under any line. At an error nothing changes.
 pub(crate) fn fire_in_set(
     set: &mut StandingSet<LinkRows>,
-    event: &Event,
     pair: ActivePair,
 ) -> Result<(), AllocError>
-    requires active { IsPairOf set.old event.now pair }
-    requires shallow { ¬ (IsDeep event.now) }
-    requires few { length set.old.events < MAX_LINES }
-    ensures admitted { OnOk result ((line : ℕ) × (id : AnEventId) × Admits set.old event.now line id set.new) }
-    ensures unchanged { OnErr result (IsSame set.old set.new) }
+    requires active { IsActivePair set.old.set pair }
+    requires shallow { (e : AnEvent) → IsPairOf set.old.set e pair → ¬ (IsDeep e) }
+    requires few { length set.old.set.events < MAX_LINES }
+    ensures admitted { OnOk result ((e : AnEvent) → IsPairOf set.old.set e pair → (line : ℕ) × (id : AnEventId) × Admits set.old.set e line id set.new.set) }
+    ensures unchanged { OnErr result (IsSame set.old.set set.new.set) }
 {
     let line = free_line(set.roster());
-    let _ = set.admit(event, pair, line)?;
+    let _ = set.admit(pair, line)?;
     Ok(())
 }
 
@@ -40,11 +40,11 @@ pub(crate) fn fire_beside(
     event: &Event,
     pair: ActivePair,
 ) -> Result<(), AllocError>
-    requires { IsPairOf set.now event.now pair }
-    ensures kept { OnOk result ((d : ADeepEvent) × (d.event ≡ event.now) × AreCausesOf set.now event.now d.causes.items × (deep.new.items ≡ deep.old.items ++ d ∷ [])) }
+    requires { IsPairOf set.now.set event.now pair }
+    ensures kept { OnOk result ((d : ADeepEvent) × (d.event ≡ event.now) × AreCausesOf set.now.set event.now d.causes.items × (deep.new.items ≡ deep.old.items ++ d ∷ [])) }
     ensures unchanged { OnErr result (deep.new.items ≡ deep.old.items) }
 {
-    let causes = set.causes_of_pair(event, pair)?;
+    let causes = set.causes_of_pair(pair)?;
     let event = event.copy()?;
     let Ok(()) = deep.push(DeepEvent { event, causes }) else {
         return Err(AllocError);

@@ -35,9 +35,9 @@ impl Model for Past {
 
     ghost Value = { PastView };
 
-    ghost view = { λ p. record { start = p.set.start; events = deep_events p.deep.items ++ standing p.set } };
+    ghost view = { λ p. record { start = p.set.set.start; events = deep_events p.deep.items ++ standing p.set.set } };
 
-    ghost invariant = { λ p. KeepsDeep p.set p.deep.items };
+    ghost invariant = { λ p. KeepsDeep p.set.set p.deep.items };
 }
 
 impl Past {
@@ -91,7 +91,7 @@ impl Past {
         if is_deep(event, self.set.start().profile()) {
             fire_beside(&self.set, &mut self.deep, event, pair)?;
         } else {
-            fire_in_set(&mut self.set, event, pair)?;
+            fire_in_set(&mut self.set, pair)?;
         }
         Ok(true)
     }

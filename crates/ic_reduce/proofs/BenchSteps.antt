@@ -1,7 +1,5 @@
 -- Benches and the states that they are at, over one call.
 use Rattle.std.proofs.Common.{◌≡◌, ◌<◌, Result, Err, ap, arith, subst, ◌∙◌}
-use Rattle.ic_name.specs.Events.{Event}
-use Rattle.ic_name.specs.declared.ids.EventId.{EventId}
 use Rattle.ic_name.specs.declared.limits.TheConstants.{MAX_LINES}
 use Rattle.ic_name.specs.declared.lines.Call.{Call}
 use Rattle.ic_name.specs.declared.lines.Reply.{Reply}
@@ -10,8 +8,7 @@ use Rattle.ic_theory.specs.Machine.{State}
 use Rattle.ic_theory.proofs.Machines.{history_length}
 use Rattle.ic_journal.specs.Views.{BenchView}
 use Rattle.ic_journal.specs.Benches.{fired_in, IsAt, IsBench}
-use Rattle.ic_journal.specs.Calls.{Steps, Stays, Fires}
-use Rattle.ic_journal.specs.declared.faults.FireFault.{FireFault}
+use Rattle.ic_journal.specs.Calls.{Steps, Stays}
 use Rattle.ic_journal.proofs.Answering.{length-noted}
 
 -- a bench that stays is at the same states
@@ -29,6 +26,6 @@ line_left old new call answer bench steps st at =
     let short = bench.running.short in
     omega (arith, count, more, short)
 
--- what firing does, where the fault is known
-pub fault_known : (old new : BenchView) (e : Event) (result : Result EventId FireFault) (f known : FireFault) → result ≡ Err f → f ≡ known → Fires old e result new → Fires old e (Err known) new
-fault_known old new e result f known is same fires = subst (λ (r : Result EventId FireFault). Fires old e r new) (is ∙ ap (λ (g : FireFault). Err g) same) fires
+-- what a call does that is answered by a fault, where the fault is known
+pub fault_known : {T F : Type 0} (P : Result T F → Type 0) (result : Result T F) (f known : F) → result ≡ Err f → f ≡ known → P result → P (Err known)
+fault_known P result f known is same did = subst P (is ∙ ap Err same) did

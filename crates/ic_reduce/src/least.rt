@@ -3,7 +3,7 @@ ghost use Rattle.ic_reduce.specs.Reduced.{FiresNext, Reduces};
 
 use crate::end::End;
 use crate::gate::Gate;
-use ic_journal::{Bench, FireFault, LinkStore, ProposeFault};
+use ic_journal::{Bench, LinkStore, PairFault};
 
 /// Fires the active pair with the least lead again and again, at most so often; answers how many were fired, and why no
 /// more: `Normal` exactly where no pair is active any more, and each other end only where one is. The first call that
@@ -37,21 +37,15 @@ fn fire_next<L: LinkStore, G: Gate>(bench: &mut Bench<L>, gate: &G, ticket: u64)
     let Some(pair) = bench.least_active() else {
         return Some(End::Normal);
     };
-    let proposal = match bench.propose(pair.lead, pair.other) {
-        Ok(proposal) => proposal,
-        Err(ProposeFault::NotActive) => unreachable!(),
-        Err(ProposeFault::Memory) => return Some(End::Memory),
-    };
     gate.before_commit(0, ticket);
-    let fired = bench.fire(proposal);
+    let fired = bench.fire_pair(pair);
     gate.after_commit(0, ticket);
     bench.lawful();
     match fired {
         Ok(_) => None,
-        Err(FireFault::NotActive) => unreachable!(),
-        Err(FireFault::Deep) => Some(End::Limit),
-        Err(FireFault::Full) => Some(End::Limit),
-        Err(FireFault::HistoryFull(_)) => Some(End::Limit),
-        Err(FireFault::Memory(_)) => Some(End::Memory),
+        Err(PairFault::Deep) => Some(End::Limit),
+        Err(PairFault::Full) => Some(End::Limit),
+        Err(PairFault::HistoryFull) => Some(End::Limit),
+        Err(PairFault::Memory) => Some(End::Memory),
     }
 }

@@ -1,6 +1,7 @@
-use ic_command::request_of;
+use ic_command::{Asked, Command, Request, asked_of, listed_of};
 use ic_desk::Desk;
 use ic_link::LinkRows;
+use ic_name::EventName;
 use ic_session::{Fault, Status};
 use ic_text::{TextFault, read_net};
 use std::alloc::{AllocError, Global};
@@ -18,8 +19,12 @@ pub fn run_plain_session(
         Some(desk) => desk,
         None => return Ok(Status::NetRefused),
     };
+    let mut open = None;
     for line in commands.split(|byte| *byte == b'\n') {
-        answer(alloc, &mut desk, line, writer, budget)?;
+        open = take_line(alloc, &mut desk, open, line, writer, budget)?;
+    }
+    if open.is_some() {
+        answer(alloc, &mut desk, Request::Bench(Command::Malformed), writer)?;
     }
     Ok(Status::Ended)
 }
@@ -47,15 +52,77 @@ fn desk_over(alloc: Global, text: &[u8]) -> Result<Option<Desk<LinkRows>>, Fault
     }
 }
 
-/// Writes the answer to a line.
-fn answer(
+/// The lines of an `absorb` that have come: how many are to come, the events that were listed, and whether each line
+/// listed one.
+#[derive(Drop)]
+struct List {
+    left: u32,
+    events: Vec<EventName>,
+    all: bool,
+}
+
+/// Takes a line: one of the list that is open, or a command. Writes the answer to what is whole, and gives back the list
+/// that is open then.
+fn take_line(
     alloc: Global,
     desk: &mut Desk<LinkRows>,
+    open: Option<List>,
     line: &[u8],
     writer: &mut Vec<u8>,
     budget: u32,
+) -> Result<Option<List>, AllocError> {
+    let list = match open {
+        Some(list) => listed(alloc, list, line)?,
+        None => match asked_of(alloc, line)? {
+            Asked::Alone(request) => {
+                answer(alloc, desk, request.within(budget), writer)?;
+                return Ok(None);
+            }
+            Asked::Absorb(left) => List {
+                left,
+                events: Vec::new(alloc),
+                all: true,
+            },
+        },
+    };
+    if list.left > 0 {
+        return Ok(Some(list));
+    }
+    let List { events, all, .. } = list;
+    let request = if all {
+        Request::Absorb(events)
+    } else {
+        Request::Bench(Command::Malformed)
+    };
+    answer(alloc, desk, request, writer)?;
+    Ok(None)
+}
+
+/// The list with a line more.
+fn listed(alloc: Global, list: List, line: &[u8]) -> Result<List, AllocError> {
+    let List {
+        left,
+        mut events,
+        mut all,
+    } = list;
+    match listed_of(alloc, line)? {
+        Some(event) => events.push(event)?,
+        None => all = false,
+    }
+    Ok(List {
+        left: left.saturating_sub(1),
+        events,
+        all,
+    })
+}
+
+/// Writes the answer to a request.
+fn answer(
+    alloc: Global,
+    desk: &mut Desk<LinkRows>,
+    request: Request,
+    writer: &mut Vec<u8>,
 ) -> Result<(), AllocError> {
-    let request = request_of(alloc, line)?.within(budget);
     let answer = desk.carry_out(alloc, request)?;
     writer.extend_from_slice(answer.bytes())
 }

@@ -3,7 +3,6 @@ use Rattle.std.proofs.Common.{◌≡◌, ℕ, List, [], ◌++◌, sym, ap, ◌�
 use Rattle.std.proofs.KnownBytes.{Appends-nil, Appends-trans}
 use Rattle.std.specs.Prelude.{Option, Some, None, IfSome}
 use Rattle.std.specs.Io.KnownBytes.{Appends}
-use Rattle.ic_lines.specs.Lines.{behind_line}
 use Rattle.ic_lines.specs.Faults.{AppendsFront}
 use Rattle.ic_theory.specs.Starts.{Start}
 use Rattle.ic_path.specs.Orders.{Alike}
@@ -19,8 +18,8 @@ use Rattle.ic_desk.specs.Desks.{State, initial}
 use Rattle.ic_desk.specs.ManyWorkers.{RepliesWith, TurnsWith}
 use Rattle.ic_desk.specs.Views.{DeskView, IsDeskAt, IsOver, note_of}
 use Rattle.ic_session.specs.NextRequest.{TakesRequest}
-use Rattle.ic_session.specs.Sessions.{AreAnswers, AreBegun, IsAnswered, IsBrokenOff, silent, partly}
-use Rattle.ic_session.proofs.AnswerSteps.{Leads, leads_none, leads_more, leads_all, leads_begun, leads_first}
+use Rattle.ic_session.specs.Sessions.{AreAnswered, none, AreAnswers, AreBegun, IsAnswered, IsBrokenOff, silent, partly}
+use Rattle.ic_session.proofs.AnswerSteps.{answered_step, answers_begun}
 
 -- what was answered so far leaves the desk in some state, and the lines of what is left unanswered; where the input is
 -- known
@@ -28,30 +27,25 @@ abbrev pub HasAnswered : Start → ℕ → ℕ → State → DeskView → Option
 HasAnswered s workers budget st v None now before after = Unit {0}
 HasAnswered s workers budget st v (Some xs) None before after = ⊥
 HasAnswered s workers budget st v (Some xs) (Some ys) before after =
-    (cur : State) × IsDeskAt v cur × (text : List ℕ) × Appends before after text × Leads s workers budget st cur (lines xs) (lines ys) text
+    (cur : State) × IsDeskAt v cur × (text : List ℕ) × Appends before after text × AreAnswered s workers budget st (lines xs) text cur (lines ys)
 
 -- nothing was answered
 pub answered_none : (s : Start) (workers budget : ℕ) (st : State) (v : DeskView) (old before : Option (List ℕ)) → IsDeskAt v st
     → HasAnswered s workers budget st v old old before before
 answered_none s workers budget st v None before a = tt
-answered_none s workers budget st v (Some xs) before a = (st, a, [], Appends-nil before, leads_none s workers budget st (lines xs))
+answered_none s workers budget st v (Some xs) before a = (st, a, [], Appends-nil before, none)
 
 -- one command more was answered
 pub answered_more : (s : Start) (workers budget : ℕ) (st : State) (v w : DeskView) (old now next before then after : Option (List ℕ)) (o : Option Request) (c : Request)
     → v.bench.start ≡ s → HasAnswered s workers budget st v old now before then → o ≡ Some c → IfSome now (λ ys. TakesRequest o ys next) → IsAnswered workers v (within budget c) w then after → HasAnswered s workers budget st w old next before after
 answered_more s workers budget st v w None now next before then after o c i h e t r = tt
 answered_more s workers budget st v w (Some xs) None next before then after o c i h e t r = absurd h
-answered_more s workers budget st v w (Some xs) (Some ys) next before then after o c i h e t r =
-    let t' : TakesRequest (Some c) ys next = subst (λ p. TakesRequest p ys next) e t in
+answered_more s workers budget st v w (Some xs) (Some ys) None before then after o c i h e t r = absurd (subst (λ p. TakesRequest p ys None) e t)
+answered_more s workers budget st v w (Some xs) (Some ys) (Some zs) before then after o c i h e t r =
+    let taken : TakesRequest (Some c) ys (Some zs) = subst (λ p. TakesRequest p ys (Some zs)) e t in
     let turn = r.turn.replies h.0 h.1 in
     let reply = subst (λ z. RepliesWith workers z h.0 (within budget c) r.reply turn.0) i turn.1 in
-    rw t'.1 (
-      turn.0,
-      turn.2,
-      h.2 ++ r.reply,
-      Appends-trans before then after h.2 r.reply h.3 r.written,
-      leads_more s workers budget st h.0 turn.0 (lines xs) (lines ys) (lines (behind_line ys)) h.2 r.reply h.4 (leads_first s workers budget h.0 turn.0 ys c r.reply t'.0 reply),
-    )
+    (turn.0, turn.2, h.2 ++ r.reply, Appends-trans before then after h.2 r.reply h.3 r.written, answered_step h.4 taken reply)
 
 -- all were answered
 pub answered_all : (s : Start) (workers budget : ℕ) (st : State) (v : DeskView) (old now next before after : Option (List ℕ)) (o : Option Request)
@@ -59,8 +53,8 @@ pub answered_all : (s : Start) (workers budget : ℕ) (st : State) (v : DeskView
 answered_all s workers budget st v None now next before after o h e t = tt
 answered_all s workers budget st v (Some xs) None next before after o h e t = absurd h
 answered_all s workers budget st v (Some xs) (Some ys) next before after o h e t =
-    let t' : ys ≡ [] = subst (λ p. TakesRequest p ys next) e t in
-    (h.2, leads_all s workers budget st h.0 (lines xs) h.2 (subst (λ zs. Leads s workers budget st h.0 (lines xs) (lines zs) h.2) t' h.4), h.3)
+    let ended : ys ≡ [] = subst (λ p. TakesRequest p ys next) e t in
+    (h.2, (h.0, subst (λ zs. AreAnswered s workers budget st (lines xs) h.2 h.0 (lines zs)) ended h.4), h.3)
 
 -- the lines that are left could not be read: no more was written
 pub answered_begun : (s : Start) (workers budget : ℕ) (st : State) (v : DeskView) (old now before after : Option (List ℕ))
@@ -68,7 +62,7 @@ pub answered_begun : (s : Start) (workers budget : ℕ) (st : State) (v : DeskVi
     → IfSome old (λ xs. (text : List ℕ) × AreBegun s workers budget st (lines xs) text × Appends before after text)
 answered_begun s workers budget st v None now before after h = tt
 answered_begun s workers budget st v (Some xs) None before after h = absurd h
-answered_begun s workers budget st v (Some xs) (Some ys) before after h = (h.2, leads_begun s workers budget st h.0 (lines xs) (lines ys) h.2 h.2 [] h.4 (sym (append-nil h.2)), h.3)
+answered_begun s workers budget st v (Some xs) (Some ys) before after h = (h.2, answers_begun s workers budget st h.0 (lines xs) (lines ys) h.2 h.2 [] h.4 (sym (append-nil h.2)), h.3)
 
 -- of the answer to one command more, a front was written
 answered_front : (s : Start) (workers budget : ℕ) (st : State) (v w : DeskView) (old now next before then after : Option (List ℕ)) (o : Option Request) (c : Request) (text : List ℕ)
@@ -76,13 +70,13 @@ answered_front : (s : Start) (workers budget : ℕ) (st : State) (v w : DeskView
     → IfSome old (λ xs. (text : List ℕ) × AreBegun s workers budget st (lines xs) text × Appends before after text)
 answered_front s workers budget st v w None now next before then after o c text i h e t r a = tt
 answered_front s workers budget st v w (Some xs) None next before then after o c text i h e t r a = absurd h
-answered_front s workers budget st v w (Some xs) (Some ys) next before then after o c text i h e t r a =
-    let t' : TakesRequest (Some c) ys next = subst (λ p. TakesRequest p ys next) e t in
+answered_front s workers budget st v w (Some xs) (Some ys) None before then after o c text i h e t r a = absurd (subst (λ p. TakesRequest p ys None) e t)
+answered_front s workers budget st v w (Some xs) (Some ys) (Some zs) before then after o c text i h e t r a =
+    let taken : TakesRequest (Some c) ys (Some zs) = subst (λ p. TakesRequest p ys (Some zs)) e t in
     let turn = r.replies h.0 h.1 in
     let reply = subst (λ z. RepliesWith workers z h.0 (within budget c) text turn.0) i turn.1 in
-    let led = leads_more s workers budget st h.0 turn.0 (lines xs) (lines ys) (lines (behind_line ys)) h.2 text h.4 (leads_first s workers budget h.0 turn.0 ys c text t'.0 reply) in
-    let parts = ap (λ zs. h.2 ++ zs) a.parts ∙ sym (append_assoc h.2 a.front a.behind) in
-    (h.2 ++ a.front, leads_begun s workers budget st turn.0 (lines xs) (lines (behind_line ys)) (h.2 ++ text) (h.2 ++ a.front) a.behind led parts, Appends-trans before then after h.2 a.front h.3 a.appended)
+    let parts = ap (λ ws. h.2 ++ ws) a.parts ∙ sym (append_assoc h.2 a.front a.behind) in
+    (h.2 ++ a.front, answers_begun s workers budget st turn.0 (lines xs) (lines zs) (h.2 ++ text) (h.2 ++ a.front) a.behind (answered_step h.4 taken reply) parts, Appends-trans before then after h.2 a.front h.3 a.appended)
 
 -- the answer to one command more broke off
 pub answered_broken : (s : Start) (workers budget : ℕ) (st : State) (v : DeskView) (old now next before then after : Option (List ℕ)) (o : Option Request) (c : Request)

@@ -1,5 +1,9 @@
 pub mod InputFacts
 pub mod LineCuts
+pub mod LongLines
+pub mod LineTaking
+pub mod ListedLines
+pub mod RequestsTaken
 pub mod AnswerSteps
 pub mod AnswerFacts
 pub mod SessionFacts

@@ -130,31 +130,3 @@ begun_answers workers budget (Some xs) (Some ys) before after input text start e
     let denoted = subst (λ t. Denotes t start) read.0 d in
     let faultless = subst (λ t. (f : Refusal) → Stands t f → ⊥) read.0 n in
     (a.0, answering denoted faultless (subst (λ ls. AreBegun start workers budget initial ls a.0) read.1 a.1), a.2)
-
--- a line that is longer by more than its end is no command
-long_line : (line : List ℕ) → MAX_COMMAND + 1 < length line → is_well_formed (strip_last 13 line) ≡ false
-long_line line long = go (ends_with_byte 13 line) refl
-  where
-    over : (body : List ℕ) → MAX_COMMAND < length body → is_well_formed body ≡ false
-    over body more = let no : nat_le (length body) MAX_COMMAND ≡ false = search (rules, arith, more) in rw no refl
-
-    go : (b : Bool) → ends_with_byte 13 line ≡ b → is_well_formed (strip_last 13 line) ≡ false
-    go true e =
-        let cut : strip_last 13 line ≡ take (length line - 1) line = rw e refl in
-        let count = length-take (length line - 1) line in
-        ap is_well_formed cut ∙ over (take (length line - 1) line) (omega arith)
-    go false e = let cut : strip_last 13 line ≡ line = rw e refl in ap is_well_formed cut ∙ over line (omega arith)
-
-apart : ◌≡◌ {A = Bool} true false → ⊥
-apart e = cc
-
--- such a line was taken
-pub long_taken : (old now new : Option (List ℕ)) (line : List ℕ) (p : Piece) → p ≡ pieces.TooLong
-    → IfSome old (λ xs. Takes p line (MAX_COMMAND + 1) xs now) → IfSome now (λ ys. new ≡ Some (behind_line ys))
-    → IfSome old (λ xs. TakesRequest (Some (Bench Malformed)) xs new)
-long_taken None now new line p e t s = tt
-long_taken (Some xs) None new line p e t s = let t' = subst (λ q. Takes q line (MAX_COMMAND + 1) xs None) e t in absurd t'.1
-long_taken (Some xs) (Some ys) new line p e t s =
-    let t' = subst (λ q. Takes q line (MAX_COMMAND + 1) xs (Some ys)) e t in
-    let long = long_line (first_line xs) t'.0 in
-    (of_bench (λ r whole a. apart (sym whole ∙ long)) (unsaid long), s ∙ ap Some t'.1)

@@ -6,8 +6,9 @@ use Rattle.ic_grammar.specs.Grammar.{Denotes}
 use Rattle.ic_grammar.specs.Faults.{Stands, IsFirstFault}
 use Rattle.ic_grammar.specs.declared.refusal.Refusal.{Refusal}
 use Rattle.ic_command.specs.declared.request.Request.{Request}
-use Rattle.ic_command.specs.Requests.{IsRequest, within}
+use Rattle.ic_command.specs.Requests.{within}
 use Rattle.ic_session.specs.InputLines.{TextLine, lines, net_part, command_lines}
+use Rattle.ic_session.specs.NextRequest.{Takes}
 use Rattle.ic_desk.specs.Desks.{State, initial}
 use Rattle.ic_desk.specs.ManyWorkers.{RepliesWith, TurnsWith}
 use Rattle.ic_desk.specs.Views.{DeskView}
@@ -16,13 +17,17 @@ use Rattle.ic_session.specs.Refusals.{refusal_line}
 use Rattle.ic_session.specs.declared.session.Status.{Status}
 use Rattle.ic_session.specs.declared.session.Status.TheVariants.{Ended, NetRefused}
 
--- the answers to lines, each from the state that those before it leave, in a session of so many workers that fires at
--- most so many events at once
-pub data AreAnswers (s : Start) (workers budget : ℕ) : State → List TextLine → List ℕ → Type 0 where
-  none : {st : State} → AreAnswers s workers budget st [] []
-  more : {st next : State} {line : TextLine} {ls : List TextLine} {r : Request} {reply behind : List ℕ}
-      → IsRequest line.bytes r → RepliesWith workers s st (within budget r) reply next → AreAnswers s workers budget next ls behind
-      → AreAnswers s workers budget st (line ∷ ls) (reply ++ behind)
+-- the answers to the first requests of these lines, each from the state that those before it leave, in a session of so
+-- many workers that fires at most so many events at once; the state after them, and the lines that are left
+pub data AreAnswered (s : Start) (workers budget : ℕ) : State → List TextLine → List ℕ → State → List TextLine → Type 0 where
+  none : {st : State} {ls : List TextLine} → AreAnswered s workers budget st ls [] st ls
+  more : {st next last : State} {ls mid left : List TextLine} {r : Request} {reply behind : List ℕ}
+      → Takes ls r mid → RepliesWith workers s st (within budget r) reply next → AreAnswered s workers budget next mid behind last left
+      → AreAnswered s workers budget st ls (reply ++ behind) last left
+
+-- the answers to all of them
+abbrev pub AreAnswers : Start → ℕ → ℕ → State → List TextLine → List ℕ → Type 0
+AreAnswers s workers budget st ls text = (last : State) × AreAnswered s workers budget st ls text last []
 
 -- a request was carried out, and the answer to it was written
 pub record IsAnswered (workers : ℕ) (old : DeskView) (r : Request) (new : DeskView) (before after : Option (List ℕ)) : Type 0 where
@@ -58,14 +63,13 @@ IsSessionText workers budget input NetRefused text = NamesFault input text
 abbrev pub Writes : ℕ → ℕ → List ℕ → Status → Option (List ℕ) → Option (List ℕ) → Type 0
 Writes workers budget input status old new = (text : List ℕ) × IsSessionText workers budget input status text × Appends old new text
 
--- a front of the answers to the first of these lines
+-- a front of the answers to the first requests of these lines
 pub record AreBegun (s : Start) (workers budget : ℕ) (st : State) (ls : List TextLine) (text : List ℕ) : Type 0 where
-  pub answered : List TextLine
-  pub others : List TextLine
   pub whole : List ℕ
   pub behind : List ℕ
-  pub parts : ls ≡ answered ++ others
-  pub answers : AreAnswers s workers budget st answered whole
+  pub last : State
+  pub left : List TextLine
+  pub answers : AreAnswered s workers budget st ls whole last left
   pub front : whole ≡ text ++ behind
 
 -- What a session that ends in a fault has written: nothing, a front of the line that names the first fault of the net

@@ -3,9 +3,11 @@
 
 pub mod fault;
 pub mod laws;
+mod listed_events;
 pub mod net_input;
 pub mod refusal;
 pub mod session;
+mod taken_line;
 
 pub use fault::Fault;
 pub use ic_desk::{MAX_BUDGET, MAX_WORKERS};

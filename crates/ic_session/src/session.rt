@@ -13,9 +13,11 @@ ghost use Rattle.ic_session.specs.declared.fault.Fault.TheVariants.{Read};
 ghost use Rattle.ic_session.specs.declared.session.Status.TheVariants.{NetRefused};
 
 use crate::fault::Fault;
+use crate::listed_events::listed_events;
 use crate::net_input::{NetInput, read_net_text};
 use crate::refusal::refusal_line;
-use ic_command::{Command, MAX_COMMAND, Request, request_of};
+use crate::taken_line::take_line;
+use ic_command::{Asked, Command, Request, asked_of};
 use ic_desk::{Desk, MAX_WORKERS};
 use ic_grammar::Refusal;
 use ic_journal::Store;
@@ -133,7 +135,8 @@ fn answer<W: Write, T: Threads + Wait + Sync>(
     Ok(after)
 }
 
-/// What the next line asks for; `None` where the input has ended. `line` is room for a line.
+/// What the next line asks for, with the lines behind it that it takes; `None` where the input has ended. `line` is room
+/// for a line.
 fn next_request<R: Read>(
     alloc: Global,
     input: &mut Input,
@@ -146,12 +149,15 @@ fn next_request<R: Read>(
     ensures fewer { input.new.reads ≤ input.old.reads }
     ensures fault { IfErr result (IsReadFault input.old.reads input.new.reads) }
 {
-    match input.next_line(reader, line, MAX_COMMAND + 1)? {
-        Piece::Line(_) => Ok(Some(request_of(alloc, line)?)),
-        Piece::TooLong => {
-            input.skip_line(reader)?;
-            Ok(Some(Request::Bench(Command::Malformed)))
-        }
+    match take_line(input, reader, line)? {
+        Piece::Line(_) => match asked_of(alloc, line)? {
+            Asked::Alone(request) => Ok(Some(request)),
+            Asked::Absorb(count) => match listed_events(alloc, input, reader, line, count)? {
+                Some(events) => Ok(Some(Request::Absorb(events))),
+                None => Ok(Some(Request::Bench(Command::Malformed))),
+            },
+        },
+        Piece::TooLong => Ok(Some(Request::Bench(Command::Malformed))),
         Piece::End => Ok(None),
     }
 }

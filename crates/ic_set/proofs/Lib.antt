@@ -25,6 +25,7 @@ pub mod KeptOrders
 pub mod RuleDigits
 pub mod MadeLinks
 pub mod Children
+pub mod FewChildren
 pub mod PutIn
 pub mod PairPaths
 pub mod CauseRanks
@@ -39,11 +40,14 @@ pub mod ActivePairs
 pub mod EventPairs
 pub mod FarTouched
 pub mod NewlyActive
+pub mod BornPairs
 pub mod LedPairs
 pub mod ReachedAgents
 pub mod GrownSets
+pub mod Awakened
 pub mod PairsAdmitted
 pub mod PairsLeft
+pub mod LookedUp
 pub mod QueuedLeads
 pub mod PlacedOrders
 pub mod OrderedIds

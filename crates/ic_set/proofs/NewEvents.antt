@@ -1,6 +1,7 @@
 -- An active event is new to a standing set.
-use Rattle.std.proofs.Common.{◌≡◌, ◌≢◌, ℕ, ◌≤◌, Bool, true, false, List, ◌∷◌, None, All, refl, sym, ap, arith, ◌∙◌, subst}
+use Rattle.std.proofs.Common.{◌≡◌, ◌≢◌, ℕ, ◌≤◌, Bool, true, false, List, [], ◌∷◌, None, All, refl, sym, ap, arith, ◌∙◌, subst}
 use Rattle.std.specs.Prelude.{IsSome, is_some}
+use Rattle.std.proofs.lemmas.List.Elements.{All-nil, All-cons}
 use Rattle.ic_name.specs.Events.{Event}
 use Rattle.ic_name.specs.Spots.{is_maker, made_by, same_event}
 use Rattle.ic_name.specs.declared.ids.EventId.{EventId}
@@ -9,6 +10,7 @@ use Rattle.ic_name.specs.declared.ids.MakerId.{MakerId}
 use Rattle.ic_name.specs.declared.ids.MakerId.TheVariants as maker
 use Rattle.ic_path.specs.Orders.{IsIn}
 use Rattle.ic_path.specs.Rings.{HasEachOnce}
+use Rattle.ic_path.proofs.Picks.{in_first, in_more}
 use Rattle.ic_theory.specs.Active.{IsActive}
 use Rattle.ic_theory.specs.Causes.{IsCause}
 use Rattle.ic_theory.specs.Sets.{consumed_times}
@@ -24,7 +26,11 @@ use Rattle.ic_roster.specs.Rosters.{Stander, IsNewEvent}
 use Rattle.ic_set.specs.Views.{SetView, standing}
 use Rattle.ic_set.specs.Sets.{IsKept}
 use Rattle.ic_set.specs.Admission.{AreCausesOf}
-use Rattle.ic_set.proofs.CauseRanks.{all_places}
+
+-- what holds of each element of a list holds at each place
+pub all_places : {X : Type 0} (P : X → Type 0) (xs : List X) → ((x : X) → IsIn x xs → P x) → All P xs
+all_places P [] f = All-nil P
+all_places P (x ∷ xs) f = All-cons P x xs (f x (in_first x xs)) (all_places P xs (λ y i. f y (in_more x i)))
 
 module _ (v : SetView) (ls : List Link) (kept : Causes) (k : IsKept v ls kept) (e : Event) (active : IsActive v.start (standing v) e) where
   -- the set with it is sound

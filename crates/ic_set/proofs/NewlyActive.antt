@@ -73,6 +73,10 @@ module _ (s : Start) (ok : IsProper s) (e : Event) (es : List Event) (f : IsFire
       nowhere (inl q) = other q
       nowhere (inr j) = let some = consumed_in j.1 in let none = loose_agent s es g.lead h.wire.from_loose in omega arith
 
+  -- no link ends at a port of an agent that isn't there
+  pub no_ends : (n : Name) (i : ℕ) → named_times n (agents s es) ≡ 0 → degree net_shape (links s es) (Of n i) ≡ 0
+  no_ends n i z = let d = exact_degree s ok es n i in let p = ports_bound n i (agents s es) in let j = joints_bound n i es in let c = consumed_there s es f n in omega arith
+
   -- a port of an agent that is there, which is the far end of an end of the new links, is that of an agent next to the pair
   next_to : (m : Name) → 1 ≤ named_times m (agents s es) → IsLoose s es (Of m 0) → (c : Port) → 1 ≤ end_times c (joins s ok e es f a) → far net_shape (links s es) c ≡ Of m 0 → IsNextTo s es e m
   next_to m there loose (port.Name j) h q = let z = ends_name s ok e es f a j in absurd (omega arith)
@@ -101,36 +105,39 @@ module _ (s : Start) (ok : IsProper s) (e : Event) (es : List Event) (f : IsFire
           let same : n ≡ m = port_name (sym bare ∙ q) in
           let some : 1 ≤ named_times n (agents s es) = rw same there in
           absurd (omega (arith, absent, some))
-        where
-          no_ends : (n : Name) (i : ℕ) → named_times n (agents s es) ≡ 0 → degree net_shape (links s es) (Of n i) ≡ 0
-          no_ends n i z = let d = exact_degree s ok es n i in let p = ports_bound n i (agents s es) in let j = joints_bound n i es in let c = consumed_there s es f n in omega arith
+
+  -- the principal port of an agent that was there, and isn't consumed, was loose
+  was_loose : (m n : Name) (k : Kind) → IsIn (m, k) (agents s es) → IsWire s (e ∷ es) (Of m 0) (Of n 0) → IsLoose s es (Of m 0)
+  was_loose m n k there w = let z = w.from_loose.3 in (k, there, omega arith, omega arith)
+
+  -- a wire from it was there where its far end is the one of before
+  pub was_wire : (m n : Name) (k : Kind) → IsIn (m, k) (agents s es) → IsWire s (e ∷ es) (Of m 0) (Of n 0) → far net_shape (links s (e ∷ es)) (Of m 0) ≡ far net_shape (links s es) (Of m 0)
+      → IsWire s es (Of m 0) (Of n 0)
+  was_wire m n k there w same =
+      let now = has_partner s ok (e ∷ es) (fired f a) (Of m 0) (Of n 0) (wire_partner s ok (e ∷ es) (fired f a) (Of m 0) (Of n 0) w) in
+      partner_wire s ok es f (Of m 0) (Of n 0) (partner_is s ok es f (Of m 0) (was_loose m n k there w) ∙ ap Some (sym (now.1 ∙ same)))
+
+  -- and with its wire an active pair was active
+  pub was_active : (g : Event) → IsActive s (e ∷ es) g → IsIn (g.lead, g.lead_kind) (agents s es) → IsWire s es (Of g.lead 0) (Of g.other 0) → IsActive s es g
+  was_active g h j w =
+      let o = w.to_loose in
+      let later = in_included born_agents (start_agents s) (includes_more e (includes_self es)) o.1 in
+      let kind : o.0 ≡ g.other_kind = same_kind s ok (e ∷ es) (fired_apart s (fired f a)) g.other refl refl later h.present.other in
+      record { present = record { lead = j; other = subst (λ k. IsIn (g.other, k) (agents s es)) kind o.1; ordered = h.present.ordered }; wire = w }
 
   -- a wire between the principal ports of two agents was there, or the first, which was there, is next to the pair
   wire_before : (m n : Name) (k : Kind) → IsIn (m, k) (agents s es) → IsWire s (e ∷ es) (Of m 0) (Of n 0) → IsWire s es (Of m 0) (Of n 0) ⊎ IsNextTo s es e m
   wire_before m n k there w = elim (touched (far net_shape (links s es)) (Of m 0) (joins s ok e es f a)) [
-    | inl c ↦ inr (next_to m (named_in m refl there.1) loose c.0 c.1 c.2)
-    | inr none ↦ (
-        let now = has_partner s ok (e ∷ es) (fired f a) (Of m 0) (Of n 0) (wire_partner s ok (e ∷ es) (fired f a) (Of m 0) (Of n 0) w) in
-        let same = far_same (Some e) 0 (joins s ok e es f a) (links s es) (Of m 0) none in
-        inl (partner_wire s ok es f (Of m 0) (Of n 0) (partner_is s ok es f (Of m 0) loose ∙ ap Some (sym (now.1 ∙ same)))))
+    | inl c ↦ inr (next_to m (named_in m refl there.1) (was_loose m n k there w) c.0 c.1 c.2)
+    | inr none ↦ inl (was_wire m n k there w (far_same (Some e) 0 (joins s ok e es f a) (links s es) (Of m 0) none))
   ]
-    where
-      loose : IsLoose s es (Of m 0)
-      loose = let z = w.from_loose.3 in (k, there, omega arith, omega arith)
 
   -- an active pair that wasn't active before is led by a child, or by an agent next to the pair
   fired_new : (g : Event) → IsActive s (e ∷ es) g → IsActive s es g ⊎ (IsIn (g.lead, g.lead_kind) (born_agents e) ⊎ IsNextTo s es e g.lead)
   fired_new g h = elim (in-append_cases (born_agents e) h.present.lead) [
     | inl i ↦ inr (inl i)
-    | inr j ↦ (elim (wire_before g.lead g.other g.lead_kind j h.wire) [ inl w ↦ inl (was j w) | inr near ↦ inr (inr near) ])
+    | inr j ↦ (elim (wire_before g.lead g.other g.lead_kind j h.wire) [ inl w ↦ inl (was_active g h j w) | inr near ↦ inr (inr near) ])
   ]
-    where
-      was : IsIn (g.lead, g.lead_kind) (agents s es) → IsWire s es (Of g.lead 0) (Of g.other 0) → IsActive s es g
-      was j w =
-          let o = w.to_loose in
-          let later = in_included born_agents (start_agents s) (includes_more e (includes_self es)) o.1 in
-          let kind : o.0 ≡ g.other_kind = same_kind s ok (e ∷ es) (fired_apart s (fired f a)) g.other refl refl later h.present.other in
-          record { present = record { lead = j; other = subst (λ k. IsIn (g.other, k) (agents s es)) kind o.1; ordered = h.present.ordered }; wire = w }
 
 module _ (s : Start) (ok : IsProper s) (e : Event) (all es : List Event) (sound : IsSound s es) (a : IsActive s es e) (more : Alike all (e ∷ es)) where
   -- the same in any order: what stays active

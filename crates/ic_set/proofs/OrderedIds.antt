@@ -19,7 +19,7 @@ use Rattle.ic_set.specs.Ids.{IsNaming}
 use Rattle.ic_set.specs.Orders.{AreInOrder, IsAny, IsCauseOf, DependsOn}
 use Rattle.ic_set.specs.Placed.{ArePlaced}
 use Rattle.ic_set.specs.Removal.{Stands}
-use Rattle.ic_set.specs.Views.{SetView, BareView, standing}
+use Rattle.ic_set.specs.Views.{SetView, NamedView, standing}
 use Rattle.ic_set.proofs.CauseIds.{depends_to, depends_from}
 use Rattle.ic_set.proofs.Namings.{same_stander}
 
@@ -31,11 +31,11 @@ abbrev event_id : Stander → EventId
 event_id x = x.id
 
 -- the ids of events that are shown in order are in order
-pub ids_in_order : (v : BareView) (P : Stander → Type 0) (placed : List Placed) (ids : List EventId) → ArePlaced v P placed → ids ≡ map (λ p. p.id) placed → AreInOrder v.set P ids
+pub ids_in_order : (v : NamedView) (P : Stander → Type 0) (placed : List Placed) (ids : List EventId) → ArePlaced v P placed → ids ≡ map (λ p. p.id) placed → AreInOrder v.set P ids
 ids_in_order v P placed ids h e = record { order = h.order; each = h.each; canonical = h.canonical; named = h.ids ∙ sym e }
 
 -- another property that the same standing events have
-pub placed_so : (v : BareView) {P Q : Stander → Type 0} (placed : List Placed) → ((x : Stander) → IsIn x v.set.events → P x ↔ Q x) → ArePlaced v P placed → ArePlaced v Q placed
+pub placed_so : (v : NamedView) {P Q : Stander → Type 0} (placed : List Placed) → ((x : Stander) → IsIn x v.set.events → P x ↔ Q x) → ArePlaced v P placed → ArePlaced v Q placed
 placed_so v placed same h = record {
   order = h.order;
   each = record {

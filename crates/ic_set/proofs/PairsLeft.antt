@@ -14,12 +14,12 @@ use Rattle.ic_set.specs.Changes.{TakesOut}
 use Rattle.ic_set.specs.Pairs.{IsPairOf}
 use Rattle.ic_set.specs.Queues.{IsQueued, HasLeads}
 use Rattle.ic_set.specs.Sets.{IsStandingSet}
-use Rattle.ic_set.specs.Views.{BareView, standing, AreChildren}
+use Rattle.ic_set.specs.Views.{NamedView, standing, AreChildren}
 use Rattle.ic_set.proofs.ActivePairs.{one_pair, pair_of}
 use Rattle.ic_set.proofs.GrownSets.{Grows, one_agent, event_active, stays}
 use Rattle.ic_set.proofs.Namings.{same_stander}
 
-module _ (v w : BareView) (set : IsStandingSet v.set) (set' : IsStandingSet w.set) (d : EventId) (t : TakesOut v.set d w.set) (x : Stander) (there : IsIn x v.set.events) (under : x.id ≡ d) where
+module _ (v w : NamedView) (set : IsStandingSet v.set) (set' : IsStandingSet w.set) (d : EventId) (t : TakesOut v.set d w.set) (x : Stander) (there : IsIn x v.set.events) (under : x.id ≡ d) where
   -- the event that goes is the one under the id
   one : t.entry ≡ x
   one = same_stander v.set.events t.entry x set.own_lines (alike-in (alike_back t.events) (in_first t.entry w.set.events)) there (inl (t.under ∙ sym under))

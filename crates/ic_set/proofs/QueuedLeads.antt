@@ -22,7 +22,7 @@ use Rattle.ic_set.specs.declared.pairs.ActivePair.{ActivePair}
 use Rattle.ic_set.specs.Pairs.{IsPairOf, IsLeastPair}
 use Rattle.ic_set.specs.Queues.{Leads, IsQueued, HasLeads, FrontLeads}
 use Rattle.ic_set.specs.Sets.{IsStandingSet}
-use Rattle.ic_set.specs.Views.{BareView, standing}
+use Rattle.ic_set.specs.Views.{NamedView, standing}
 use Rattle.ic_set.proofs.ActivePairs.{one_id, one_name, one_pair, pair_of}
 use Rattle.ic_set.proofs.LedPairs.{second_leads_none}
 
@@ -43,7 +43,7 @@ not_greater n m none = by (name_cmp m n) refl
     by Equal h = ap is_gt h
     by Greater h = absurd (none (name_flip m n h))
 
-module _ (v : BareView) (set : IsStandingSet v.set) where
+module _ (v : NamedView) (set : IsStandingSet v.set) where
   -- where an agent of a pair leads one, it leads that pair
   led_pair : (e f : Event) (p q : ActivePair) → IsPairOf v.set e p → IsPairOf v.set f q → IsOf p q.lead → (e ≡ f) × (p ≡ q)
   led_pair e f p q h k (inl same) = one_pair v.set set e f p q h k same
@@ -106,7 +106,7 @@ pub still_queued : (ns : List Name) (leads leads' : List Lead) → ((n : ℕ) �
 still_queued ns leads leads' stay name q = (q.0, q.1, stay q.0 q.2)
 
 -- a place that goes and leads no pair is no lead's
-pub others_lead : (v : BareView) (leads leads' : List Lead) (n : ℕ) → HasLeads v leads → (Leads v n → ⊥) → Alike (places leads) (n ∷ places leads') → HasLeads v leads'
+pub others_lead : (v : NamedView) (leads leads' : List Lead) (n : ℕ) → HasLeads v leads → (Leads v n → ⊥) → Alike (places leads) (n ∷ places leads') → HasLeads v leads'
 others_lead v leads leads' n all stale taken e p h =
     let q = all e p h in
     elim (in-cons_cases (alike-in taken q.2)) [

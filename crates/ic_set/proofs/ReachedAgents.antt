@@ -167,17 +167,17 @@ aux_number Eps j h n = absurd (n (omega arith))
 module _ (v : SetView) (set : IsStandingSet v) (e : Event) (p : ActivePair) (pair : IsPairOf v e p) where
   module _ (m : Member) (there : IsIn m v.agents) (free : consumed_times m.name (standing v) ≡ 0) (i : ℕ) where
     -- the agent to which a wire from the port leads is answered
-    answers_each : (o : Option AgentId) → Found v m.id i o → Absent v m.id i o → (n : Member) → IsIn n v.agents → IsWire v.start (standing v) (Of n.name 0) (Of m.name i) → n.id ≡ unwrap_or o p.lead
+    answers_each : (o : Option AgentId) → Found v m.id i o → Absent v m.id i o → (n : Member) → IsIn n v.agents → IsWire v.start (standing v) (Of n.name 0) (Of m.name i) → Some n.id ≡ o
     answers_each None f g n j w = absurd (g m n there refl j w)
     answers_each (Some a) f g n j w =
         let r = f m there refl free in
-        ap (λ (x : Member). x.id) (one_name v set n r.0 j r.1 (one_wire v set n.name r.0.name m.name i w r.3)) ∙ r.2
+        ap Some (ap (λ (x : Member). x.id) (one_name v set n r.0 j r.1 (one_wire v set n.name r.0.name m.name i w r.3)) ∙ r.2)
 
-    -- and nothing else is but the lead
-    answers_only : (m.name ≡ e.lead) ⊎ (m.name ≡ e.other) → i ≢ 0 → (o : Option AgentId) → Found v m.id i o
-        → (unwrap_or o p.lead ≡ p.lead) ⊎ ((n : Member) × IsIn n v.agents × (n.id ≡ unwrap_or o p.lead) × IsNextTo v.start (standing v) e n.name)
-    answers_only of_pair aux None f = inl refl
-    answers_only of_pair aux (Some a) f = let r = f m there refl free in inr (r.0, r.1, r.2, (m.name, i, of_pair, aux, r.3))
+    -- and nothing else is
+    answers_only : (m.name ≡ e.lead) ⊎ (m.name ≡ e.other) → i ≢ 0 → (o : Option AgentId) → Found v m.id i o → (x : AgentId) → Some x ≡ o
+        → (n : Member) × IsIn n v.agents × (n.id ≡ x) × IsNextTo v.start (standing v) e n.name
+    answers_only of_pair aux None f x q = absurd cc
+    answers_only of_pair aux (Some a) f x q = let r = f m there refl free in (r.0, r.1, r.2 ∙ ap (λ o. unwrap_or o a) (sym q), (m.name, i, of_pair, aux, r.3))
 
   -- the two agents of the pair
   abbrev first : Member
@@ -189,15 +189,15 @@ module _ (v : SetView) (set : IsStandingSet v) (e : Event) (p : ActivePair) (pai
   module _ (a b c d : Option AgentId) (a_found : Found v p.lead 1 a) (a_absent : Absent v p.lead 1 a) (b_found : Found v p.lead 2 b) (b_absent : Absent v p.lead 2 b)
       (c_found : Found v p.other 1 c) (c_absent : Absent v p.other 1 c) (d_found : Found v p.other 2 d) (d_absent : Absent v p.other 2 d) where
     -- the answers
-    abbrev ids : List AgentId
-    ids = unwrap_or a p.lead ∷ unwrap_or b p.lead ∷ unwrap_or c p.lead ∷ unwrap_or d p.lead ∷ []
+    abbrev ids : List (Option AgentId)
+    ids = a ∷ b ∷ c ∷ d ∷ []
 
     -- an agent is among the answers by its place
-    at : (n : Member) {x : AgentId} → n.id ≡ x → IsIn x ids → IsIn n.id ids
-    at n q i = subst (λ x. IsIn x ids) (sym q) i
+    at : (n : Member) {o : Option AgentId} → Some n.id ≡ o → IsIn o ids → IsIn (Some n.id) ids
+    at n q i = subst (λ o. IsIn o ids) (sym q) i
 
     -- an agent to which a wire from a port of the lead leads is among them
-    by_lead : (n : Member) → IsIn n v.agents → (j : ℕ) → j ≢ 0 → IsWire v.start (standing v) (Of n.name 0) (Of e.lead j) → IsIn n.id ids
+    by_lead : (n : Member) → IsIn n v.agents → (j : ℕ) → j ≢ 0 → IsWire v.start (standing v) (Of n.name 0) (Of e.lead j) → IsIn (Some n.id) ids
     by_lead n i j aux w =
         let free = pair.active.wire.from_loose.3 in
         elim (aux_number w.to_loose.0 j w.to_loose.2 aux) [
@@ -206,7 +206,7 @@ module _ (v : SetView) (set : IsStandingSet v) (e : Event) (p : ActivePair) (pai
         ]
 
     -- and one of the other agent
-    by_other : (n : Member) → IsIn n v.agents → (j : ℕ) → j ≢ 0 → IsWire v.start (standing v) (Of n.name 0) (Of e.other j) → IsIn n.id ids
+    by_other : (n : Member) → IsIn n v.agents → (j : ℕ) → j ≢ 0 → IsWire v.start (standing v) (Of n.name 0) (Of e.other j) → IsIn (Some n.id) ids
     by_other n i j aux w =
         let free = pair.active.wire.to_loose.3 in
         elim (aux_number w.to_loose.0 j w.to_loose.2 aux) [
@@ -214,20 +214,13 @@ module _ (v : SetView) (set : IsStandingSet v) (e : Event) (p : ActivePair) (pai
           | inr q ↦ at n (answers_each second pair.other free 2 d d_found d_absent n i (subst (λ k. IsWire v.start (standing v) (Of n.name 0) (Of e.other k)) q w)) (in_more _ (in_more _ (in_more _ (in_first _ _))))
         ]
 
-    -- what one of the answers is
-    abbrev IsAnswer : AgentId → Type 0
-    IsAnswer x = (x ≡ p.lead) ⊎ ((n : Member) × IsIn n v.agents × (n.id ≡ x) × IsNextTo v.start (standing v) e n.name)
-
-    -- the answers are the agents next to the pair, and maybe its lead
-    pub are_beside : AreBeside v e p ids
+    -- the answers are the agents next to the pair
+    pub are_beside : AreBeside v e ids
     are_beside = record { each = λ n i near. each n i near.0 near.1 near.2 near.3 near.4; only = λ x i. only x (in-cons_cases i) }
       where
-        each : (n : Member) → IsIn n v.agents → (m : Name) (j : ℕ) → (m ≡ e.lead) ⊎ (m ≡ e.other) → j ≢ 0 → IsWire v.start (standing v) (Of n.name 0) (Of m j) → IsIn n.id ids
+        each : (n : Member) → IsIn n v.agents → (m : Name) (j : ℕ) → (m ≡ e.lead) ⊎ (m ≡ e.other) → j ≢ 0 → IsWire v.start (standing v) (Of n.name 0) (Of m j) → IsIn (Some n.id) ids
         each n i m j (inl q) aux w = by_lead n i j aux (subst (λ x. IsWire v.start (standing v) (Of n.name 0) (Of x j)) q w)
         each n i m j (inr q) aux w = by_other n i j aux (subst (λ x. IsWire v.start (standing v) (Of n.name 0) (Of x j)) q w)
-
-        is : (x y : AgentId) → x ≡ y → IsAnswer y → IsAnswer x
-        is x y q h = subst IsAnswer (sym q) h
 
         free : consumed_times e.lead (standing v) ≡ 0
         free = pair.active.wire.from_loose.3
@@ -235,14 +228,14 @@ module _ (v : SetView) (set : IsStandingSet v) (e : Event) (p : ActivePair) (pai
         free' : consumed_times e.other (standing v) ≡ 0
         free' = pair.active.wire.to_loose.3
 
-        only : (x : AgentId) → (x ≡ unwrap_or a p.lead) ⊎ IsIn x (unwrap_or b p.lead ∷ unwrap_or c p.lead ∷ unwrap_or d p.lead ∷ []) → IsAnswer x
-        only x (inl q) = is x _ q (answers_only first pair.lead free 1 (inl refl) (λ z. omega (arith, z)) a a_found)
+        only : (x : AgentId) → (Some x ≡ a) ⊎ IsIn (Some x) (b ∷ c ∷ d ∷ []) → (n : Member) × IsIn n v.agents × (n.id ≡ x) × IsNextTo v.start (standing v) e n.name
+        only x (inl q) = answers_only first pair.lead free 1 (inl refl) (λ z. omega (arith, z)) a a_found x q
         only x (inr i) = elim (in-cons_cases i) [
-          | inl q ↦ is x _ q (answers_only first pair.lead free 2 (inl refl) (λ z. omega (arith, z)) b b_found)
+          | inl q ↦ answers_only first pair.lead free 2 (inl refl) (λ z. omega (arith, z)) b b_found x q
           | inr j ↦ (elim (in-cons_cases j) [
-            | inl q ↦ is x _ q (answers_only second pair.other free' 1 (inr refl) (λ z. omega (arith, z)) c c_found)
+            | inl q ↦ answers_only second pair.other free' 1 (inr refl) (λ z. omega (arith, z)) c c_found x q
             | inr k ↦ (elim (in-cons_cases k) [
-              | inl q ↦ is x _ q (answers_only second pair.other free' 2 (inr refl) (λ z. omega (arith, z)) d d_found)
+              | inl q ↦ answers_only second pair.other free' 2 (inr refl) (λ z. omega (arith, z)) d d_found x q
               | inr nowhere ↦ absurd (none_in nowhere)
             ])
           ])

@@ -1,5 +1,5 @@
 -- Active pairs by ids.
-use Rattle.std.specs.Prelude.{◌≡◌, false, List, map}
+use Rattle.std.specs.Prelude.{◌≡◌, false, List, map, ◌⊎◌, Option, Some}
 use Rattle.std.specs.List.Sorted.{IsStrictlySortedBy}
 use Rattle.std.specs.Ordering.{is_gt}
 use Rattle.ic_name.specs.Names.{name_cmp}
@@ -30,6 +30,10 @@ pub record IsPairOf (v : SetView) (e : Event) (p : ActivePair) : Type 0 where
   pub lead : IsIn (record { id = p.lead; name = e.lead; kind = e.lead_kind }) v.agents
   pub other : IsIn (record { id = p.other; name = e.other; kind = e.other_kind }) v.agents
 
+-- the ids are those of the agents of an active event
+abbrev pub IsActivePair : SetView → ActivePair → Type 0
+IsActivePair v p = (e : Event) × IsPairOf v e p
+
 -- the pair is that of the active event with the least lead
 pub record IsLeastPair (v : SetView) (p : ActivePair) : Type 0 where
   pub event : Event
@@ -42,3 +46,18 @@ pub record AreActivePairs (v : SetView) (pairs : List ActivePair) : Type 0 where
   pub each : HasEachOnce (λ (x : Event × ActivePair). IsPairOf v x.0 x.1) order
   pub by_lead : IsStrictlySortedBy name_cmp (map (λ (x : Event × ActivePair). x.0.lead) order)
   pub named : map (λ (x : Event × ActivePair). x.1) order ≡ pairs
+
+-- the pairs are the active ones of which one of these agents is
+pub record ArePairsOf (v : SetView) (agents : List AgentId) (pairs : List (Option ActivePair)) : Type 0 where
+  pub each : (e : Event) (p : ActivePair) → IsPairOf v e p → IsIn p.lead agents ⊎ IsIn p.other agents → IsIn (Some p) pairs
+  pub only : (p : ActivePair) → IsIn (Some p) pairs → IsActivePair v p × (IsIn p.lead agents ⊎ IsIn p.other agents)
+
+-- the pairs are the active ones that one of these agents leads
+pub record AreLedBy (v : SetView) (agents : List (Option AgentId)) (pairs : List (Option ActivePair)) : Type 0 where
+  pub each : (e : Event) (p : ActivePair) → IsPairOf v e p → IsIn (Some p.lead) agents → IsIn (Some p) pairs
+  pub only : (p : ActivePair) → IsIn (Some p) pairs → IsActivePair v p × IsIn (Some p.lead) agents
+
+-- the pairs are those that are active in the second set and weren't in the first: each of them, and no other
+pub record Awakes (old new : SetView) (pairs : List (Option ActivePair)) : Type 0 where
+  pub each : (e : Event) (p : ActivePair) → IsPairOf new e p → IsPairOf old e p ⊎ IsIn (Some p) pairs
+  pub only : (p : ActivePair) → IsIn (Some p) pairs → IsActivePair new p × (IsActivePair old p → ⊥)

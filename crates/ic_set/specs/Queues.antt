@@ -1,5 +1,5 @@
 -- The queue of the leads of a set's active pairs, and the agents that may lead new ones.
-use Rattle.std.specs.Prelude.{◌≡◌, ◌≢◌, ℕ, ◌≤◌, List, length, ◌⊎◌}
+use Rattle.std.specs.Prelude.{◌≡◌, ◌≢◌, ℕ, ◌≤◌, List, length, ◌⊎◌, Option, Some}
 use Rattle.ic_name.specs.Names.{Name}
 use Rattle.ic_name.specs.Events.{Event}
 use Rattle.ic_name.specs.declared.ids.AgentId.{AgentId}
@@ -15,10 +15,10 @@ use Rattle.ic_queue.specs.Queues.{places, IsHeap, IsLeast}
 use Rattle.ic_roster.specs.Rosters.{Member}
 use Rattle.ic_set.specs.declared.pairs.ActivePair.{ActivePair}
 use Rattle.ic_set.specs.Pairs.{IsPairOf}
-use Rattle.ic_set.specs.Views.{SetView, BareView, standing}
+use Rattle.ic_set.specs.Views.{SetView, NamedView, standing}
 
 -- the agent whose name is at this place leads an active pair
-abbrev pub Leads : BareView → ℕ → Type 0
+abbrev pub Leads : NamedView → ℕ → Type 0
 Leads v n = (e : Event) × (p : ActivePair) × IsPairOf v.set e p × (e.lead ≡ name_at v.names n)
 
 -- the name is in the queue
@@ -26,15 +26,15 @@ abbrev pub IsQueued : List Name → List Lead → Name → Type 0
 IsQueued ns leads name = (n : ℕ) × StandsAt ns name n × IsIn n (places leads)
 
 -- the lead of each active pair is in the queue
-abbrev pub HasLeads : BareView → List Lead → Type 0
+abbrev pub HasLeads : NamedView → List Lead → Type 0
 HasLeads v leads = (e : Event) (p : ActivePair) → IsPairOf v.set e p → IsQueued v.names leads e.lead
 
 -- the agent with the least name in the queue leads an active pair
-abbrev pub FrontLeads : BareView → List Lead → Type 0
+abbrev pub FrontLeads : NamedView → List Lead → Type 0
 FrontLeads v leads = (n : ℕ) → IsLeast v.names leads n → Leads v n
 
 -- the leads are in the queue, the front is one of them, and there is room for each name that is known
-pub record KeepsQueue (v : BareView) (leads : List Lead) (space : ℕ) : Type 0 where
+pub record KeepsQueue (v : NamedView) (leads : List Lead) (space : ℕ) : Type 0 where
   pub heap : IsHeap v.names leads
   pub each : HasLeads v leads
   pub front : FrontLeads v leads
@@ -52,7 +52,7 @@ MayLead v e n = ((k : Kind) × IsIn (n, k) (born_agents e)) ⊎ IsNextTo v.start
 abbrev pub Reaches : SetView → Name → ℕ → AgentId → Type 0
 Reaches v m port near = (n : Member) × IsIn n v.agents × (n.id ≡ near) × IsWire v.start (standing v) (Of n.name 0) (Of m port)
 
--- the agents whose principal ports wires lead to from the auxiliary ports of the pair's agents, and maybe its lead
-pub record AreBeside (v : SetView) (e : Event) (p : ActivePair) (ids : List AgentId) : Type 0 where
-  pub each : (m : Member) → IsIn m v.agents → IsNextTo v.start (standing v) e m.name → IsIn m.id ids
-  pub only : (a : AgentId) → IsIn a ids → (a ≡ p.lead) ⊎ ((m : Member) × IsIn m v.agents × (m.id ≡ a) × IsNextTo v.start (standing v) e m.name)
+-- each agent whose principal port a wire leads to from an auxiliary port of the event's agents, and no other
+pub record AreBeside (v : SetView) (e : Event) (ids : List (Option AgentId)) : Type 0 where
+  pub each : (m : Member) → IsIn m v.agents → IsNextTo v.start (standing v) e m.name → IsIn (Some m.id) ids
+  pub only : (a : AgentId) → IsIn (Some a) ids → (m : Member) × IsIn m v.agents × (m.id ≡ a) × IsNextTo v.start (standing v) e m.name

@@ -31,7 +31,7 @@ pub record AreChildren (e : Event) (ids : List AgentId) (children : List Member)
   pub under : map (λ m. m.id) children ≡ ids
   pub named : map agent_of children ≡ born_agents e
 
--- what is seen of a set without its queue: the set, and the names that are known, each at its place
-pub record BareView : Type 0 where
+-- a standing set with the names that are known, each at its place
+pub record NamedView : Type 0 where
   pub set : SetView
   pub names : List Name

@@ -4,7 +4,6 @@ ghost use Rattle.ic_name.specs.declared.ids.EventId.{EventId as AnEventId};
 ghost use Rattle.ic_name.specs.declared.ids.Link.{Link as ALink};
 ghost use Rattle.ic_name.specs.declared.limits.TheConstants.{MAX_LINES};
 ghost use Rattle.ic_name.specs.Spots.{made_by};
-ghost use Rattle.ic_names.specs.Tables.{StandsAt};
 ghost use Rattle.ic_path.specs.Orders.{IsIn, Alike};
 ghost use Rattle.ic_link.specs.Links.{IsLawful};
 ghost use Rattle.ic_theory.specs.Born.{born_agents};
@@ -16,17 +15,16 @@ ghost use Rattle.ic_set.specs.Admission.{AreCausesOf, IsRankOver, CanPutIn, Puts
 ghost use Rattle.ic_set.specs.Changes.{Admits, IsSame};
 ghost use Rattle.ic_set.specs.Entering.{agents_in, AreNamed, GrowsBy};
 ghost use Rattle.ic_set.specs.Joining.{made_links, HaveDigits};
-ghost use Rattle.ic_set.specs.Pairs.{IsPairOf};
+ghost use Rattle.ic_set.specs.Pairs.{IsPairOf, IsActivePair};
 ghost use Rattle.ic_set.specs.Removal.{Stands};
 
 use crate::bare::BareSet;
 use crate::entering::{NewAgent, children_of, enter_all, remove_all};
 use crate::joining::{add_all, links_of_event};
 use crate::pairs::ActivePair;
-use ic_cause::{Dependents, direct_causes, rank_of};
+use ic_cause::{Dependents, direct_causes};
 use ic_link::LinkStore;
-use ic_name::{AgentId, Event, EventId, Kind, RuleEnd};
-use ic_names::NameId;
+use ic_name::{AgentId, EventId, Kind, RuleEnd};
 use ic_roster::{Interaction, Roster};
 use ic_start::outcome;
 use std::alloc::{AllocError, Global};
@@ -45,29 +43,28 @@ struct Firing<'a> {
 }
 
 impl<L: LinkStore> BareSet<L> {
-    /// One event more, which is active, under an id with this line, which no standing event has: with it its children
-    /// come, and the links of its rule are put in. At an error nothing changes but that names may be known that weren't.
-    pub fn admit(
-        &mut self,
-        event: &Event,
-        pair: ActivePair,
-        line: u32,
-    ) -> Result<EventId, AllocError>
-        requires active { IsPairOf self.old.set event.now pair }
-        requires shallow { ¬ (IsDeep event.now) }
+    /// One event more, that of an active pair, under an id with this line, which no standing event has: with it its
+    /// children come, and the links of its rule are put in. At an error nothing changes but that names may be known that
+    /// weren't.
+    pub fn admit(&mut self, pair: ActivePair, line: u32) -> Result<EventId, AllocError>
+        requires active { IsActivePair self.old.set pair }
+        requires shallow { (e : AnEvent) → IsPairOf self.old.set e pair → ¬ (IsDeep e) }
         requires new_line { (x : Stander) → IsIn x self.old.set.events → x.id.line ≢ line }
         requires few_lines { line < MAX_LINES }
         requires few_events { length self.old.set.events < MAX_LINES }
-        ensures admitted { IfOk result (λ id. Admits self.old.set event.now line id self.new.set) }
+        ensures admitted { IfOk result (λ id. (e : AnEvent) → IsPairOf self.old.set e pair → Admits self.old.set e line id self.new.set) }
         ensures grown { GrowsBy 4 self.old.names self.new.names }
         ensures unchanged { OnErr result (IsSame self.old.set self.new.set) }
     {
-        let causes = self.causes_of_pair(event, pair)?;
-        let rank = self.rank_over(&causes)?;
+        let causes = self.causes_of_pair(pair)?;
+        let rank = self.rank_over(&causes);
         let interaction = self.interaction_of(pair);
-        let rules = outcome(event.lead_kind(), event.other_kind(), self.start.profile());
-        let lead = interaction.lead;
-        let children = children_for(self.alloc, &mut self.roster, event, lead, rules.children)?;
+        let rules = outcome(
+            interaction.lead_kind,
+            interaction.other_kind,
+            self.start.profile(),
+        );
+        let children = children_for(self.alloc, &mut self.roster, interaction, rules.children)?;
         self.store.lawful();
         let born = enter_all(self.alloc, &mut self.roster, &children, line + 1)?;
         self.roster.lawful();
@@ -98,9 +95,9 @@ impl<L: LinkStore> BareSet<L> {
         }
     }
 
-    /// The agents of an active pair with the places of their names. It takes no memory.
-    fn interaction_of(&self, pair: ActivePair) -> Interaction
-        requires { (e : AnEvent) × IsPairOf self.now.set e pair }
+    /// The event of an active pair by the places of its agents' names. It takes no memory.
+    pub fn interaction_of(&self, pair: ActivePair) -> Interaction
+        requires { IsActivePair self.now.set pair }
         ensures named { IsNamed self.now.names result }
         ensures event { (e : AnEvent) → IsPairOf self.now.set e pair → event_in self.now.names result ≡ e }
     {
@@ -119,55 +116,50 @@ impl<L: LinkStore> BareSet<L> {
         }
     }
 
-    /// The standing events that an event of this active pair has as direct causes.
-    pub fn causes_of_pair(
-        &self,
-        event: &Event,
-        pair: ActivePair,
-    ) -> Result<Vec<EventId>, AllocError>
-        requires { IsPairOf self.now.set event.now pair }
-        ensures { IfOk result (λ causes. AreCausesOf self.now.set event.now causes.items) }
+    /// The standing events that the event of an active pair has as direct causes.
+    pub fn causes_of_pair(&self, pair: ActivePair) -> Result<Vec<EventId>, AllocError>
+        requires { IsActivePair self.now.set pair }
+        ensures { IfOk result (λ causes. (e : AnEvent) → IsPairOf self.now.set e pair → AreCausesOf self.now.set e causes.items) }
     {
         self.store.lawful();
         direct_causes(self.alloc, &self.store, pair.lead, pair.other)
     }
 
-    /// The rank of an event that has the standing events under these ids as direct causes.
-    fn rank_over(&self, causes: &[EventId]) -> Result<u32, AllocError>
+    /// The rank of an event that has the standing events under these ids as direct causes. It takes no memory.
+    fn rank_over(&self, causes: &[EventId]) -> u32
         requires low { (x : Stander) → IsIn x self.now.set.events → x.rank ≤ MAX_LINES }
         requires standing { (d : AnEventId) → IsIn d causes.now → Stands self.now.set d }
-        ensures { IfOk result (λ rank. IsRankOver self.now.set.events causes.now rank) }
+        ensures { IsRankOver self.now.set.events causes.now result }
     {
-        let mut ranks = Vec::with_capacity(self.alloc, causes.len())?;
+        let mut rank = 0;
         for cause in causes {
             let Some(entry) = self.roster.event(*cause) else {
                 unreachable!()
             };
-            ranks.push(entry.rank)?;
+            rank = rank.max(entry.rank + 1);
         }
-        Ok(rank_of(&ranks))
+        rank
     }
 }
 
-/// The children of an event, by digit, whose lead has its name at this place. Their names are entered.
+/// The children of an event, by digit. Their names are entered.
 fn children_for(
     alloc: Global,
     roster: &mut Roster,
-    event: &Event,
-    lead: NameId,
+    event: Interaction,
     kinds: &[Kind],
 ) -> Result<Vec<NewAgent>, AllocError>
-    requires lead { StandsAt roster.old.names event.now.lead lead.place }
-    requires kinds { kinds.now ≡ born_kinds event.now.lead_kind event.now.other_kind }
-    requires shallow { ¬ (IsDeep event.now) }
-    ensures children { IfOk result (λ children. agents_in roster.new.names children.items ≡ born_agents event.now) }
+    requires named { IsNamed roster.old.names event }
+    requires kinds { kinds.now ≡ born_kinds event.lead_kind event.other_kind }
+    requires shallow { ¬ (IsDeep (event_in roster.old.names event)) }
+    ensures children { IfOk result (λ children. agents_in roster.new.names children.items ≡ born_agents (event_in roster.old.names event)) }
     ensures inside { IfOk result (λ children. AreNamed roster.new.names children.items) }
     ensures grown { GrowsBy 4 roster.old.names roster.new.names }
     ensures agents { roster.new.agents ≡ roster.old.agents }
     ensures events { roster.new.events ≡ roster.old.events }
 {
-    event.lead().lawful();
-    children_of(alloc, roster, lead, kinds)
+    roster.lawful();
+    children_of(alloc, roster, event.lead, kinds)
 }
 
 /// Puts in an event with its links and its direct causes. At an error nothing changes.

@@ -25,10 +25,10 @@ pub struct BareSet<L: LinkStore> {
 
 impl<L: LinkStore> Model for BareSet<L> {
     ghost use Rattle.ic_cause.specs.Dependents.{causes_in};
-    ghost use Rattle.ic_set.specs.Views.{BareView};
+    ghost use Rattle.ic_set.specs.Views.{NamedView};
     ghost use Rattle.ic_set.specs.Sets.{IsKept};
 
-    ghost Value = { BareView };
+    ghost Value = { NamedView };
 
     ghost view = { λ a. record { set = record { start = a.start; agents = a.roster.agents; events = a.roster.events }; names = a.roster.names } };
 

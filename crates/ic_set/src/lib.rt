@@ -17,5 +17,5 @@ pub mod removal;
 pub mod set;
 
 pub use nets::without_ranks;
-pub use pairs::ActivePair;
+pub use pairs::{ActivePair, Fired};
 pub use set::StandingSet;

@@ -1,4 +1,4 @@
-ghost use Rattle.std.specs.Prelude.{◌≡◌, ◌≢◌, ◌<◌, ◌⊎◌, ◌↔◌, length, IsTrue, IfSome, IfNone, IfOk};
+ghost use Rattle.std.specs.Prelude.{◌≡◌, ◌≢◌, ◌<◌, ◌≤◌, ◌⊎◌, ◌↔◌, [], length, slice_get, Some, IsTrue, IfSome, IfNone, IfOk};
 ghost use Rattle.ic_name.specs.declared.ids.AgentId.{AgentId as AnAgentId};
 ghost use Rattle.ic_name.specs.declared.ids.Spot.TheVariants.{Agent};
 ghost use Rattle.ic_name.specs.Events.{Event as AnEvent};
@@ -8,16 +8,18 @@ ghost use Rattle.ic_name.specs.declared.ports.Port.TheVariants.{Of};
 ghost use Rattle.ic_names.specs.Tables.{name_at};
 ghost use Rattle.ic_path.specs.Orders.{IsIn};
 ghost use Rattle.ic_theory.specs.Active.{IsActive};
+ghost use Rattle.ic_theory.specs.Rules.{born_kinds};
 ghost use Rattle.ic_theory.specs.Sets.{consumed_times};
 ghost use Rattle.ic_theory.specs.Wires.{IsWire};
-ghost use Rattle.ic_roster.specs.Rosters.{Member as AMember};
-ghost use Rattle.ic_set.specs.Pairs.{AreJoined, IsPairOf, AreActivePairs};
+ghost use Rattle.ic_roster.specs.Rosters.{Member as AMember, Stander};
+ghost use Rattle.ic_set.specs.Pairs.{AreJoined, IsPairOf, IsActivePair, AreActivePairs, ArePairsOf, AreLedBy};
 ghost use Rattle.ic_set.specs.Queues.{Reaches, AreBeside};
+ghost use Rattle.ic_set.specs.Removal.{Stands};
 ghost use Rattle.ic_set.specs.Views.{standing};
 
 use crate::bare::BareSet;
 use ic_link::{Far, LinkStore};
-use ic_name::{AgentId, AgentName, Event, Kind, Spot};
+use ic_name::{AgentId, AgentName, Event, EventId, Kind, Spot};
 use ic_names::NameTable;
 use ic_roster::AgentEntry;
 use std::alloc::AllocError;
@@ -28,6 +30,13 @@ use std::cmp::Ordering;
 pub struct ActivePair {
     pub lead: AgentId,
     pub other: AgentId,
+}
+
+/// An event that came to stand: its id, and the pairs that its firing made active.
+#[derive(Clone, Copy, Debug, PartialEq, Eq)]
+pub struct Fired {
+    pub id: EventId,
+    pub awoken: [Option<ActivePair>; 4],
 }
 
 impl<L: LinkStore> BareSet<L> {
@@ -111,19 +120,94 @@ impl<L: LinkStore> BareSet<L> {
         Ok(pairs)
     }
 
-    /// The agents whose principal ports wires lead to from the auxiliary ports of this pair's agents, in place of each that
-    /// there isn't the pair's lead. It takes no memory.
-    pub fn beside(&self, pair: ActivePair) -> [AgentId; 4]
-        requires { (e : AnEvent) × IsPairOf self.now.set e pair }
-        ensures { (e : AnEvent) → IsPairOf self.now.set e pair → AreBeside self.now.set e pair result }
+    /// The agents whose principal ports wires lead to from the four auxiliary ports of this pair's agents, where its rule
+    /// makes no children; where it makes some, none is looked for. It takes no memory.
+    pub fn beside(&self, pair: ActivePair) -> [Option<AgentId>; 4]
+        requires { IsActivePair self.now.set pair }
+        ensures { (e : AnEvent) → IsPairOf self.now.set e pair → born_kinds e.lead_kind e.other_kind ≡ [] → AreBeside self.now.set e result }
+    {
+        self.lawful();
+        let Some(lead) = self.roster.agent(pair.lead) else {
+            unreachable!()
+        };
+        let Some(other) = self.roster.agent(pair.other) else {
+            unreachable!()
+        };
+        if lead.kind != other.kind {
+            return [None; 4];
+        }
+        [
+            self.reached(pair.lead, 1),
+            self.reached(pair.lead, 2),
+            self.reached(pair.other, 1),
+            self.reached(pair.other, 2),
+        ]
+    }
+
+    /// The active pairs of a standing event's children, or, where it has none, those that these agents lead. It takes no
+    /// memory.
+    pub fn awoken(&self, event: EventId, beside: &[Option<AgentId>; 4]) -> [Option<ActivePair>; 4]
+        requires standing { Stands self.now.set event }
+        ensures born { (x : Stander) → IsIn x self.now.set.events → x.id ≡ event → x.born ≢ [] → ArePairsOf self.now.set x.born result }
+        ensures beside { (x : Stander) → IsIn x self.now.set.events → x.id ≡ event → x.born ≡ [] → AreLedBy self.now.set beside.now result }
+    {
+        self.lawful();
+        let Some(entry) = self.roster.event(event) else {
+            unreachable!()
+        };
+        if entry.born.is_empty() {
+            return self.pairs_led_by(beside);
+        }
+        self.pairs_of(entry.born)
+    }
+
+    /// The active pairs that these agents lead. It takes no memory.
+    fn pairs_led_by(&self, agents: &[Option<AgentId>; 4]) -> [Option<ActivePair>; 4]
+        ensures { AreLedBy self.now.set agents.now result }
     {
         self.lawful();
         [
-            self.reached(pair.lead, 1).unwrap_or(pair.lead),
-            self.reached(pair.lead, 2).unwrap_or(pair.lead),
-            self.reached(pair.other, 1).unwrap_or(pair.lead),
-            self.reached(pair.other, 2).unwrap_or(pair.lead),
+            self.led(agents[0]),
+            self.led(agents[1]),
+            self.led(agents[2]),
+            self.led(agents[3]),
         ]
+    }
+
+    /// The active pairs of these agents. It takes no memory.
+    fn pairs_of(&self, agents: &[AgentId]) -> [Option<ActivePair>; 4]
+        requires { length agents.now ≤ 4 }
+        ensures { ArePairsOf self.now.set agents.now result }
+    {
+        self.lawful();
+        [
+            self.pair_at(agents, 0),
+            self.pair_at(agents, 1),
+            self.pair_at(agents, 2),
+            self.pair_at(agents, 3),
+        ]
+    }
+
+    /// The active pair that the agent leads, if there is one and it leads one. It takes no memory.
+    fn led(&self, agent: Option<AgentId>) -> Option<ActivePair>
+        ensures found { IfSome result (λ pair. (Some pair.lead ≡ agent) × IsActivePair self.now.set pair) }
+        ensures absent { IfNone result ((e : AnEvent) (pair : APair) → Some pair.lead ≡ agent → IsPairOf self.now.set e pair → ⊥) }
+    {
+        self.lawful();
+        let agent = agent?;
+        let pair = self.pair_with(agent)?;
+        if pair.lead != agent {
+            return None;
+        }
+        Some(pair)
+    }
+
+    /// The active pair of the agent at this place, if there is one and it is of one. It takes no memory.
+    fn pair_at(&self, agents: &[AgentId], place: usize) -> Option<ActivePair>
+        ensures found { IfSome result (λ pair. ((slice_get agents.now place ≡ Some pair.lead) ⊎ (slice_get agents.now place ≡ Some pair.other)) × IsActivePair self.now.set pair) }
+        ensures absent { IfNone result ((e : AnEvent) (pair : APair) → (slice_get agents.now place ≡ Some pair.lead) ⊎ (slice_get agents.now place ≡ Some pair.other) → IsPairOf self.now.set e pair → ⊥) }
+    {
+        self.pair_with(*agents.get(place)?)
     }
 
     /// The agent whose principal port the wire from this port leads to, if it leads to one. It takes no memory.

@@ -1,18 +1,17 @@
-ghost use Rattle.std.specs.Prelude.{◌≡◌, ◌<◌, ◌≤◌, ◌↔◌, IsTrue, length};
+ghost use Rattle.std.specs.Prelude.{◌≡◌, ◌<◌, ◌≤◌, ◌↔◌, IsTrue, Some, IfSome, length};
 ghost use Rattle.ic_name.specs.Names.{Name};
 ghost use Rattle.ic_name.specs.Events.{Event as AnEvent};
 ghost use Rattle.ic_names.specs.Tables.{name_at};
 ghost use Rattle.ic_path.specs.Orders.{IsIn};
 ghost use Rattle.ic_queue.specs.Queues.{IsHeap};
-ghost use Rattle.ic_roster.specs.Rosters.{Stander};
 ghost use Rattle.ic_set.specs.declared.pairs.ActivePair.{ActivePair as APair};
-ghost use Rattle.ic_set.specs.Pairs.{IsPairOf};
+ghost use Rattle.ic_set.specs.Pairs.{IsPairOf, IsActivePair};
 ghost use Rattle.ic_set.specs.Queues.{Leads, IsQueued, HasLeads, FrontLeads};
-ghost use Rattle.ic_set.specs.Removal.{Stands};
 
 use crate::bare::BareSet;
+use crate::pairs::ActivePair;
 use ic_link::LinkStore;
-use ic_name::{AgentId, EventId};
+use ic_name::AgentId;
 use ic_names::NameId;
 use ic_queue::LeadQueue;
 
@@ -30,21 +29,23 @@ pub(crate) fn put_all<L: LinkStore>(queue: &mut LeadQueue, set: &BareSet<L>, age
     }
 }
 
-/// Puts in each child of a standing event that leads an active pair. There is room for every name.
-pub(crate) fn put_children<L: LinkStore>(queue: &mut LeadQueue, set: &BareSet<L>, event: EventId)
-    requires standing { Stands set.now.set event }
+/// Puts in the lead of each of these pairs. There is room for every name.
+pub(crate) fn put_leads<L: LinkStore>(
+    queue: &mut LeadQueue,
+    set: &BareSet<L>,
+    pairs: &[Option<ActivePair>],
+)
+    requires active { (p : APair) → IsIn (Some p) pairs.now → IsActivePair set.now.set p }
     requires heap { IsHeap set.now.names queue.old.leads }
     requires room { length set.now.names ≤ queue.old.room }
     ensures heap { IsHeap set.now.names queue.new.leads }
     ensures stay { (n : Name) → IsQueued set.now.names queue.old.leads n → IsQueued set.now.names queue.new.leads n }
-    ensures led { (x : Stander) → IsIn x set.now.set.events → x.id ≡ event → (e : AnEvent) (p : APair) → IsPairOf set.now.set e p → IsIn p.lead x.born → IsQueued set.now.names queue.new.leads e.lead }
+    ensures led { (e : AnEvent) (p : APair) → IsPairOf set.now.set e p → IsIn (Some p) pairs.now → IsQueued set.now.names queue.new.leads e.lead }
     ensures room { queue.old.room ≤ queue.new.room }
 {
-    set.lawful();
-    let Some(entry) = set.roster().event(event) else {
-        unreachable!()
-    };
-    put_all(queue, set, entry.born);
+    for pair in pairs {
+        put_pair(queue, set, *pair);
+    }
 }
 
 /// Puts in the agent whose name is at this place, if it leads an active pair. There is room for every name.
@@ -61,6 +62,26 @@ pub(crate) fn put_lead<L: LinkStore>(queue: &mut LeadQueue, set: &BareSet<L>, na
     if is_lead(set, name) {
         queue.put(set.roster().names(), name);
     }
+}
+
+/// Puts in the lead of the pair, if there is one. There is room for every name.
+fn put_pair<L: LinkStore>(queue: &mut LeadQueue, set: &BareSet<L>, pair: Option<ActivePair>)
+    requires active { IfSome pair (λ p. IsActivePair set.now.set p) }
+    requires heap { IsHeap set.now.names queue.old.leads }
+    requires room { length set.now.names ≤ queue.old.room }
+    ensures heap { IsHeap set.now.names queue.new.leads }
+    ensures stay { (n : Name) → IsQueued set.now.names queue.old.leads n → IsQueued set.now.names queue.new.leads n }
+    ensures led { (e : AnEvent) (p : APair) → IsPairOf set.now.set e p → Some p ≡ pair → IsQueued set.now.names queue.new.leads e.lead }
+    ensures room { queue.old.room ≤ queue.new.room }
+{
+    set.lawful();
+    let Some(pair) = pair else {
+        return;
+    };
+    let Some(entry) = set.roster().agent(pair.lead) else {
+        unreachable!()
+    };
+    queue.put(set.roster().names(), entry.name);
 }
 
 /// Puts in the agent, if it leads an active pair. There is room for every name.

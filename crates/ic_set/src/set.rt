@@ -1,4 +1,5 @@
 ghost use Rattle.std.specs.Prelude.{◌≡◌, IfOk};
+ghost use Rattle.ic_names.specs.Tables.{IsTable};
 ghost use Rattle.ic_set.specs.Sets.{IsStandingSet};
 ghost use Rattle.ic_set.specs.Changes.{IsOver};
 
@@ -23,11 +24,11 @@ pub struct StandingSet<L: LinkStore> {
 
 impl<L: LinkStore> Model for StandingSet<L> {
     ghost use Rattle.ic_set.specs.Queues.{KeepsQueue};
-    ghost use Rattle.ic_set.specs.Views.{SetView};
+    ghost use Rattle.ic_set.specs.Views.{NamedView};
 
-    ghost Value = { SetView };
+    ghost Value = { NamedView };
 
-    ghost view = { λ a. a.bare.value.set };
+    ghost view = { λ a. a.bare.value };
 
     ghost invariant = { λ a. KeepsQueue a.bare.value a.queue.leads a.queue.room };
 }
@@ -35,7 +36,7 @@ impl<L: LinkStore> Model for StandingSet<L> {
 impl<L: LinkStore> StandingSet<L> {
     /// The empty set over a start.
     pub fn over(alloc: Global, start: Start) -> Result<StandingSet<L>, AllocError>
-        ensures { IfOk result (λ set. IsOver start set) }
+        ensures { IfOk result (λ set. IsOver start set.set) }
     {
         let bare = BareSet::over(alloc, start)?;
         bare.lawful();
@@ -52,22 +53,24 @@ impl<L: LinkStore> StandingSet<L> {
 
     /// What holds of every standing set, for whoever has to show it.
     pub fn lawful(&self)
-        ensures { IsStandingSet self.now }
+        ensures set { IsStandingSet self.now.set }
+        ensures table { IsTable self.now.names }
     {
         self.bare.lawful();
     }
 
     /// The start.
     pub fn start(&self) -> &Start
-        ensures { result.now ≡ self.now.start }
+        ensures { result.now ≡ self.now.set.start }
     {
         self.bare.start()
     }
 
-    /// The agents of the start and of the events, and the standing events.
+    /// The agents of the start and of the events, and the standing events, with the names that are known.
     pub fn roster(&self) -> &Roster
-        ensures agents { result.now.agents ≡ self.now.agents }
-        ensures events { result.now.events ≡ self.now.events }
+        ensures agents { result.now.agents ≡ self.now.set.agents }
+        ensures events { result.now.events ≡ self.now.set.events }
+        ensures names { result.now.names ≡ self.now.names }
     {
         self.bare.roster()
     }

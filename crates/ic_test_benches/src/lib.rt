@@ -2,6 +2,8 @@
 #![tactic(auto)]
 
 #[cfg(test)]
+mod absorbing;
+#[cfg(test)]
 mod answers;
 #[cfg(test)]
 mod both_stores;

@@ -27,7 +27,7 @@ use Rattle.ic_undo.specs.GoingBack.{AreFirable, AreFired, firing}
 use Rattle.ic_undo.proofs.FirableEvents.{firable-alike}
 
 -- none is fired at first
-pub none_fired : (v : BenchView) → AreFired v [] v
+unfoldable pub none_fired : (v : BenchView) → AreFired v [] v
 none_fired v = record { came = []; start = refl; fired = refl; events = alike_self v.events; lines = sym (append-nil v.lines); room = omega arith }
 
 -- where only the room changes no more are fired
@@ -43,7 +43,7 @@ fired_still old mid new es f s = record {
 
 module _ (mid new : BenchView) (e : Event) (id : EventId) (h : Fires mid e (Ok id) new) where
   -- one more is fired
-  pub fired_more : (old : BenchView) (es : List Event) → AreFired old es mid → AreFired old (es ++ e ∷ []) new
+  unfoldable pub fired_more : (old : BenchView) (es : List Event) → AreFired old es mid → AreFired old (es ++ e ∷ []) new
   fired_more old es f = record {
     came = f.came ++ h.1.entry ∷ [];
     start = h.0.start ∙ f.start;

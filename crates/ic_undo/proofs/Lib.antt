@@ -19,3 +19,13 @@ pub mod Places
 pub mod RestingCauses
 pub mod RestingOrder
 pub mod RestingSteps
+pub mod WithinSets
+pub mod LeastInTurn
+mod FreeToUndo
+mod ComingEvents
+mod TakenBack
+pub mod PairTests
+mod MissingNames
+mod ReadyPairs
+mod Absorbed
+mod TurnsTaken

@@ -59,3 +59,9 @@ parts (z ∷ front) i = elim (in-cons_cases i) [ inl e ↦ inl (front, subst (λ
 -- that element is in the list
 pub in_part : {X : Type 0} (front : List X) (x : X) (back : List X) → IsIn x (front ++ x ∷ back)
 in_part front x back = (front ++ back, pick_behind front here)
+
+-- what stands at a place of a list is in it
+pub in_at : {X : Type 0} (xs : List X) (k : ℕ) (d x : X) → k < length xs → get_or xs k d ≡ x → IsIn x xs
+in_at [] k d x h e = absurd (omega (arith, h))
+in_at (y ∷ xs) zero d x h e = subst (λ z. IsIn z (y ∷ xs)) e (in_first y xs)
+in_at (y ∷ xs) (suc k) d x h e = in_more y (in_at xs k d x (omega (arith, h)) e)

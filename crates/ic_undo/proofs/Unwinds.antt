@@ -16,8 +16,8 @@ use Rattle.ic_set.specs.Orders.{AreInOrder, IsAny}
 use Rattle.ic_journal.specs.Views.{BenchView, set_of}
 use Rattle.ic_journal.specs.Benches.{IsBench}
 use Rattle.ic_journal.specs.Reads.{NoneStands, IsRankOf}
-use Rattle.ic_undo.specs.Undone.{AreLastFirst, IsUnwound}
-use Rattle.ic_undo.specs.Backwards.{AreIdsOfFree, AreUndoneBack}
+use Rattle.ic_undo.specs.Undone.{AreLastFirst, AreUndone, IsCleared, IsUnwound}
+use Rattle.ic_undo.specs.Backwards.{AreIdsOfFree, AreUndoneBack, AreUndoneFrom}
 use Rattle.ic_undo.specs.Unwinding.{DontFit}
 use Rattle.ic_undo.proofs.Backs.{alike_reverse, map-reverse, in_behind, apart}
 use Rattle.ic_undo.proofs.PlacedEvents.{order_length}
@@ -59,16 +59,25 @@ unwound old new P ids names ok closed a back =
     let done = back a.order (in_free_order old P ids ok closed a) a.named in
     record { undone = reverse a.order; which = last_first old P ids a; did = done.0; named = done.1 }
 
--- where all events are unwound none is left
-pub nothing_left : (old new : BenchView) (names : List Pair) → HaveOwnLines old.events → IsUnwound old IsAny names new → new.events ≡ []
-nothing_left old new names own u = by new.events refl
+-- where all events are undone without their names, they were so many
+pub cleared : (old new : BenchView) (ids : List EventId) (count : ℕ) → IsBench old → AreWithDependents old IsAny → AreInOrder (set_of old) IsAny ids → AreUndoneFrom old ids new → count ≡ length ids → IsCleared old count new
+cleared old new ids count ok closed a back counted = record {
+  undone = reverse a.order;
+  which = last_first old IsAny ids a;
+  did = back a.order (in_free_order old IsAny ids ok closed a) a.named;
+  counted = counted ∙ sym (length-reverse a.order ∙ order_length a.order ids a.named);
+}
+
+-- where all events are undone none is left
+pub nothing_left : (old new : BenchView) (undone : List Stander) → HaveOwnLines old.events → AreLastFirst old IsAny undone → AreUndone old undone new → new.events ≡ []
+nothing_left old new undone own which did = by new.events refl
   where
     by : (es : List Stander) → new.events ≡ es → new.events ≡ []
     by [] e = e
     by (z ∷ zs) e =
         let left : IsIn z new.events = subst (λ xs. IsIn z xs) (sym e) (in_first z zs) in
-        let stood : IsIn z old.events = alike-in (alike_back u.did.events) (in_behind u.undone left) in
-        absurd (apart old own u.undone new.events u.did.events z (u.which.each.each z (stood, tt)) left)
+        let stood : IsIn z old.events = alike-in (alike_back did.events) (in_behind undone left) in
+        absurd (apart old own undone new.events did.events z (which.each.each z (stood, tt)) left)
 
 -- where no rank is found no such event stands
 pub none_stands : (v : BenchView) (d : EventId) (r : Option ℕ) → is_some r ≡ false → IsRankOf v d r → NoneStands v d

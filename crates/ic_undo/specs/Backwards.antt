@@ -23,6 +23,10 @@ pub record AreFree (v : BenchView) (order : List Stander) : Type 0 where
 abbrev pub AreIdsOfFree : BenchView → List EventId → Type 0
 AreIdsOfFree v ids = (order : List Stander) × AreFree v order × (map (λ x. x.id) order ≡ ids)
 
+-- the events under these ids were undone from the last one on
+abbrev pub AreUndoneFrom : BenchView → List EventId → BenchView → Type 0
+AreUndoneFrom old ids new = (order : List Stander) → AreFree old order → map (λ x. x.id) order ≡ ids → AreUndone old (reverse order) new
+
 -- the events under these ids were undone from the last one on, and these are their names in that order
 abbrev pub AreUndoneBack : BenchView → List EventId → List Pair → BenchView → Type 0
 AreUndoneBack old ids names new = (order : List Stander) → AreFree old order → map (λ x. x.id) order ≡ ids → AreUndone old (reverse order) new × (map (λ x. pair x.event) (reverse order) ≡ names)

@@ -1,12 +1,14 @@
 -- The numbers of faults.
 use Rattle.std.specs.Prelude.{ℕ}
-use Rattle.ic_name.specs.declared.numbers.TheConstants.{HISTORY_FULL, MEMORY, NOT_STANDING}
+use Rattle.ic_name.specs.declared.numbers.TheConstants.{DEEP, FULL, HISTORY_FULL, MEMORY, NEVER_ACTIVE, NOT_STANDING}
 use Rattle.ic_undo.specs.declared.faults.UnwindFault.{UnwindFault}
 use Rattle.ic_undo.specs.declared.faults.UnwindFault.TheVariants as unwind
 use Rattle.ic_undo.specs.declared.faults.UndoAllFault.{UndoAllFault}
 use Rattle.ic_undo.specs.declared.faults.UndoAllFault.TheVariants as undo_all
 use Rattle.ic_undo.specs.declared.faults.BackFault.{BackFault}
 use Rattle.ic_undo.specs.declared.faults.BackFault.TheVariants as back
+use Rattle.ic_undo.specs.declared.faults.AbsorbFault.{AbsorbFault}
+use Rattle.ic_undo.specs.declared.faults.AbsorbFault.TheVariants as absorb
 
 -- the number of a refusal of `unwind`
 abbrev pub unwind_number : UnwindFault → ℕ
@@ -23,3 +25,11 @@ undo_all_number undo_all.Memory = MEMORY
 abbrev pub back_number : BackFault → ℕ
 back_number back.HistoryFull = HISTORY_FULL
 back_number (back.Memory counts) = MEMORY
+
+-- the number of a refusal of `absorb`
+abbrev pub absorb_number : AbsorbFault → ℕ
+absorb_number (absorb.NeverActive p) = NEVER_ACTIVE
+absorb_number absorb.Deep = DEEP
+absorb_number absorb.Full = FULL
+absorb_number absorb.HistoryFull = HISTORY_FULL
+absorb_number absorb.Memory = MEMORY

@@ -4,3 +4,6 @@ pub mod Backwards
 pub mod Unwinding
 pub mod Marks
 pub mod GoingBack
+pub mod Absorbing
+pub mod Ready
+pub mod Coming

@@ -9,6 +9,7 @@ use Rattle.ic_path.specs.Orders.{IsIn, Alike}
 use Rattle.ic_path.specs.Rings.{HasEachOnce}
 use Rattle.ic_theory.specs.Causes.{IsCause, IsRank, canonical_cmp}
 use Rattle.ic_roster.specs.Rosters.{Member, Stander}
+use Rattle.ic_set.specs.Orders.{IsAny}
 use Rattle.ic_set.specs.Views.{standing, events_of}
 use Rattle.ic_journal.specs.Views.{BenchView, set_of}
 
@@ -41,3 +42,10 @@ pub record IsUnwound (old : BenchView) (P : Stander → Type 0) (names : List Pa
   pub which : AreLastFirst old P undone
   pub did : AreUndone old undone new
   pub named : map (λ x. pair x.event) undone ≡ names
+
+-- all events were undone, the last in canonical order first, and they were so many
+pub record IsCleared (old : BenchView) (count : ℕ) (new : BenchView) : Type 0 where
+  pub undone : List Stander
+  pub which : AreLastFirst old IsAny undone
+  pub did : AreUndone old undone new
+  pub counted : count ≡ length undone

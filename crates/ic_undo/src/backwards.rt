@@ -1,10 +1,9 @@
-ghost use Rattle.std.specs.Prelude.{◌≡◌, ◌≤◌, List, length, map, reverse, IfErr, IfOk};
+ghost use Rattle.std.specs.Prelude.{◌≡◌, ◌≤◌, List, length, map, reverse, IfErr, IfOk, OnOk};
 ghost use Rattle.ic_name.specs.Events.{pair};
 ghost use Rattle.ic_path.specs.Orders.{IsIn};
 ghost use Rattle.ic_roster.specs.Rosters.{Stander};
 ghost use Rattle.ic_journal.specs.Reads.{StandsIn};
-ghost use Rattle.ic_undo.specs.Undone.{AreUndone};
-ghost use Rattle.ic_undo.specs.Backwards.{AreFree, AreIdsOfFree, AreUndoneBack, ArentUndoneBack};
+ghost use Rattle.ic_undo.specs.Backwards.{AreIdsOfFree, AreUndoneBack, AreUndoneFrom, ArentUndoneBack};
 
 use ic_journal::{Bench, LinkStore, ReserveFault};
 use ic_name::{Event, EventId, EventName};
@@ -32,20 +31,34 @@ pub(crate) fn undo_back<L: LinkStore>(
     let Ok(names) = names_backwards(alloc, bench, ids) else {
         return Err(BackwardsFault::Memory);
     };
+    undo_unnamed(bench, ids)?;
+    Ok(names)
+}
+
+/// Undoes these events, the last one first. The room is reserved before the first of them is undone.
+pub(crate) fn undo_unnamed<L: LinkStore>(
+    bench: &mut Bench<L>,
+    ids: &[EventId],
+) -> Result<(), BackwardsFault>
+    requires { AreIdsOfFree bench.old ids.now }
+    ensures undone { OnOk result (AreUndoneFrom bench.old ids.now bench.new) }
+    ensures fault { IfErr result (λ fault. ArentUndoneBack bench.old ids.now fault bench.new) }
+{
+    bench.lawful();
     match bench.reserve(ids.len()) {
         Ok(()) => {}
         Err(ReserveFault::HistoryFull) => return Err(BackwardsFault::HistoryFull),
         Err(ReserveFault::Memory) => return Err(BackwardsFault::Memory),
     }
     undo_each(bench, ids);
-    Ok(names)
+    Ok(())
 }
 
 /// Undoes these events, the last one first, with the room that is reserved. It takes no memory.
 pub(crate) fn undo_each<L: LinkStore>(bench: &mut Bench<L>, ids: &[EventId])
     requires free { AreIdsOfFree bench.old ids.now }
     requires room { length ids.now ≤ bench.old.room }
-    ensures { (order : List Stander) → AreFree bench.old order → map (λ x. x.id) order ≡ ids.now → AreUndone bench.old (reverse order) bench.new }
+    ensures { AreUndoneFrom bench.old ids.now bench.new }
 {
     bench.lawful();
     for place in (0..ids.len()).rev() {

@@ -1,7 +1,7 @@
 ghost use Rattle.std.specs.Prelude.{◌≡◌};
-ghost use Rattle.ic_undo.specs.Faults.{back_number, undo_all_number, unwind_number};
+ghost use Rattle.ic_undo.specs.Faults.{absorb_number, back_number, undo_all_number, unwind_number};
 
-use ic_name::numbers;
+use ic_name::{EventName, numbers};
 use thiserror::Error;
 
 /// Why an event isn't unwound.
@@ -47,6 +47,21 @@ pub enum BackFault {
     Memory(Counts),
 }
 
+/// Why listed events aren't absorbed. What stood before stands then, under the ids that it had.
+#[derive(Drop)]
+pub enum AbsorbFault {
+    /// The least listed event that is in no sound set of what stood and what is listed.
+    NeverActive(EventName),
+    /// A listed event was active whose children's names would have too many digits.
+    Deep,
+    /// A listed event was active with which there would be too many agents.
+    Full,
+    /// The history would have more lines than it may have, with two for each listed event.
+    HistoryFull,
+    /// Memory ran out.
+    Memory,
+}
+
 impl UnwindFault {
     /// The number of the refusal: 24, 25 or 31.
     pub fn number(self) -> u8
@@ -80,6 +95,21 @@ impl BackFault {
         match self {
             BackFault::HistoryFull => numbers::HISTORY_FULL,
             BackFault::Memory(_) => numbers::MEMORY,
+        }
+    }
+}
+
+impl AbsorbFault {
+    /// The number of the refusal: 22, 23, 24, 25 or 51.
+    pub fn number(&self) -> u8
+        ensures { result ≡ absorb_number self.now }
+    {
+        match self {
+            AbsorbFault::NeverActive(_) => numbers::NEVER_ACTIVE,
+            AbsorbFault::Deep => numbers::DEEP,
+            AbsorbFault::Full => numbers::FULL,
+            AbsorbFault::HistoryFull => numbers::HISTORY_FULL,
+            AbsorbFault::Memory => numbers::MEMORY,
         }
     }
 }

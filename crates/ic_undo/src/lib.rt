@@ -2,18 +2,23 @@
 // them.
 #![tactic(auto)]
 
+pub mod absorbing;
 mod backwards;
 pub mod faults;
 pub mod going_back;
+pub mod laws;
 pub mod marking;
 pub mod marks;
 mod missing;
 mod outside;
+mod ready;
 mod resting;
+mod turns;
 pub mod unwinding;
 
-pub use faults::{BackFault, Counts, UndoAllFault, UnwindFault};
+pub use absorbing::absorb;
+pub use faults::{AbsorbFault, BackFault, Counts, UndoAllFault, UnwindFault};
 pub use going_back::back;
 pub use marking::mark;
 pub use marks::Mark;
-pub use unwinding::{undo_all, unwind};
+pub use unwinding::{clear, undo_all, unwind};

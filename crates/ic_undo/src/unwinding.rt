@@ -1,10 +1,10 @@
 ghost use Rattle.std.specs.Prelude.{◌≡◌, [], IfErr, IfOk, OnOk};
 ghost use Rattle.ic_journal.specs.Reads.{NoneStands};
 ghost use Rattle.ic_set.specs.Orders.{IsAny};
-ghost use Rattle.ic_undo.specs.Undone.{IsUnwound, RestsOn};
+ghost use Rattle.ic_undo.specs.Undone.{IsCleared, IsUnwound, RestsOn};
 ghost use Rattle.ic_undo.specs.Unwinding.{ArentUndone, IsntUnwound};
 
-use crate::backwards::{BackwardsFault, undo_back};
+use crate::backwards::{BackwardsFault, undo_back, undo_unnamed};
 use crate::faults::{UndoAllFault, UnwindFault};
 use crate::resting::resting_on;
 use ic_journal::{Bench, LinkStore};
@@ -60,6 +60,26 @@ pub fn undo_all<L: LinkStore>(
     };
     match undo_back(alloc, bench, &ids) {
         Ok(names) => Ok(names),
+        Err(BackwardsFault::HistoryFull) => Err(UndoAllFault::HistoryFull),
+        Err(BackwardsFault::Memory) => Err(UndoAllFault::Memory),
+    }
+}
+
+/// Undoes all events as `undo_all` does, and answers how many they are. It takes no memory for their names.
+///
+/// `HistoryFull` exactly where a line for each of them doesn't fit into the history, and then nothing has changed; else
+/// `Memory` may stand in place of the answer, and then nothing but the room may have changed.
+pub fn clear<L: LinkStore>(bench: &mut Bench<L>) -> Result<usize, UndoAllFault>
+    ensures undone { IfOk result (λ count. IsCleared bench.old count bench.new) }
+    ensures nothing { OnOk result (bench.new.events ≡ []) }
+    ensures fault { IfErr result (λ fault. ArentUndone bench.old fault bench.new) }
+{
+    bench.lawful();
+    let Ok(ids) = bench.standing() else {
+        return Err(UndoAllFault::Memory);
+    };
+    match undo_unnamed(bench, &ids) {
+        Ok(()) => Ok(ids.len()),
         Err(BackwardsFault::HistoryFull) => Err(UndoAllFault::HistoryFull),
         Err(BackwardsFault::Memory) => Err(UndoAllFault::Memory),
     }

@@ -1,6 +1,7 @@
 use Rattle.std.proofs.Common.{ℕ, List, sym, subst}
 use Rattle.ic_name.specs.Names.{Name}
 use Rattle.ic_roster.specs.Rosters.{IsNewName}
+use Rattle.ic_journal.specs.Calls.{Fires}
 use Rattle.ic_journal.specs.declared.faults.FireFault.TheVariants as fault
 use Rattle.ic_command.specs.declared.command.Command.TheVariants.{Fire}
 use Rattle.ic_answer.specs.declared.refused.Refused.TheVariants as refused
@@ -34,28 +35,28 @@ returns-in-Ok-fired g c =
 pub returns-in-Err-NotActive : goal.returns-in-Err-NotActive
 returns-in-Err-NotActive g c =
     let is = proposed_found c.args.bench.now c.args.event.now c.in-Ok.proposal c.in-Some.lead c.in-Some-agent.other c.lead.result.now c.other.result.now c.in-Some.ensures.found.0 c.in-Some-agent.ensures.found.0 c.lawful.ensures c.lawful-2.ensures c.lead.ensures c.other.ensures c.in-Some.ensures.found.1 c.in-Some-agent.ensures.found.1 c.in-Ok.ensures in
-    let refuses = fault_known c.args.bench.now c.fire-fired.new.self c.in-Ok.proposal c.fire-fired.result c.in-Err-NotActive.field-0 fault.NotActive c.in-Err-NotActive.is (rw c.in-Err-NotActive.is at c.in-Err-NotActive.field-0-is) c.fire-fired.ensures in
+    let refuses = fault_known (λ r. Fires c.args.bench.now c.in-Ok.proposal r c.fire-fired.new.self) c.fire-fired.result c.in-Err-NotActive.field-0 fault.NotActive c.in-Err-NotActive.is (rw c.in-Err-NotActive.is at c.in-Err-NotActive.field-0-is) c.fire-fired.ensures in
     fires_not_active c.args.bench.now c.fire-fired.new.self c.args.event.now c.in-Ok.proposal is c.lawful-3.ensures refuses.0
 
 pub returns-in-Err-Deep : goal.returns-in-Err-Deep
 returns-in-Err-Deep g c =
     let is = proposed_found c.args.bench.now c.args.event.now c.in-Ok.proposal c.in-Some.lead c.in-Some-agent.other c.lead.result.now c.other.result.now c.in-Some.ensures.found.0 c.in-Some-agent.ensures.found.0 c.lawful.ensures c.lawful-2.ensures c.lead.ensures c.other.ensures c.in-Some.ensures.found.1 c.in-Some-agent.ensures.found.1 c.in-Ok.ensures in
-    let refuses = fault_known c.args.bench.now c.fire-fired.new.self c.in-Ok.proposal c.fire-fired.result c.in-Err-Deep.field-0 fault.Deep c.in-Err-Deep.is (rw c.in-Err-Deep.is at c.in-Err-Deep.field-0-is) c.fire-fired.ensures in
+    let refuses = fault_known (λ r. Fires c.args.bench.now c.in-Ok.proposal r c.fire-fired.new.self) c.fire-fired.result c.in-Err-Deep.field-0 fault.Deep c.in-Err-Deep.is (rw c.in-Err-Deep.is at c.in-Err-Deep.field-0-is) c.fire-fired.ensures in
     fires_deep c.args.bench.now c.fire-fired.new.self c.args.event.now c.in-Ok.proposal is c.lawful-3.ensures refuses.0
 
 pub returns-in-Err-Full : goal.returns-in-Err-Full
 returns-in-Err-Full g c =
     let is = proposed_found c.args.bench.now c.args.event.now c.in-Ok.proposal c.in-Some.lead c.in-Some-agent.other c.lead.result.now c.other.result.now c.in-Some.ensures.found.0 c.in-Some-agent.ensures.found.0 c.lawful.ensures c.lawful-2.ensures c.lead.ensures c.other.ensures c.in-Some.ensures.found.1 c.in-Some-agent.ensures.found.1 c.in-Ok.ensures in
-    let refuses = fault_known c.args.bench.now c.fire-fired.new.self c.in-Ok.proposal c.fire-fired.result c.in-Err-Full.field-0 fault.Full c.in-Err-Full.is (rw c.in-Err-Full.is at c.in-Err-Full.field-0-is) c.fire-fired.ensures in
+    let refuses = fault_known (λ r. Fires c.args.bench.now c.in-Ok.proposal r c.fire-fired.new.self) c.fire-fired.result c.in-Err-Full.field-0 fault.Full c.in-Err-Full.is (rw c.in-Err-Full.is at c.in-Err-Full.field-0-is) c.fire-fired.ensures in
     fires_full c.args.bench.now c.fire-fired.new.self c.args.event.now c.in-Ok.proposal is c.lawful-3.ensures refuses.0
 
 pub returns-in-Err-HistoryFull : goal.returns-in-Err-HistoryFull
 returns-in-Err-HistoryFull g c =
     let is = proposed_found c.args.bench.now c.args.event.now c.in-Ok.proposal c.in-Some.lead c.in-Some-agent.other c.lead.result.now c.other.result.now c.in-Some.ensures.found.0 c.in-Some-agent.ensures.found.0 c.lawful.ensures c.lawful-2.ensures c.lead.ensures c.other.ensures c.in-Some.ensures.found.1 c.in-Some-agent.ensures.found.1 c.in-Ok.ensures in
-    let refuses = fault_known c.args.bench.now c.fire-fired.new.self c.in-Ok.proposal c.fire-fired.result c.in-Err-HistoryFull.field-0 (fault.HistoryFull c.in-Err-HistoryFull.field-0-0) c.in-Err-HistoryFull.is (rw c.in-Err-HistoryFull.is at c.in-Err-HistoryFull.field-0-is) c.fire-fired.ensures in
+    let refuses = fault_known (λ r. Fires c.args.bench.now c.in-Ok.proposal r c.fire-fired.new.self) c.fire-fired.result c.in-Err-HistoryFull.field-0 (fault.HistoryFull c.in-Err-HistoryFull.field-0-0) c.in-Err-HistoryFull.is (rw c.in-Err-HistoryFull.is at c.in-Err-HistoryFull.field-0-is) c.fire-fired.ensures in
     told_same c.args.bench.now c.fire-fired.new.self (Fire c.args.event.now) (refusal_text refused.HistoryFull) refuses.2 (tells_no_line c.args.bench.now c.args.event.now c.in-Ok.proposal is refuses.0)
 
 pub returns : goal.returns
 returns g c =
-    let refuses = fault_known c.args.bench.now c.fire-fired.new.self c.in-Ok.proposal c.fire-fired.result c.in-Err-Memory.field-0 (fault.Memory c.in-Err-Memory.field-0-0) c.in-Err-Memory.is (rw c.in-Err-Memory.is at c.in-Err-Memory.field-0-is) c.fire-fired.ensures in
+    let refuses = fault_known (λ r. Fires c.args.bench.now c.in-Ok.proposal r c.fire-fired.new.self) c.fire-fired.result c.in-Err-Memory.field-0 (fault.Memory c.in-Err-Memory.field-0-0) c.in-Err-Memory.is (rw c.in-Err-Memory.is at c.in-Err-Memory.field-0-is) c.fire-fired.ensures in
     stays_for_memory c.args.bench.now c.fire-fired.new.self (Fire c.args.event.now) tt refuses.2

@@ -9,7 +9,7 @@ use Rattle.ic_answer.proofs.StandingCauses.{tells_why, tells_none}
 use Rattle.ic_answer.proofs.FoundCauses.{rank_found, causes_there, causes_found, why_put}
 use Rattle.ic_path.specs.Orders.{IsIn}
 use Rattle.ic_roster.specs.Rosters.{Stander}
-use Rattle.ic_set.proofs.CauseRanks.{all_places}
+use Rattle.ic_set.proofs.NewEvents.{all_places}
 use Rattle.ic_answer.proofs.why.why.Goals as goal
 
 pub returns-in_default : goal.returns-in_default

@@ -1,14 +1,11 @@
-use Rattle.std.proofs.Common.{◌≡◌, Bool, true, false, List, ℕ, sym, ap, subst, ◌∙◌}
+use Rattle.std.proofs.Common.{◌≡◌, true, false, List, ℕ, subst}
 use Rattle.std.specs.Io.BufRead.{strip_last}
 use Rattle.std.proofs.lemmas.Result.{IfOk-weaker}
 use Rattle.ic_command.specs.declared.command.Command.{Command}
 use Rattle.ic_command.specs.Commands.{AreWordsOf, IsCommand, is_well_formed, said, unsaid}
 use Rattle.ic_command.specs.Words.{words}
+use Rattle.ic_command.proofs.Bodies.{body_test}
 use Rattle.ic_command.proofs.command.command_of.Goals as goal
-
--- the test of the body is one of the line without its end
-body_test : (line body : List ℕ) (r b : Bool) → body ≡ strip_last 13 line → r ≡ is_well_formed body → r ≡ b → is_well_formed (strip_last 13 line) ≡ b
-body_test line body r b e test is = ap is_well_formed (sym e) ∙ sym test ∙ is
 
 -- what the words of the body ask for, the line does
 body_said : (line body : List ℕ) (c : Command) → body ≡ strip_last 13 line → is_well_formed (strip_last 13 line) ≡ true → AreWordsOf (words body) c → IsCommand line c

@@ -1,21 +1,14 @@
-use Rattle.std.proofs.Common.{◌≡◌, ℕ, Bool, true, false, List, sym, ap, subst, ◌∙◌}
+use Rattle.std.proofs.Common.{◌≡◌, ℕ, true, false, List, sym, subst, ◌∙◌}
 use Rattle.std.specs.Prelude.{None}
 use Rattle.std.specs.Io.BufRead.{strip_last}
 use Rattle.ic_command.specs.declared.command.Command.{Command}
-use Rattle.ic_command.specs.declared.request.Request.{Request}
 use Rattle.ic_command.specs.declared.request.Request.TheVariants.{Bench}
 use Rattle.ic_command.specs.Commands.{IsCommand, is_well_formed}
 use Rattle.ic_command.specs.Requests.{AsksMark, IsMarkRequestIn, IsRequest, of_mark, of_bench}
 use Rattle.ic_command.specs.Words.{words}
+use Rattle.ic_command.proofs.Bodies.{body_test, apart}
 use Rattle.ic_command.proofs.request.request_of.Goals as goal
 use Rattle.ic_command.proofs.request.request_of.Goals.{then-is_well_formed+in_ok-request+in_default, else-is_well_formed}
-
--- the test of the body is one of the line without its end
-body_test : (line body : List ℕ) (r b : Bool) → body ≡ strip_last 13 line → r ≡ is_well_formed body → r ≡ b → is_well_formed (strip_last 13 line) ≡ b
-body_test line body r b e test is = ap is_well_formed (sym e) ∙ sym test ∙ is
-
-apart : ◌≡◌ {A = Bool} true false → ⊥
-apart e = cc
 
 -- a line that isn't well formed asks for nothing with a mark
 unformed : (line : List ℕ) (c : Command) → is_well_formed (strip_last 13 line) ≡ false → IsCommand line c → IsRequest line (Bench c)

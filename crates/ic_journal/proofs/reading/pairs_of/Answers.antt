@@ -19,7 +19,7 @@ loop-agent-preserved g c =
       | in-Some+in_ok-push w ↦
           let more = length-append c.loop-agent.pairs.items (w.in-Some.pair ∷ []) in
           rw (w.pairs-is, w.in_ok-push.ensures.items) (
-            All-append (λ pair. (e : Event) × IsPairOf c.args.set.now e pair) c.loop-agent.pairs.items (w.in-Some.pair ∷ []) c.loop-agent.invariant.0 (one (λ pair. (e : Event) × IsPairOf c.args.set.now e pair) w.in-Some.pair (w.in-Some.ensures.found.1, w.in-Some.ensures.found.2)),
+            All-append (λ pair. (e : Event) × IsPairOf c.args.set.now.set e pair) c.loop-agent.pairs.items (w.in-Some.pair ∷ []) c.loop-agent.invariant.0 (one (λ pair. (e : Event) × IsPairOf c.args.set.now.set e pair) w.in-Some.pair (w.in-Some.ensures.found.1, w.in-Some.ensures.found.2)),
             omega (arith, more, few),
           )
       | in_default w ↦ rw w.pairs-is (c.loop-agent.invariant.0, omega (arith, few))

@@ -1,10 +1,17 @@
-use Rattle.std.proofs.Common.{subst, arith, ◌∙◌}
+use Rattle.std.proofs.Common.{refl, subst, arith, ◌∙◌}
 use Rattle.ic_lines.specs.Left.{left}
 use Rattle.ic_cause.proofs.KeptViews.{at_error}
 use Rattle.ic_command.specs.declared.request.Request.{Request}
 use Rattle.ic_session.specs.Sessions.{IsAnswered, IsBrokenOff}
-use Rattle.ic_session.proofs.AnswerFacts.{answered_more, answered_all, all_answered, answered_begun, answered_broken, all_begun}
+use Rattle.ic_session.proofs.AnswerFacts.{answered_none, answered_more, answered_all, all_answered, answered_begun, answered_broken, all_begun}
 use Rattle.ic_session.proofs.session.answer_all.Goals as goal
+
+pub loop-line-init : goal.loop-line-init
+loop-line-init g c = record {
+  start = refl;
+  answered = λ st at. answered_none c.args.desk.bench.start c.args.workers c.args.budget st c.args.desk (left c.args.input.now (g.R.Read.remaining c.args.reader.now)) (g.W.Write.contents c.args.writer.now) at;
+  fewer = omega arith;
+}
 
 pub loop-line-preserved : goal.loop-line-preserved
 loop-line-preserved g c =

@@ -1,8 +1,33 @@
+use Rattle.std.proofs.Common.{◌≡◌, ℕ, List, subst}
+use Rattle.ic_command.specs.Asked.{IsAsked}
+use Rattle.ic_command.specs.declared.asked.Asked.{Asked}
 use Rattle.ic_lines.specs.Left.{left}
-use Rattle.ic_session.proofs.SessionFacts.{long_taken}
+use Rattle.ic_session.proofs.RequestsTaken.{alone_taken, long_request, absorb_taken, absorb_refused}
 use Rattle.ic_session.proofs.session.next_request.Goals as goal
 
-pub returns-in_ok-skip_line-in-TooLong-clause-taken : goal.returns-in_ok-skip_line-in-TooLong-clause-taken
-returns-in_ok-skip_line-in-TooLong-clause-taken g c =
-    long_taken (left c.args.input.now (g.R.Read.remaining c.args.reader.now)) (left c.next_line.new.self (g.R.Read.remaining c.next_line.new.reader)) (left c.skip_line.new.self (g.R.Read.remaining c.skip_line.new.reader))
-    c.next_line.new.line.items c.in_ok-next_line.field-0 c.in-TooLong.is c.in_ok-next_line.ensures.taken c.in_ok-skip_line-in-TooLong.ensures.skipped
+-- what the bytes that were read ask for, the line does
+asks : (bytes line : List ℕ) (a b : Asked) → bytes ≡ line → a ≡ b → IsAsked bytes a → IsAsked line b
+asks bytes line a b same is h = subst (IsAsked line) is (subst (λ xs. IsAsked xs a) same h)
+
+pub returns-in-Alone-clause-taken : goal.returns-in-Alone-clause-taken
+returns-in-Alone-clause-taken g c =
+    alone_taken (left c.args.input.now (g.R.Read.remaining c.args.reader.now)) (left c.take_line.new.input (g.R.Read.remaining c.take_line.new.reader))
+    c.take_line.new.line.items c.in-Line.field-0 c.in_ok-take_line.field-0 c.in-Alone.request c.in-Line.is c.in_ok-take_line.ensures.taken
+    (asks _ _ _ _ c.deref.ensures.value c.in-Alone.is c.in_ok-request-in-Line.ensures)
+
+pub returns-in-Some-clause-taken : goal.returns-in-Some-clause-taken
+returns-in-Some-clause-taken g c =
+    absorb_taken (left c.args.input.now (g.R.Read.remaining c.args.reader.now)) (left c.take_line.new.input (g.R.Read.remaining c.take_line.new.reader)) (left c.listed_events.new.input (g.R.Read.remaining c.listed_events.new.reader))
+    c.take_line.new.line.items c.in-Line.field-0 c.in_ok-take_line.field-0 c.in-Absorb.count c.in-Some.events c.in_ok-events-in-Absorb.field-0 c.in-Line.is c.in_ok-take_line.ensures.taken
+    (asks _ _ _ _ c.deref.ensures.value c.in-Absorb.is c.in_ok-request-in-Line.ensures) c.in-Some.is c.in_ok-events-in-Absorb.ensures.taken
+
+pub returns-in-None-clause-taken : goal.returns-in-None-clause-taken
+returns-in-None-clause-taken g c =
+    absorb_refused (left c.args.input.now (g.R.Read.remaining c.args.reader.now)) (left c.take_line.new.input (g.R.Read.remaining c.take_line.new.reader)) (left c.listed_events.new.input (g.R.Read.remaining c.listed_events.new.reader))
+    c.take_line.new.line.items c.in-Line.field-0 c.in_ok-take_line.field-0 c.in-Absorb.count c.in_ok-events-in-Absorb.field-0 c.in-Line.is c.in_ok-take_line.ensures.taken
+    (asks _ _ _ _ c.deref.ensures.value c.in-Absorb.is c.in_ok-request-in-Line.ensures) c.in-None.is c.in_ok-events-in-Absorb.ensures.taken
+
+pub returns-in-TooLong-clause-taken : goal.returns-in-TooLong-clause-taken
+returns-in-TooLong-clause-taken g c =
+    long_request (left c.args.input.now (g.R.Read.remaining c.args.reader.now)) (left c.take_line.new.input (g.R.Read.remaining c.take_line.new.reader))
+    c.take_line.new.line.items c.in_ok-take_line.field-0 c.in-TooLong.is c.in_ok-take_line.ensures.taken

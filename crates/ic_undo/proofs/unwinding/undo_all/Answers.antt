@@ -19,9 +19,9 @@ returns-in-Ok-undo_back-clause-undone g c =
 
 pub returns-in-Ok-undo_back-clause-nothing : goal.returns-in-Ok-undo_back-clause-nothing
 returns-in-Ok-undo_back-clause-nothing g c =
-    nothing_left c.args.bench.now c.undo_back.new.bench c.in-Ok-undo_back.names.items c.lawful.ensures.set.own_lines
-    (unwound c.args.bench.now c.undo_back.new.bench IsAny c.in-Ok.ids.items c.in-Ok-undo_back.names.items c.lawful.ensures (all_with_dependents c.args.bench.now) c.in-Ok.ensures
-    (subst (λ ids. AreUndoneBack c.args.bench.now ids c.in-Ok-undo_back.names.items c.undo_back.new.bench) c.deref.ensures.value c.in-Ok-undo_back.ensures.undone))
+    let u = unwound c.args.bench.now c.undo_back.new.bench IsAny c.in-Ok.ids.items c.in-Ok-undo_back.names.items c.lawful.ensures (all_with_dependents c.args.bench.now) c.in-Ok.ensures
+    (subst (λ ids. AreUndoneBack c.args.bench.now ids c.in-Ok-undo_back.names.items c.undo_back.new.bench) c.deref.ensures.value c.in-Ok-undo_back.ensures.undone) in
+    nothing_left c.args.bench.now c.undo_back.new.bench u.undone c.lawful.ensures.set.own_lines u.which u.did
 
 pub returns-in-Err-HistoryFull-clause-fault : goal.returns-in-Err-HistoryFull-clause-fault
 returns-in-Err-HistoryFull-clause-fault g c =

@@ -10,7 +10,7 @@ pub returns-in-Some : goal.returns-in-Some
 returns-in-Some c =
     let nodes = c.self.inside.nodes in
     let seen = causes_in c.args.self.now in
-    let is : dependents_at nodes c.args.event ≡ c.as_slice.result.now = ap (λ o. unwrap_or (option_map (λ n. n.dependents.items) o) []) (sym c.in-Some.ensures.value) ∙ sym c.as_slice.ensures in
+    let is : dependents_at nodes c.args.event ≡ c.as_slice.result.now = ap (λ o. unwrap_or (option_map (λ n. n.dependents.items) o) []) (sym c.in-Some.ensures) ∙ sym c.as_slice.ensures in
     subst (AreDependents seen c.args.event) is (dependents_seen nodes seen c.args.event (causes_seen_as nodes c.args.self.now c.self.view_is) c.self.invariant)
 
 pub returns-in-None : goal.returns-in-None
@@ -18,5 +18,5 @@ returns-in-None c =
     let nodes = c.self.inside.nodes in
     let seen = causes_in c.args.self.now in
     let none : List EventId = [] in
-    let is : dependents_at nodes c.args.event ≡ none = ap (λ o. unwrap_or (option_map (λ n. n.dependents.items) o) []) (sym c.in-None.ensures.value) in
+    let is : dependents_at nodes c.args.event ≡ none = ap (λ o. unwrap_or (option_map (λ n. n.dependents.items) o) []) (sym c.in-None.ensures) in
     subst (AreDependents seen c.args.event) is (dependents_seen nodes seen c.args.event (causes_seen_as nodes c.args.self.now c.self.view_is) c.self.invariant)

@@ -31,8 +31,8 @@ returns-clause-active g c = rw (← c.self.view_is) c.pairs_of.ensures.active
 
 pub returns-clause-few : goal.returns-clause-few
 returns-clause-few g c =
-    let there : IsIn (record { id = c.in-Some.standing; event = event_in c.roster-roster.result.now.names c.in-Some-event.entry.interaction; rank = c.in-Some-event.entry.rank; born = c.in-Some-event.entry.born.now }) c.self.inside.set.events = subst (λ (xs : List Stander). IsIn (record { id = c.in-Some.standing; event = event_in c.roster-roster.result.now.names c.in-Some-event.entry.interaction; rank = c.in-Some-event.entry.rank; born = c.in-Some-event.entry.born.now }) xs) c.roster-roster.ensures.events c.in-Some-event.ensures.found in
-    let own = c.lawful.ensures.children (record { id = c.in-Some.standing; event = event_in c.roster-roster.result.now.names c.in-Some-event.entry.interaction; rank = c.in-Some-event.entry.rank; born = c.in-Some-event.entry.born.now }) there in
+    let there : IsIn (record { id = c.in-Some.standing; event = event_in c.roster-roster.result.now.names c.in-Some-event.entry.interaction; rank = c.in-Some-event.entry.rank; born = c.in-Some-event.entry.born.now }) c.self.inside.set.set.events = subst (λ (xs : List Stander). IsIn (record { id = c.in-Some.standing; event = event_in c.roster-roster.result.now.names c.in-Some-event.entry.interaction; rank = c.in-Some-event.entry.rank; born = c.in-Some-event.entry.born.now }) xs) c.roster-roster.ensures.events c.in-Some-event.ensures.found in
+    let own = c.lawful.ensures.set.children (record { id = c.in-Some.standing; event = event_in c.roster-roster.result.now.names c.in-Some-event.entry.interaction; rank = c.in-Some-event.entry.rank; born = c.in-Some-event.entry.born.now }) there in
     let few = few_born (child_name (event_in c.roster-roster.result.now.names c.in-Some-event.entry.interaction).lead) c.in-Some-event.entry.interaction.lead_kind c.in-Some-event.entry.interaction.other_kind in
     let ids = ap length own.are.under in
     let by_id = length-map own.children (λ (m : Member). m.id) in

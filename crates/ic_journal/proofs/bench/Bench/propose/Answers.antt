@@ -20,19 +20,19 @@ returns-in_default-agent g c = rw (← c.self.view_is) (inr (inl (subst (λ (ms 
 
 pub returns-in-Ok-Some : goal.returns-in-Ok-Some
 returns-in-Ok-Some g c =
-    let left : IsIn (record { id = c.args.a; name = name_at c.roster-roster.result.now.names c.in-Some.left.name.place; kind = c.in-Some.left.kind }) c.self.inside.set.agents = subst (λ (ms : List Member). IsIn (record { id = c.args.a; name = name_at c.roster-roster.result.now.names c.in-Some.left.name.place; kind = c.in-Some.left.kind }) ms) c.roster-roster.ensures.agents c.in-Some.ensures.found in
-    let right : IsIn (record { id = c.args.b; name = name_at c.roster-roster.result.now.names c.in-Some-agent.right.name.place; kind = c.in-Some-agent.right.kind }) c.self.inside.set.agents = subst (λ (ms : List Member). IsIn (record { id = c.args.b; name = name_at c.roster-roster.result.now.names c.in-Some-agent.right.name.place; kind = c.in-Some-agent.right.kind }) ms) c.roster-roster.ensures.agents c.in-Some-agent.ensures.found in
+    let left : IsIn (record { id = c.args.a; name = name_at c.roster-roster.result.now.names c.in-Some.left.name.place; kind = c.in-Some.left.kind }) c.self.inside.set.set.agents = subst (λ (ms : List Member). IsIn (record { id = c.args.a; name = name_at c.roster-roster.result.now.names c.in-Some.left.name.place; kind = c.in-Some.left.kind }) ms) c.roster-roster.ensures.agents c.in-Some.ensures.found in
+    let right : IsIn (record { id = c.args.b; name = name_at c.roster-roster.result.now.names c.in-Some-agent.right.name.place; kind = c.in-Some-agent.right.kind }) c.self.inside.set.set.agents = subst (λ (ms : List Member). IsIn (record { id = c.args.b; name = name_at c.roster-roster.result.now.names c.in-Some-agent.right.name.place; kind = c.in-Some-agent.right.kind }) ms) c.roster-roster.ensures.agents c.in-Some-agent.ensures.found in
     rw (← c.self.view_is) (record { left = record { id = c.args.a; name = name_at c.roster-roster.result.now.names c.in-Some.left.name.place; kind = c.in-Some.left.kind }; right = record { id = c.args.b; name = name_at c.roster-roster.result.now.names c.in-Some-agent.right.name.place; kind = c.in-Some-agent.right.kind }; left_there = left; right_there = right; left_id = refl; right_id = refl; apart = apart c.args.a c.args.b c.if-eq.ensures; event = rw (c.names.ensures, c.in-Ok-Some.field-0-is) at c.in-Ok-Some.ensures.made })
 
 pub returns-in-Ok-None : goal.returns-in-Ok-None
 returns-in-Ok-None g c =
-    let left : IsIn (record { id = c.args.a; name = name_at c.roster-roster.result.now.names c.in-Some.left.name.place; kind = c.in-Some.left.kind }) c.self.inside.set.agents = subst (λ (ms : List Member). IsIn (record { id = c.args.a; name = name_at c.roster-roster.result.now.names c.in-Some.left.name.place; kind = c.in-Some.left.kind }) ms) c.roster-roster.ensures.agents c.in-Some.ensures.found in
-    let right : IsIn (record { id = c.args.b; name = name_at c.roster-roster.result.now.names c.in-Some-agent.right.name.place; kind = c.in-Some-agent.right.kind }) c.self.inside.set.agents = subst (λ (ms : List Member). IsIn (record { id = c.args.b; name = name_at c.roster-roster.result.now.names c.in-Some-agent.right.name.place; kind = c.in-Some-agent.right.kind }) ms) c.roster-roster.ensures.agents c.in-Some-agent.ensures.found in
+    let left : IsIn (record { id = c.args.a; name = name_at c.roster-roster.result.now.names c.in-Some.left.name.place; kind = c.in-Some.left.kind }) c.self.inside.set.set.agents = subst (λ (ms : List Member). IsIn (record { id = c.args.a; name = name_at c.roster-roster.result.now.names c.in-Some.left.name.place; kind = c.in-Some.left.kind }) ms) c.roster-roster.ensures.agents c.in-Some.ensures.found in
+    let right : IsIn (record { id = c.args.b; name = name_at c.roster-roster.result.now.names c.in-Some-agent.right.name.place; kind = c.in-Some-agent.right.kind }) c.self.inside.set.set.agents = subst (λ (ms : List Member). IsIn (record { id = c.args.b; name = name_at c.roster-roster.result.now.names c.in-Some-agent.right.name.place; kind = c.in-Some-agent.right.kind }) ms) c.roster-roster.ensures.agents c.in-Some-agent.ensures.found in
     let differ : (name_at c.roster-roster.result.now.names c.in-Some.left.name.place ≢ name_at c.roster-roster.result.now.names c.in-Some-agent.right.name.place) → ⊥ = rw (c.names.ensures, c.in-Ok-None.field-0-is) at c.in-Ok-None.ensures.none in
-    absurd (differ (λ e. apart c.args.a c.args.b c.if-eq.ensures (ap (λ (m : Member). m.id) (same_member c.self.inside.set.agents (record { id = c.args.a; name = name_at c.roster-roster.result.now.names c.in-Some.left.name.place; kind = c.in-Some.left.kind }) (record { id = c.args.b; name = name_at c.roster-roster.result.now.names c.in-Some-agent.right.name.place; kind = c.in-Some-agent.right.kind }) c.lawful.ensures.own_names left right (inr e)))))
+    absurd (differ (λ e. apart c.args.a c.args.b c.if-eq.ensures (ap (λ (m : Member). m.id) (same_member c.self.inside.set.set.agents (record { id = c.args.a; name = name_at c.roster-roster.result.now.names c.in-Some.left.name.place; kind = c.in-Some.left.kind }) (record { id = c.args.b; name = name_at c.roster-roster.result.now.names c.in-Some-agent.right.name.place; kind = c.in-Some-agent.right.kind }) c.lawful.ensures.set.own_names left right (inr e)))))
 
 pub returns-in-Err : goal.returns-in-Err
 returns-in-Err g c =
-    let left : IsIn (record { id = c.args.a; name = name_at c.roster-roster.result.now.names c.in-Some.left.name.place; kind = c.in-Some.left.kind }) c.self.inside.set.agents = subst (λ (ms : List Member). IsIn (record { id = c.args.a; name = name_at c.roster-roster.result.now.names c.in-Some.left.name.place; kind = c.in-Some.left.kind }) ms) c.roster-roster.ensures.agents c.in-Some.ensures.found in
-    let right : IsIn (record { id = c.args.b; name = name_at c.roster-roster.result.now.names c.in-Some-agent.right.name.place; kind = c.in-Some-agent.right.kind }) c.self.inside.set.agents = subst (λ (ms : List Member). IsIn (record { id = c.args.b; name = name_at c.roster-roster.result.now.names c.in-Some-agent.right.name.place; kind = c.in-Some-agent.right.kind }) ms) c.roster-roster.ensures.agents c.in-Some-agent.ensures.found in
+    let left : IsIn (record { id = c.args.a; name = name_at c.roster-roster.result.now.names c.in-Some.left.name.place; kind = c.in-Some.left.kind }) c.self.inside.set.set.agents = subst (λ (ms : List Member). IsIn (record { id = c.args.a; name = name_at c.roster-roster.result.now.names c.in-Some.left.name.place; kind = c.in-Some.left.kind }) ms) c.roster-roster.ensures.agents c.in-Some.ensures.found in
+    let right : IsIn (record { id = c.args.b; name = name_at c.roster-roster.result.now.names c.in-Some-agent.right.name.place; kind = c.in-Some-agent.right.kind }) c.self.inside.set.set.agents = subst (λ (ms : List Member). IsIn (record { id = c.args.b; name = name_at c.roster-roster.result.now.names c.in-Some-agent.right.name.place; kind = c.in-Some-agent.right.kind }) ms) c.roster-roster.ensures.agents c.in-Some-agent.ensures.found in
     rw (← c.self.view_is) (apart c.args.a c.args.b c.if-eq.ensures, λ none. none _ left refl, λ none. none _ right refl)

@@ -20,9 +20,9 @@ use Rattle.ic_past.proofs.past.Past.causes.Goals as goal
 
 pub returns-in-Some : goal.returns-in-Some
 returns-in-Some c =
-    let v = c.self.inside.set in
+    let v = c.self.inside.set.set in
     let ds = c.self.inside.deep.items in
-    let set = c.lawful.ensures in
+    let set = c.lawful.ensures.set in
     let k = c.self.invariant in
     let d = c.in-Some.ensures.found in
     let there = subst (λ (xs : List DeepEvent). IsIn d.0 xs) c.deref.ensures.value (found_in c.deref.result.now c.in-Some.place d.0 d.1) in
@@ -37,7 +37,7 @@ returns-in-Some c =
 
 pub returns-in_default-find_event : goal.returns-in_default-find_event
 returns-in_default-find_event c =
-    let v = c.self.inside.set in
+    let v = c.self.inside.set.set in
     let ds = c.self.inside.deep.items in
     rw (← c.self.view_is) (λ e i q. elim (pick_part (deep_events ds) (standing v) i.1) [
       | inl j ↦ (
@@ -50,9 +50,9 @@ returns-in_default-find_event c =
 
 pub returns : goal.returns
 returns c =
-    let v = c.self.inside.set in
+    let v = c.self.inside.set.set in
     let ds = c.self.inside.deep.items in
-    let set = c.lawful.ensures in
+    let set = c.lawful.ensures.set in
     let k = c.self.invariant in
     let x = c.in-Some-find_event.ensures.found in
     let there = subst (λ (ss : List Stander). IsIn x.0 ss) c.roster-2.ensures.events x.1 in

@@ -19,7 +19,7 @@ invariant_of-self c =
     let at = subst (λ (xs : List DeepEvent). slice_get xs c.in-Some.place ≡ Some d.0) c.deref.ensures.value d.1 in
     let left : Alike ds (d.0 ∷ c.swap_remove.new.self.items) =
     subst (λ (xs : List DeepEvent). Alike ds (d.0 ∷ xs)) (sym c.swap_remove.ensures.items) (found_left ds c.in-Some.place d.0 c.swap_remove.result at) in
-    keeps_fewer c.self.inside.set c.lawful.ensures ds c.self.invariant d.0 c.swap_remove.new.self.items left
+    keeps_fewer c.self.inside.set.set c.lawful.ensures.set ds c.self.invariant d.0 c.swap_remove.new.self.items left
 
 pub returns-in-Some : goal.returns-in-Some
 returns-in-Some c =
@@ -29,15 +29,15 @@ returns-in-Some c =
     let left : Alike ds (d.0 ∷ c.swap_remove.new.self.items) =
     subst (λ (xs : List DeepEvent). Alike ds (d.0 ∷ xs)) (sym c.swap_remove.ensures.items) (found_left ds c.in-Some.place d.0 c.swap_remove.result at) in
     let named : pair d.0.event ≡ c.args.event.now = d.2 ∙ (λ i. record { lead = c.lead.ensures i; other = c.other.ensures i }) in
-    rw (← c.self.view_is) (undoes_deep c.self.inside.set c.lawful.ensures ds c.self.invariant d.0 c.swap_remove.new.self.items left c.args.event.now named)
+    rw (← c.self.view_is) (undoes_deep c.self.inside.set.set c.lawful.ensures.set ds c.self.invariant d.0 c.swap_remove.new.self.items left c.args.event.now named)
 
 pub returns-in_default-find_event : goal.returns-in_default-find_event
 returns-in_default-find_event c =
     let ds = c.self.inside.deep.items in
     let new : (d : DeepEvent) → IsIn d ds → pair d.event ≡ c.args.event.now → ⊥ =
     λ d i q. c.in_default.ensures.absent d (rw c.deref.ensures.value i) (q ∙ (λ j. record { lead = sym c.lead.ensures j; other = sym c.other.ensures j })) in
-    let none : (x : Stander) → IsIn x c.self.inside.set.events → pair x.event ≡ c.args.event.now → ⊥ = λ x i. c.in_default-find_event.ensures.absent x (rw c.roster.ensures.events i) in
-    rw (← c.self.view_is) (undoes_none c.self.inside.set c.lawful.ensures ds c.self.invariant c.args.event.now new none)
+    let none : (x : Stander) → IsIn x c.self.inside.set.set.events → pair x.event ≡ c.args.event.now → ⊥ = λ x i. c.in_default-find_event.ensures.absent x (rw c.roster.ensures.events i) in
+    rw (← c.self.view_is) (undoes_none c.self.inside.set.set c.lawful.ensures.set ds c.self.invariant c.args.event.now new none)
 
 pub returns-then-rest_on : goal.returns-then-rest_on
 returns-then-rest_on c =
@@ -49,12 +49,12 @@ returns-then-rest_on c =
     rw (← c.self.view_is) (elim c.then-rest_on.branch [
       | then-rest_on-via-then-rest_on w ↦ (
           let d = c.rest_on.ensures.0 w.if-rest_on.true in
-          undoes_rested c.self.inside.set c.lawful.ensures ds c.self.invariant c.args.event.now new x.0 there x.3 d.0
+          undoes_rested c.self.inside.set.set c.lawful.ensures.set ds c.self.invariant c.args.event.now new x.0 there x.3 d.0
           (subst (λ (xs : List DeepEvent). IsIn d.0 xs) c.deref-2.ensures.value d.1) (subst (λ e. IsIn e d.0.causes.items) (sym x.2) d.2))
       | then-rest_on-via-else-rest_on+then-is_some w ↦ (
           let l = at_some w.least_dependent.result (sym w.is_some.ensures ∙ w.if-is_some.true) w.least_dependent.ensures.found in
-          undoes_held c.self.inside.set c.lawful.ensures ds c.self.invariant c.args.event.now new x.0 there x.3 l.0
-          (subst (λ e. IsLeast c.self.inside.set e l.0) (sym x.2) l.1))
+          undoes_held c.self.inside.set.set c.lawful.ensures.set ds c.self.invariant c.args.event.now new x.0 there x.3 l.0
+          (subst (λ e. IsLeast c.self.inside.set.set e l.0) (sym x.2) l.1))
     ])
 
 pub take_out-requires-clause-free : goal.take_out-requires-clause-free
@@ -72,8 +72,8 @@ invariant_of-self-2 c =
     let t = c.rest_on.ensures.1 (w.0, rw c.deref-2.ensures.value w.1, subst (λ e. IsIn e w.0.causes.items) x.2 w.2) in
     let f = c.if-rest_on.false in
     cc) in
-    keeps_left c.self.inside.set c.lawful.ensures ds c.self.invariant c.args.event.now new x.0 there x.3 c.take_out.new.self
-    (subst (λ e. TakesOut c.self.inside.set e c.take_out.new.self) (sym x.2) c.take_out.ensures) (subst (IsFree c.self.inside.set) (sym x.2) free) rests
+    keeps_left c.self.inside.set.set c.lawful.ensures.set ds c.self.invariant c.args.event.now new x.0 there x.3 c.take_out.new.self.set
+    (subst (λ e. TakesOut c.self.inside.set.set e c.take_out.new.self.set) (sym x.2) c.take_out.ensures.out) (subst (IsFree c.self.inside.set.set) (sym x.2) free) rests
 
 pub returns : goal.returns
 returns c =
@@ -87,5 +87,5 @@ returns c =
     let t = c.rest_on.ensures.1 (w.0, rw c.deref-2.ensures.value w.1, subst (λ e. IsIn e w.0.causes.items) x.2 w.2) in
     let f = c.if-rest_on.false in
     cc) in
-    rw (← c.self.view_is) (undoes_left c.self.inside.set c.lawful.ensures ds c.self.invariant c.args.event.now new x.0 there x.3 c.take_out.new.self
-    (subst (λ e. TakesOut c.self.inside.set e c.take_out.new.self) (sym x.2) c.take_out.ensures) (subst (IsFree c.self.inside.set) (sym x.2) free) rests)
+    rw (← c.self.view_is) (undoes_left c.self.inside.set.set c.lawful.ensures.set ds c.self.invariant c.args.event.now new x.0 there x.3 c.take_out.new.self.set
+    (subst (λ e. TakesOut c.self.inside.set.set e c.take_out.new.self.set) (sym x.2) c.take_out.ensures.out) (subst (IsFree c.self.inside.set.set) (sym x.2) free) rests)

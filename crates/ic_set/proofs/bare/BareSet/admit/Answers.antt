@@ -5,12 +5,14 @@ use Rattle.ic_name.specs.declared.ids.AgentId.{AgentId}
 use Rattle.ic_path.specs.Orders.{Alike}
 use Rattle.ic_path.proofs.Alikes.{alike_self, alike_back}
 use Rattle.ic_link.specs.Links.{IsLawful}
+use Rattle.ic_theory.specs.Born.{born_agents}
+use Rattle.ic_theory.specs.Machine.{IsDeep}
 use Rattle.ic_cause.specs.Dependents.{causes_in}
 use Rattle.ic_cause.proofs.KeptViews.{at_error}
 use Rattle.ic_roster.specs.declared.interaction.Interaction.{Interaction}
 use Rattle.ic_roster.specs.Rosters.{Member, Stander, event_in, IsNamed}
 use Rattle.ic_set.specs.Entering.{agents_in, GrowsBy, Enters}
-use Rattle.ic_set.specs.Views.{SetView, BareView}
+use Rattle.ic_set.specs.Views.{SetView, NamedView}
 use Rattle.ic_set.specs.Sets.{IsStandingSet}
 use Rattle.ic_set.proofs.GrownNames.{grown_keeps, kept_event}
 use Rattle.ic_set.proofs.KeptOrders.{kept_alike}
@@ -24,28 +26,35 @@ same_alike {xs = xs} same = subst (λ zs. Alike xs zs) (sym same) (alike_self xs
 pub returns-in_err-causes-clause-unchanged : goal.returns-in_err-causes-clause-unchanged
 returns-in_err-causes-clause-unchanged g c = at_error _ (same_self _)
 
-pub rank_over-requires-clause-low : goal.rank_over-requires-clause-low
-rank_over-requires-clause-low g c = ranks_fit c.args.self.now.set (subst (λ (w : BareView). IsStandingSet w.set) c.self.view_is c.self.invariant.set) c.requires.few_events
+pub rank_over-rank-requires-clause-low : goal.rank_over-rank-requires-clause-low
+rank_over-rank-requires-clause-low g c = ranks_fit c.args.self.now.set (subst (λ (w : NamedView). IsStandingSet w.set) c.self.view_is c.self.invariant.set) c.requires.few_events
 
-pub rank_over-requires-clause-standing : goal.rank_over-requires-clause-standing
-rank_over-requires-clause-standing g c = λ d i. (let y = c.in_ok-causes.ensures.only d (rw c.deref.ensures.value at i) in (y.0, y.1, y.2))
+pub rank_over-rank-requires-clause-standing : goal.rank_over-rank-requires-clause-standing
+rank_over-rank-requires-clause-standing g c = λ d i. (let y = (c.in_ok-causes.ensures c.requires.active.0 c.requires.active.1).only d (rw c.deref.ensures.value at i) in (y.0, y.1, y.2))
 
-pub returns-in_err-rank-clause-unchanged : goal.returns-in_err-rank-clause-unchanged
-returns-in_err-rank-clause-unchanged g c = at_error _ (same_self _)
+pub children_for-requires-clause-shallow : goal.children_for-requires-clause-shallow
+children_for-requires-clause-shallow g c =
+    let e = c.requires.active.0 in
+    let active = c.requires.active.1 in
+    let same = rw (← c.self.view_is) at (c.interaction_of-interaction.ensures.event e active) in
+    subst (λ (f : Event). ¬ (IsDeep f)) (sym same) (c.requires.shallow e active)
 
 pub returns-in_err-children-clause-unchanged : goal.returns-in_err-children-clause-unchanged
 returns-in_err-children-clause-unchanged g c =
     let v : SetView = record { start = c.self.inside.start; agents = c.self.inside.roster.agents; events = c.self.inside.roster.events } in
-    at_error _ (same_again {v = v} (ap (λ (w : BareView). w.set) c.self.view_is) (same_alike c.children_for.ensures.agents) (same_alike c.children_for.ensures.events))
+    at_error _ (same_again {v = v} (ap (λ (w : NamedView). w.set) c.self.view_is) (same_alike c.children_for.ensures.agents) (same_alike c.children_for.ensures.events))
 
 pub enter_all-requires-clause-can : goal.enter_all-requires-clause-can
 enter_all-requires-clause-can g c =
+    let e = c.requires.active.0 in
+    let active = c.requires.active.1 in
+    let same = rw (← c.self.view_is) at (c.interaction_of-interaction.ensures.event e active) in
     let view = c.self.inside in
     let v : SetView = record { start = view.start; agents = view.roster.agents; events = view.roster.events } in
     let ls = g.L.LinkStore.links view.store in
     let kept = causes_in view.dependents in
     rw (c.children_for.ensures.agents, c.deref-2.ensures.value)
-    (can_enter v c.args.self.now.set (ap (λ (w : BareView). w.set) c.self.view_is) ls kept c.self.invariant c.args.event.now c.args.pair c.requires.active c.args.line c.requires.new_line _ c.in_ok-children.ensures.children)
+    (can_enter v c.args.self.now.set (ap (λ (w : NamedView). w.set) c.self.view_is) ls kept c.self.invariant e c.args.pair active c.args.line c.requires.new_line _ (c.in_ok-children.ensures.children ∙ ap born_agents same))
 
 pub invariant_of-self-in_err-born : goal.invariant_of-self-in_err-born
 invariant_of-self-in_err-born g c =
@@ -56,7 +65,7 @@ pub returns-in_err-born-clause-unchanged : goal.returns-in_err-born-clause-uncha
 returns-in_err-born-clause-unchanged g c =
     let view = c.self.inside in
     let v : SetView = record { start = view.start; agents = view.roster.agents; events = view.roster.events } in
-    at_error _ (same_again {v = v} (ap (λ (w : BareView). w.set) c.self.view_is) (rw c.children_for.ensures.agents at c.in_err-born.ensures.unchanged) (same_alike (c.enter_all.ensures.events ∙ c.children_for.ensures.events)))
+    at_error _ (same_again {v = v} (ap (λ (w : NamedView). w.set) c.self.view_is) (rw c.children_for.ensures.agents at c.in_err-born.ensures.unchanged) (same_alike (c.enter_all.ensures.events ∙ c.children_for.ensures.events)))
 
 -- the event of the two agents is still the one that was asked for
 its_event : {before after entered : List Name} {i : Interaction} {e : Event} → GrowsBy 4 before after → IsNamed before i → event_in before i ≡ e → entered ≡ after → event_in entered i ≡ e
@@ -64,58 +73,62 @@ its_event {before} {after} {i = i} grown named same is = ap (λ ns. event_in ns 
 
 pub put_event-requires-clause-can : goal.put_event-requires-clause-can
 put_event-requires-clause-can g c =
+    let e = c.requires.active.0 in
+    let active = c.requires.active.1 in
     let view = c.self.inside in
     let v : SetView = record { start = view.start; agents = view.roster.agents; events = view.roster.events } in
     let ls = g.L.LinkStore.links view.store in
     let kept = causes_in view.dependents in
-    let same = rw (← c.self.view_is) at (c.interaction_of-interaction.ensures.event c.args.event.now c.requires.active) in
+    let same = rw (← c.self.view_is) at (c.interaction_of-interaction.ensures.event e active) in
     let its = its_event c.children_for.ensures.grown (rw (← c.self.view_is) at c.interaction_of-interaction.ensures.named) same c.enter_all.ensures.names in
     let events = c.enter_all.ensures.events ∙ c.children_for.ensures.events in
-    let ends = ends_same c.outcome-rules.ensures.links c.profile.ensures c.lead_kind.ensures c.other_kind.ensures in
+    let ends = ends_same c.outcome-rules.ensures.links c.profile.ensures (ap (λ (e : Event). e.lead_kind) same) (ap (λ (e : Event). e.other_kind) same) in
     let enters : Enters v.agents (agents_in c.children_for.new.roster.names c.in_ok-children.children.items) (c.args.line + 1) c.in_ok-born.born.items c.enter_all.new.roster.agents = rw (c.children_for.ensures.agents, c.deref-2.ensures.value) at c.in_ok-born.ensures.entered in
     let lawful : IsLawful ls = record { slim = c.lawful.ensures.slim; own_ids = c.lawful.ensures.own_ids } in
     rw (its, c.deref-3.ensures.value, ends, c.deref-4.ensures.value, events)
-    (can_put_in v c.args.self.now.set (ap (λ (w : BareView). w.set) c.self.view_is) ls kept c.self.invariant c.args.event.now c.args.pair c.requires.active c.args.line c.requires.new_line
-    _ c.in_ok-children.ensures.children c.in_ok-born.born.items _ enters c.lawful-2.ensures.names
-    c.in_ok-rank.rank c.in_ok-causes.causes.items c.in_ok-causes.ensures lawful)
+    (can_put_in v c.args.self.now.set (ap (λ (w : NamedView). w.set) c.self.view_is) ls kept c.self.invariant e c.args.pair active c.args.line c.requires.new_line
+    _ (c.in_ok-children.ensures.children ∙ ap born_agents same) c.in_ok-born.born.items _ enters c.lawful-2.ensures.names
+    c.rank_over-rank.result c.in_ok-causes.causes.items (c.in_ok-causes.ensures e active) lawful)
 
 pub invariant_of-self-in-Ok : goal.invariant_of-self-in-Ok
 invariant_of-self-in-Ok g c =
+    let e = c.requires.active.0 in
+    let active = c.requires.active.1 in
     let view = c.self.inside in
     let v : SetView = record { start = view.start; agents = view.roster.agents; events = view.roster.events } in
     let ls = g.L.LinkStore.links view.store in
     let kept = causes_in view.dependents in
-    let same = rw (← c.self.view_is) at (c.interaction_of-interaction.ensures.event c.args.event.now c.requires.active) in
+    let same = rw (← c.self.view_is) at (c.interaction_of-interaction.ensures.event e active) in
     let its = its_event c.children_for.ensures.grown (rw (← c.self.view_is) at c.interaction_of-interaction.ensures.named) same c.enter_all.ensures.names in
     let events = c.enter_all.ensures.events ∙ c.children_for.ensures.events in
-    let ends = ends_same c.outcome-rules.ensures.links c.profile.ensures c.lead_kind.ensures c.other_kind.ensures in
+    let ends = ends_same c.outcome-rules.ensures.links c.profile.ensures (ap (λ (e : Event). e.lead_kind) same) (ap (λ (e : Event). e.other_kind) same) in
     let enters : Enters v.agents (agents_in c.children_for.new.roster.names c.in_ok-children.children.items) (c.args.line + 1) c.in_ok-born.born.items c.enter_all.new.roster.agents = rw (c.children_for.ensures.agents, c.deref-2.ensures.value) at c.in_ok-born.ensures.entered in
-    let over = rw c.deref.ensures.value at c.in_ok-rank.ensures in
+    let over = rw c.deref.ensures.value at c.rank_over-rank.ensures in
     let puts = rw (its, c.deref-3.ensures.value, ends, c.deref-4.ensures.value, events) at c.in-Ok.ensures.put.1 in
     rw c.put_event.ensures.agents
-    (put_keeps v c.args.self.now.set (ap (λ (w : BareView). w.set) c.self.view_is) ls kept c.self.invariant c.args.event.now c.args.pair c.requires.active c.args.line c.requires.new_line
-    _ c.in_ok-children.ensures.children c.in_ok-born.born.items _ enters c.lawful-2.ensures.names
-    c.in_ok-rank.rank c.in_ok-causes.causes.items c.in_ok-causes.ensures over
-    c.in-Ok.id c.in-Ok.ensures.put.0 _ _ _ c.lawful-in-Ok.ensures.lines puts c.requires.shallow)
+    (put_keeps v c.args.self.now.set (ap (λ (w : NamedView). w.set) c.self.view_is) ls kept c.self.invariant e c.args.pair active c.args.line c.requires.new_line
+    _ (c.in_ok-children.ensures.children ∙ ap born_agents same) c.in_ok-born.born.items _ enters c.lawful-2.ensures.names
+    c.rank_over-rank.result c.in_ok-causes.causes.items (c.in_ok-causes.ensures e active) over
+    c.in-Ok.id c.in-Ok.ensures.put.0 _ _ _ c.lawful-in-Ok.ensures.lines puts (c.requires.shallow e active))
 
 pub returns-in-Ok-clause-admitted : goal.returns-in-Ok-clause-admitted
-returns-in-Ok-clause-admitted g c =
+returns-in-Ok-clause-admitted g c = λ e active. (
     let view = c.self.inside in
     let v : SetView = record { start = view.start; agents = view.roster.agents; events = view.roster.events } in
     let ls = g.L.LinkStore.links view.store in
     let kept = causes_in view.dependents in
-    let same = rw (← c.self.view_is) at (c.interaction_of-interaction.ensures.event c.args.event.now c.requires.active) in
+    let same = rw (← c.self.view_is) at (c.interaction_of-interaction.ensures.event e active) in
     let its = its_event c.children_for.ensures.grown (rw (← c.self.view_is) at c.interaction_of-interaction.ensures.named) same c.enter_all.ensures.names in
     let events = c.enter_all.ensures.events ∙ c.children_for.ensures.events in
-    let ends = ends_same c.outcome-rules.ensures.links c.profile.ensures c.lead_kind.ensures c.other_kind.ensures in
+    let ends = ends_same c.outcome-rules.ensures.links c.profile.ensures (ap (λ (e : Event). e.lead_kind) same) (ap (λ (e : Event). e.other_kind) same) in
     let enters : Enters v.agents (agents_in c.children_for.new.roster.names c.in_ok-children.children.items) (c.args.line + 1) c.in_ok-born.born.items c.enter_all.new.roster.agents = rw (c.children_for.ensures.agents, c.deref-2.ensures.value) at c.in_ok-born.ensures.entered in
-    let over = rw c.deref.ensures.value at c.in_ok-rank.ensures in
+    let over = rw c.deref.ensures.value at c.rank_over-rank.ensures in
     let puts = rw (its, c.deref-3.ensures.value, ends, c.deref-4.ensures.value, events) at c.in-Ok.ensures.put.1 in
     rw c.put_event.ensures.agents
-    (put_admits v c.args.self.now.set (ap (λ (w : BareView). w.set) c.self.view_is) ls kept c.self.invariant c.args.event.now c.args.pair c.requires.active c.args.line c.requires.new_line
-    _ c.in_ok-children.ensures.children c.in_ok-born.born.items _ enters c.lawful-2.ensures.names
-    c.in_ok-rank.rank c.in_ok-causes.causes.items c.in_ok-causes.ensures over
-    c.in-Ok.id c.in-Ok.ensures.put.0 _ _ _ c.lawful-in-Ok.ensures.lines puts)
+    (put_admits v c.args.self.now.set (ap (λ (w : NamedView). w.set) c.self.view_is) ls kept c.self.invariant e c.args.pair active c.args.line c.requires.new_line
+    _ (c.in_ok-children.ensures.children ∙ ap born_agents same) c.in_ok-born.born.items _ enters c.lawful-2.ensures.names
+    c.rank_over-rank.result c.in_ok-causes.causes.items (c.in_ok-causes.ensures e active) over
+    c.in-Ok.id c.in-Ok.ensures.put.0 _ _ _ c.lawful-in-Ok.ensures.lines puts))
 
 -- the agents that were entered have gone again
 gone_again : (entered : List Member) {old mid put new : List Member} {ids born : List AgentId} → put ≡ mid → map (λ m. m.id) entered ≡ born → ids ≡ born → Alike (entered ++ old) mid
@@ -143,4 +156,4 @@ returns-clause-unchanged g c =
     let left = c.in-Err.ensures.unchanged in
     let back = gone_again enters.entered c.put_event.ensures.agents enters.under c.deref-in-Err.ensures.value enters.alike c.remove_all.ensures.left in
     let events = events_again (c.enter_all.ensures.events ∙ c.children_for.ensures.events) left.events c.remove_all.ensures.events in
-    same_again {v = v} (ap (λ (w : BareView). w.set) c.self.view_is) back events
+    same_again {v = v} (ap (λ (w : NamedView). w.set) c.self.view_is) back events

@@ -3,7 +3,7 @@ use Rattle.std.proofs.lemmas.Result.{IfOk-weaker}
 use Rattle.ic_path.specs.Orders.{IsIn}
 use Rattle.ic_set.specs.Placed.{ArePlaced}
 use Rattle.ic_set.specs.Removal.{Stands}
-use Rattle.ic_set.specs.Views.{SetView, BareView}
+use Rattle.ic_set.specs.Views.{SetView, NamedView}
 use Rattle.ic_set.proofs.OrderedIds.{ids_in_order, placed_so, causes_once, causes_stand, causes_kept, causes_of}
 use Rattle.ic_set.proofs.bare.BareSet.causes.Goals as goal
 
@@ -19,7 +19,7 @@ in_order-requires g c =
 pub returns : goal.returns
 returns g c =
     let v : SetView = record { start = c.self.inside.start; agents = c.self.inside.roster.agents; events = c.self.inside.roster.events } in
-    let b : BareView = record { set = v; names = c.self.inside.roster.names } in
+    let b : NamedView = record { set = v; names = c.self.inside.roster.names } in
     let stands : Stands v c.args.id = rw (← c.self.view_is) at c.requires in
     let placed : ArePlaced b (λ x. IsIn x.id c.in-Some.ids.now) c.in_ok-in_order-in-Some.field-0.items = rw (← c.self.view_is) at c.in_ok-in_order-in-Some.ensures in
     let same = causes_of v _ c.self.invariant.set.own_lines c.self.invariant.causes c.args.id _ stands (sym c.in-Some.ensures) in

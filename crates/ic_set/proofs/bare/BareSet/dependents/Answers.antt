@@ -1,7 +1,7 @@
 use Rattle.std.proofs.lemmas.Result.{IfOk-weaker}
 use Rattle.ic_set.specs.Placed.{ArePlaced}
 use Rattle.ic_set.specs.Removal.{Stands}
-use Rattle.ic_set.specs.Views.{SetView, BareView}
+use Rattle.ic_set.specs.Views.{SetView, NamedView}
 use Rattle.ic_path.specs.Orders.{IsIn}
 use Rattle.ic_set.proofs.OrderedIds.{ids_in_order, placed_so, dependents_of}
 use Rattle.ic_set.proofs.LeastDependents.{dependents_stand}
@@ -19,7 +19,7 @@ in_order-requires g c =
 pub returns : goal.returns
 returns g c =
     let v : SetView = record { start = c.self.inside.start; agents = c.self.inside.roster.agents; events = c.self.inside.roster.events } in
-    let b : BareView = record { set = v; names = c.self.inside.roster.names } in
+    let b : NamedView = record { set = v; names = c.self.inside.roster.names } in
     let stands : Stands v c.args.id = rw (← c.self.view_is) at c.requires in
     let placed : ArePlaced b (λ x. IsIn x.id c.dependents.result.now) c.in_ok-in_order.field-0.items = rw (← c.self.view_is) at c.in_ok-in_order.ensures in
     let same = dependents_of v _ c.self.invariant.set.own_lines c.self.invariant.causes c.self.invariant.naming c.self.invariant.named c.args.id _ stands c.dependents.ensures in

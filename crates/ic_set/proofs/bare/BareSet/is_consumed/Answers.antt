@@ -4,7 +4,7 @@ use Rattle.ic_path.specs.Orders.{IsIn}
 use Rattle.ic_cause.specs.Dependents.{causes_in}
 use Rattle.ic_roster.specs.Rosters.{Member}
 use Rattle.ic_roster.proofs.Options.{at_none, at_some}
-use Rattle.ic_set.specs.Views.{SetView, BareView}
+use Rattle.ic_set.specs.Views.{SetView, NamedView}
 use Rattle.ic_set.proofs.ConsumedAgents.{lead_consumed, far_agent, led_far, far_led, unled_far}
 use Rattle.ic_set.proofs.bare.BareSet.is_consumed.Goals as goal
 
@@ -22,7 +22,7 @@ returns-then-is_some g c =
 pub returns-in_default : goal.returns-in_default
 returns-in_default g c =
     let m : Member = record { id = c.args.agent; name = name_at c.self.inside.roster.names c.args.name.place; kind = c.requires.there.0 } in
-    let there = subst (λ (w : BareView). IsIn (record { id = c.args.agent; name = name_at w.names c.args.name.place; kind = c.requires.there.0 }) w.set.agents) (sym c.self.view_is) c.requires.there.1 in
+    let there = subst (λ (w : NamedView). IsIn (record { id = c.args.agent; name = name_at w.names c.args.name.place; kind = c.requires.there.0 }) w.set.agents) (sym c.self.view_is) c.requires.there.1 in
     let free = at_none c.led_by.result (sym c.is_some.ensures ∙ c.if-is_some.false) c.led_by.ensures.absent in
     rw (← c.self.view_is) (
       λ t. absurd cc,
@@ -35,7 +35,7 @@ pub returns-in-Some-agent : goal.returns-in-Some-agent
 returns-in-Some-agent g c =
     let m : Member = record { id = c.args.agent; name = name_at c.self.inside.roster.names c.args.name.place; kind = c.requires.there.0 } in
     let n : Member = record { id = c.in-Some.partner; name = name_at c.self.inside.roster.names c.in-Some-agent.entry.name.place; kind = c.in-Some-agent.entry.kind } in
-    let there = subst (λ (w : BareView). IsIn (record { id = c.args.agent; name = name_at w.names c.args.name.place; kind = c.requires.there.0 }) w.set.agents) (sym c.self.view_is) c.requires.there.1 in
+    let there = subst (λ (w : NamedView). IsIn (record { id = c.args.agent; name = name_at w.names c.args.name.place; kind = c.requires.there.0 }) w.set.agents) (sym c.self.view_is) c.requires.there.1 in
     let free = at_none c.led_by.result (sym c.is_some.ensures ∙ c.if-is_some.false) c.led_by.ensures.absent in
     rw (← c.self.view_is) (
       λ t. (
@@ -49,7 +49,7 @@ returns-in-Some-agent g c =
 pub returns-in-None : goal.returns-in-None
 returns-in-None g c =
     let m : Member = record { id = c.args.agent; name = name_at c.self.inside.roster.names c.args.name.place; kind = c.requires.there.0 } in
-    let there = subst (λ (w : BareView). IsIn (record { id = c.args.agent; name = name_at w.names c.args.name.place; kind = c.requires.there.0 }) w.set.agents) (sym c.self.view_is) c.requires.there.1 in
+    let there = subst (λ (w : NamedView). IsIn (record { id = c.args.agent; name = name_at w.names c.args.name.place; kind = c.requires.there.0 }) w.set.agents) (sym c.self.view_is) c.requires.there.1 in
     let free = at_none c.led_by.result (sym c.is_some.ensures ∙ c.if-is_some.false) c.led_by.ensures.absent in
     rw (← c.self.view_is) (
       λ t. absurd cc,

@@ -6,7 +6,7 @@ use Rattle.ic_theory.specs.Nets.{IsSameNet, net_of}
 use Rattle.ic_net.specs.declared.fault.StepFault.TheVariants.{NotActive, Deep}
 use Rattle.ic_net.specs.Replays.{IsReplayFault}
 use Rattle.ic_set.specs.Orders.{AreCanonical}
-use Rattle.ic_set.specs.Views.{standing, BareView}
+use Rattle.ic_set.specs.Views.{standing, NamedView}
 use Rattle.ic_set.proofs.CanonicalSteps.{not_inactive, not_deep}
 use Rattle.ic_set.proofs.SetNets.{net_left, causal_defined, causal_net}
 use Rattle.ic_set.proofs.bare.BareSet.net.Goals as goal
@@ -17,7 +17,7 @@ same_net g c =
     let list = c.deref.result.now in
     let all : Alike (standing c.args.self.now.set) list = subst (Alike (standing c.args.self.now.set)) (sym (c.deref.ensures.value ∙ c.in_ok-events.ensures)) c.in_ok-ranked.ensures.in_order.alike in
     net_left c.args.self.now.set.start c.lawful.ensures.set.proper (standing c.args.self.now.set) c.lawful.ensures.set.sound (shown c.in-Ok.net) list all
-    (subst (λ (w : BareView). IsSameNet (shown c.in-Ok.net) (net_of w.set.start (then_fired [] list))) c.self.view_is c.in-Ok.ensures.left)
+    (subst (λ (w : NamedView). IsSameNet (shown c.in-Ok.net) (net_of w.set.start (then_fired [] list))) c.self.view_is c.in-Ok.ensures.left)
 
 pub returns-in-Ok-clause-left : goal.returns-in-Ok-clause-left
 returns-in-Ok-clause-left g c = same_net g c
@@ -34,7 +34,7 @@ unreachable-requires g c =
     let canonical : AreCanonical c.args.self.now.set list = subst (AreCanonical c.args.self.now.set) (sym (c.deref.ensures.value ∙ c.in_ok-events.ensures)) c.in_ok-ranked.ensures.in_order in
     let refused = subst (IsReplayFault c.self.inside.start list c.in-Err.fault.place) c.in-NotActive.is c.in-Err.ensures.fault in
     not_inactive c.args.self.now.set c.lawful.ensures.set list canonical c.in-Err.fault.place
-    (subst (λ (w : BareView). IsReplayFault w.set.start list c.in-Err.fault.place NotActive) c.self.view_is refused)
+    (subst (λ (w : NamedView). IsReplayFault w.set.start list c.in-Err.fault.place NotActive) c.self.view_is refused)
 
 pub unreachable-requires-in-Deep : goal.unreachable-requires-in-Deep
 unreachable-requires-in-Deep g c =
@@ -42,4 +42,4 @@ unreachable-requires-in-Deep g c =
     let canonical : AreCanonical c.args.self.now.set list = subst (AreCanonical c.args.self.now.set) (sym (c.deref.ensures.value ∙ c.in_ok-events.ensures)) c.in_ok-ranked.ensures.in_order in
     let refused = subst (IsReplayFault c.self.inside.start list c.in-Err.fault.place) c.in-Deep.is c.in-Err.ensures.fault in
     not_deep c.args.self.now.set c.lawful.ensures.set list canonical c.in-Err.fault.place
-    (subst (λ (w : BareView). IsReplayFault w.set.start list c.in-Err.fault.place Deep) c.self.view_is refused)
+    (subst (λ (w : NamedView). IsReplayFault w.set.start list c.in-Err.fault.place Deep) c.self.view_is refused)

@@ -6,7 +6,7 @@ use Rattle.ic_set.proofs.set.StandingSet.least_active.Goals as goal
 
 pub returns-in_err-name-clause-absent : goal.returns-in_err-name-clause-absent
 returns-in_err-name-clause-absent g c =
-    let set : IsStandingSet c.self.inside.bare.value.set = rw c.self.view_is c.lawful.ensures in
+    let set : IsStandingSet c.self.inside.bare.value.set = rw c.self.view_is c.lawful.ensures.set in
     rw (← c.self.view_is) (if_none _ _ (none_led c.self.inside.bare.value set c.self.inside.queue.leads c.in_err-name.ensures.none c.self.invariant.each))
 
 pub named-requires : goal.named-requires
@@ -23,7 +23,7 @@ returns-in_err-agent-clause-absent g c =
 
 pub returns : goal.returns
 returns g c =
-    let set : IsStandingSet c.self.inside.bare.value.set = rw c.self.view_is c.lawful.ensures in
+    let set : IsStandingSet c.self.inside.bare.value.set = rw c.self.view_is c.lawful.ensures.set in
     let i = c.self.invariant in
     let found = rw (c.roster.ensures.agents, c.roster.ensures.names, c.deref.ensures) at c.in_ok-agent.ensures.found in
     let r = found_least c.self.inside.bare.value set c.self.inside.queue.leads c.in_ok-name.name.place i.each i.front (c.in_ok-name.ensures.least _ i.heap) c.in_ok-agent.agent found.0 found.1 c.pair_with.result (rw c.deref-2.ensures at c.pair_with.ensures.found) (rw c.deref-2.ensures at c.pair_with.ensures.absent) in

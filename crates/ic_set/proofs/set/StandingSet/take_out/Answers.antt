@@ -1,5 +1,4 @@
-use Rattle.std.proofs.Common.{◌≡◌, ◌≤◌, length, arith, ap, sym}
-use Rattle.ic_queue.specs.declared.queue.Lead.{Lead}
+use Rattle.std.proofs.Common.{◌≡◌, ◌≤◌, length, arith, ap}
 use Rattle.ic_set.specs.Queues.{HasLeads, KeepsQueue}
 use Rattle.ic_set.specs.Removal.{Stands}
 use Rattle.ic_set.specs.Sets.{IsStandingSet}

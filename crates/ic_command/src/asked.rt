@@ -1,0 +1,45 @@
+ghost use Rattle.std.specs.Prelude.{IfOk};
+ghost use Rattle.ic_command.specs.Asked.{IsAbsorbIn, IsAsked};
+ghost use Rattle.ic_command.specs.Words.{words};
+
+use crate::command::{is_well_formed, number_in, without_return};
+use crate::request::{Request, request_of};
+use crate::words::next_word;
+use ic_name::limits::MAX_ABSORBED;
+use std::alloc::{AllocError, Global};
+
+/// What a line of a session asks for.
+#[derive(Drop)]
+pub enum Asked {
+    /// What it says alone.
+    Alone(Request),
+    /// To absorb the events that so many lines behind it list.
+    Absorb(u32),
+}
+
+/// What a line without its line feed asks for. An error where there is no memory for the names in it.
+pub fn asked_of(alloc: Global, line: &[u8]) -> Result<Asked, AllocError>
+    ensures { IfOk result (λ asked. IsAsked line.now asked) }
+{
+    let body = without_return(line);
+    if is_well_formed(body) {
+        if let Some(count) = absorb_in(alloc, body)? {
+            return Ok(Asked::Absorb(count));
+        }
+    }
+    Ok(Asked::Alone(request_of(alloc, line)?))
+}
+
+/// How many events the words of a line ask to absorb; `None` where they don't.
+fn absorb_in(alloc: Global, body: &[u8]) -> Result<Option<u32>, AllocError>
+    ensures { IfOk result (λ count. IsAbsorbIn (words body.now) count) }
+{
+    let Some((word, behind)) = next_word(body) else {
+        return Ok(None);
+    };
+    if word == b"absorb".as_slice() {
+        number_in(alloc, behind, MAX_ABSORBED as u32)
+    } else {
+        Ok(None)
+    }
+}

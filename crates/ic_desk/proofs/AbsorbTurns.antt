@@ -1,0 +1,85 @@
+-- What a desk answers to absorbing events.
+use Rattle.std.proofs.Common.{◌≡◌, ℕ, List, [], Result, Err, IfErr, refl, sym, ap, subst, ◌∙◌}
+use Rattle.std.specs.Global.{Vec}
+use Rattle.ic_name.specs.Events.{Pair}
+use Rattle.ic_name.specs.declared.lines.Reply.TheVariants as reply
+use Rattle.ic_journal.specs.Views.{BenchView}
+use Rattle.ic_journal.specs.Benches.{IsBench}
+use Rattle.ic_undo.specs.Absorbing as bench
+use Rattle.ic_undo.specs.declared.faults.AbsorbFault.{AbsorbFault}
+use Rattle.ic_undo.specs.declared.faults.AbsorbFault.TheVariants as fault
+use Rattle.ic_command.specs.declared.request.Request.TheVariants.{Absorb}
+use Rattle.ic_answer.specs.declared.refused.Refused.TheVariants.{Deep, Full, HistoryFull, Memory}
+use Rattle.ic_answer.specs.Texts.{refusal_text}
+use Rattle.ic_desk.specs.Replies.{Replies, absorbed_text, never_text, absorbed, never_active, absorb_deep, absorb_full, absorb_history_full, absorb_memory}
+use Rattle.ic_desk.specs.Views.{NamedView, Turns}
+use Rattle.ic_desk.proofs.AbsorbReplies.{fits_not, absorbed_at, comes_and_goes, nothing_said, refused_so, never_at, stays_deep, stays_full}
+use Rattle.ic_desk.proofs.DeskTurns.{desk_of}
+
+-- what absorbing does, where the fault is known
+pub absorb_fault_known : {X : Type 0} (old : BenchView) (names : List Pair) (new : BenchView) (result : Result X AbsorbFault) (f known : AbsorbFault)
+    → result ≡ Err f → f ≡ known → IfErr result (λ why. bench.AbsorbsNone old names why new) → bench.AbsorbsNone old names known new
+absorb_fault_known {X} old names new result f known is same h = subst (λ (r : Result X AbsorbFault). IfErr r (λ why. bench.AbsorbsNone old names why new)) (is ∙ ap (λ (g : AbsorbFault). Err g) same) h
+
+module _ (old new : BenchView) (ok : IsBench old) (lawful : IsBench new) (marks : List NamedView) (names : Vec Pair) where
+  -- all listed events stand
+  pub absorbed_turns : (count : ℕ) (text : List ℕ) → bench.Absorbs old names.items count new → text ≡ absorbed_text count
+      → Turns (desk_of old marks) (Absorb names) text (desk_of new marks)
+  absorbed_turns count text h told = record {
+    start = h.fired.start;
+    replies = λ st at. (
+        let r = absorbed_at old new ok lawful names.items st.bench at.bench count h in
+        (record st { bench = r.1 }, subst (λ t. Replies old.start st (Absorb names) t (record st { bench = r.1 })) (sym (told ∙ ap absorbed_text r.4)) (absorbed r.2 r.3), record { bench = r.5; marks = at.marks })
+        );
+  }
+
+  -- one of them can't come to stand
+  pub never_turns : (p : Pair) (text : List ℕ) → bench.AbsorbsNone old names.items (fault.NeverActive p) new → text ≡ never_text p
+      → Turns (desk_of old marks) (Absorb names) text (desk_of new marks)
+  never_turns p text (least, (came, none, t)) told = record {
+    start = t.same.start;
+    replies = λ st at. (
+        let c = comes_and_goes old new ok lawful names.items st.bench at.bench came [] t in
+        let n = never_at old new ok lawful names.items st.bench at.bench came [] _ c p refl none least in
+        (record st { bench = c.next }, subst (λ x. Replies old.start st (Absorb names) x (record st { bench = c.next })) (sym told) (never_active c.absorbs n.0 n.1 n.2), record { bench = c.at_next; marks = at.marks })
+        );
+  }
+
+  -- a child's name would be too long
+  pub deep_turns : bench.AbsorbsNone old names.items fault.Deep new → Turns (desk_of old marks) (Absorb names) (refusal_text Deep) (desk_of new marks)
+  deep_turns (came, e, turn, d, t) = record {
+    start = t.same.start;
+    replies = λ st at. (
+        let c = comes_and_goes old new ok lawful names.items st.bench at.bench came _ t in
+        let r = refused_so old new ok lawful names.items st.bench at.bench came _ _ c e reply.Deep refl stays_deep turn in
+        (record st { bench = c.next }, absorb_deep c.absorbs r.1 r.2, record { bench = c.at_next; marks = at.marks })
+        );
+  }
+
+  -- there would be too many agents
+  pub full_turns : bench.AbsorbsNone old names.items fault.Full new → Turns (desk_of old marks) (Absorb names) (refusal_text Full) (desk_of new marks)
+  full_turns (came, e, turn, shallow, f, t) = record {
+    start = t.same.start;
+    replies = λ st at. (
+        let c = comes_and_goes old new ok lawful names.items st.bench at.bench came _ t in
+        let r = refused_so old new ok lawful names.items st.bench at.bench came _ _ c e reply.Full refl stays_full turn in
+        (record st { bench = c.next }, absorb_full c.absorbs r.1 r.2, record { bench = c.at_next; marks = at.marks })
+        );
+  }
+
+  -- the history would be too long
+  pub too_long_turns : bench.AbsorbsNone old names.items fault.HistoryFull new → Turns (desk_of old marks) (Absorb names) (refusal_text HistoryFull) (desk_of new marks)
+  too_long_turns (long, same) = subst (λ v. Turns (desk_of old marks) (Absorb names) (refusal_text HistoryFull) (desk_of v marks)) (sym same) (record {
+    start = refl;
+    replies = λ st at. (st, absorb_history_full (fits_not old old ok ok names.items st.bench at.bench long), at);
+  })
+
+  -- memory is wanting
+  pub absorb_wants : bench.AbsorbsNone old names.items fault.Memory new → Turns (desk_of old marks) (Absorb names) (refusal_text Memory) (desk_of new marks)
+  absorb_wants (came, t) = record {
+    start = t.same.start;
+    replies = λ st at. (
+        let c = comes_and_goes old new ok lawful names.items st.bench at.bench came [] t in
+        (record st { bench = c.next }, absorb_memory c.absorbs (nothing_said old new ok lawful names.items st.bench at.bench came [] _ c refl), record { bench = c.at_next; marks = at.marks })
+        );
+  }

@@ -1,0 +1,34 @@
+ghost use Rattle.std.specs.Prelude.{◌≡◌, MatchResult};
+ghost use Rattle.ic_answer.specs.Texts.{answer_text};
+ghost use Rattle.ic_command.specs.declared.request.Request.TheVariants.{Absorb};
+ghost use Rattle.ic_desk.specs.Views.{IsDesk, Turns};
+
+use crate::named_mark::NamedMark;
+use crate::texts::{absorbed_text, never_text};
+use ic_answer::{Answer, Refused};
+use ic_journal::{Bench, LinkStore};
+use ic_name::EventName;
+use ic_undo::{AbsorbFault, absorb};
+use std::alloc::{AllocError, Global};
+
+/// Absorbs the events of these names. An error where there is no memory for the answer.
+pub(crate) fn absorb_events<L: LinkStore>(
+    alloc: Global,
+    bench: &mut Bench<L>,
+    marks: &[NamedMark],
+    names: &Vec<EventName>,
+) -> Result<Answer, AllocError>
+    ensures { MatchResult result (λ answer. Turns (record { bench = bench.old; marks = marks.now }) (Absorb names.now) (answer_text answer) (record { bench = bench.new; marks = marks.now })) (λ _. bench.new.start ≡ bench.old.start) }
+{
+    bench.lawful();
+    let absorbed = absorb(alloc, bench, names);
+    bench.lawful();
+    match absorbed {
+        Ok(count) => Ok(Answer::Text(absorbed_text(alloc, count)?)),
+        Err(AbsorbFault::NeverActive(name)) => Ok(Answer::Text(never_text(alloc, &name)?)),
+        Err(AbsorbFault::Deep) => Ok(Answer::Refused(Refused::Deep)),
+        Err(AbsorbFault::Full) => Ok(Answer::Refused(Refused::Full)),
+        Err(AbsorbFault::HistoryFull) => Ok(Answer::Refused(Refused::HistoryFull)),
+        Err(AbsorbFault::Memory) => Ok(Answer::Refused(Refused::Memory)),
+    }
+}

@@ -1,0 +1,26 @@
+-- The limits that firing an active pair meets.
+use Rattle.std.proofs.Common.{Option, None, Some, Err}
+use Rattle.ic_name.specs.Events.{Event}
+use Rattle.ic_name.specs.declared.lines.Call.TheVariants.{Fire}
+use Rattle.ic_theory.specs.Active.{IsActive}
+use Rattle.ic_theory.specs.Machine.{State, noted, Answers, IsDeep, IsFull}
+use Rattle.ic_set.specs.Views.{NamedView, SetView, standing}
+use Rattle.ic_journal.specs.declared.verdict.Limit.{Limit}
+use Rattle.ic_journal.specs.declared.verdict.Limit.TheVariants.{Deep, Full}
+use Rattle.ic_journal.specs.declared.verdict.Refusal.TheVariants as refusal
+use Rattle.ic_journal.specs.Histories.{HistoryView}
+use Rattle.ic_journal.specs.Views.{BenchView, view_of}
+use Rattle.ic_journal.specs.Benches.{IsAt}
+use Rattle.ic_journal.specs.Calls.{Refuses, FiresPair}
+use Rattle.ic_journal.specs.Verdicts.{Meets, reply_of, refusal_of, pair_fault_of}
+use Rattle.ic_journal.proofs.MachineSteps.{refusal_answer}
+
+-- where a limit is met the machine answers so
+pub limit_answer : (s : NamedView) (h : HistoryView) (e : Event) (limit : Limit) → IsActive s.set.start (standing s.set) e → Meets s.set e (Some limit) → (st : State) → IsAt (view_of s h) st → Answers s.set.start st (Fire e) (reply_of (refusal_of limit)) (noted st)
+limit_answer s h e Deep active m st at = refusal_answer (view_of s h) e refusal.Deep (active, m) st at
+limit_answer s h e Full active m st at = refusal_answer (view_of s h) e refusal.Full (active, m.0, m.1) st at
+
+-- and so does the bench
+pub pair_refused : (old new : BenchView) (e : Event) (limit : Limit) → Refuses old (Fire e) (reply_of (refusal_of limit)) new → FiresPair old e (Err (pair_fault_of limit)) new
+pair_refused old new e Deep r = r
+pair_refused old new e Full r = r

@@ -1,0 +1,47 @@
+ghost use Rattle.ic_name.specs.Events.{Event as AnEvent};
+ghost use Rattle.ic_set.specs.Pairs.{IsActivePair, IsPairOf};
+ghost use Rattle.ic_journal.specs.Calls.{FiresPair};
+ghost use Rattle.ic_journal.specs.Views.{set_of};
+
+use crate::bench::Bench;
+use crate::faults::PairFault;
+use crate::kept::KeptCall;
+use crate::verdict::limit_of;
+use ic_link::LinkStore;
+use ic_name::Reply;
+use ic_name::limits::MAX_LINES;
+use ic_set::{ActivePair, Fired};
+
+impl<L: LinkStore> Bench<L> {
+    /// Fires an active pair as `fire` does the proposal of its agents, but makes and looks up no name: one step of the
+    /// machine, which adds a line, and for an answer of `Ok` the event stands from then on under this id, and the pairs are
+    /// those that became active by it.
+    ///
+    /// `HistoryFull` before anything else, where the history has `MAX_LINES` lines; then `Deep` and `Full`, each exactly
+    /// where the machine says so. `Memory` may stand in place of each but the first; it and `HistoryFull` add no line. A
+    /// refused call changes nothing that stands.
+    pub fn fire_pair(&mut self, pair: ActivePair) -> Result<Fired, PairFault>
+        requires { IsActivePair (set_of self.old) pair }
+        ensures { (e : AnEvent) → IsPairOf (set_of self.old) e pair → FiresPair self.old e result self.new }
+    {
+        let line = self.history.len();
+        if line == MAX_LINES {
+            return Err(PairFault::HistoryFull);
+        }
+        let Ok(()) = self.history.reserve(1) else {
+            return Err(PairFault::Memory);
+        };
+        let event = self.set.interaction_of(pair);
+        if let Some(limit) = limit_of(&self.set, event) {
+            self.history
+                .note(KeptCall::Fired(event), limit.refusal().reply());
+            return Err(limit.fault());
+        }
+        self.set.lawful();
+        let Ok(fired) = self.set.admit(pair, line as u32) else {
+            return Err(PairFault::Memory);
+        };
+        self.history.note(KeptCall::Fired(event), Reply::Fired);
+        Ok(fired)
+    }
+}

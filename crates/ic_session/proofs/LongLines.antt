@@ -1,0 +1,38 @@
+-- Lines that are longer than a command may be.
+use Rattle.std.proofs.Common.{◌≡◌, ℕ, ◌+◌, ◌-◌, ◌<◌, Bool, true, false, List, length, take, nat_le, rules, refl, sym, ap, arith, ◌∙◌}
+use Rattle.std.proofs.lemmas.List.{length-take}
+use Rattle.std.specs.Io.BufRead.{strip_last, ends_with_byte}
+use Rattle.ic_name.specs.Events.{Pair}
+use Rattle.ic_command.proofs.Bodies.{apart}
+use Rattle.ic_command.specs.Asked.{IsAsked, of_request}
+use Rattle.ic_command.specs.Commands.{is_well_formed, unsaid}
+use Rattle.ic_command.specs.Listed.{IsListed}
+use Rattle.ic_command.specs.Requests.{of_bench}
+use Rattle.ic_command.specs.declared.asked.Asked.TheVariants.{Alone}
+use Rattle.ic_command.specs.declared.command.Command.TheVariants.{Malformed}
+use Rattle.ic_command.specs.declared.command.TheConstants.{MAX_COMMAND}
+use Rattle.ic_command.specs.declared.request.Request.TheVariants.{Bench}
+
+-- longer by more than its end
+long_line : (line : List ℕ) → MAX_COMMAND + 1 < length line → is_well_formed (strip_last 13 line) ≡ false
+long_line line long = go (ends_with_byte 13 line) refl
+  where
+    over : (body : List ℕ) → MAX_COMMAND < length body → is_well_formed body ≡ false
+    over body more = let no : nat_le (length body) MAX_COMMAND ≡ false = search (rules, arith, more) in rw no refl
+
+    go : (b : Bool) → ends_with_byte 13 line ≡ b → is_well_formed (strip_last 13 line) ≡ false
+    go true e =
+        let cut : strip_last 13 line ≡ take (length line - 1) line = rw e refl in
+        let count = length-take (length line - 1) line in
+        ap is_well_formed cut ∙ over (take (length line - 1) line) (omega arith)
+    go false e = let cut : strip_last 13 line ≡ line = rw e refl in ap is_well_formed cut ∙ over line (omega arith)
+
+-- such a line is no command
+pub long_asked : (line : List ℕ) → MAX_COMMAND + 1 < length line → IsAsked line (Alone (Bench Malformed))
+long_asked line long =
+    let broken = long_line line long in
+    of_request (λ n a. apart (sym a.0 ∙ broken)) (of_bench (λ r whole a. apart (sym whole ∙ broken)) (unsaid broken))
+
+-- and lists no event
+pub long_unlisted : (line : List ℕ) → MAX_COMMAND + 1 < length line → (p : Pair) → IsListed line p → ⊥
+long_unlisted line long p l = apart (sym l.0 ∙ long_line line long)

@@ -1,0 +1,72 @@
+ghost use Rattle.std.specs.Prelude.{◌≤◌, IfErr, IfOk, IfSome, IsSomeAnd, OnOk};
+ghost use Rattle.ic_lines.specs.Left.{left, work};
+ghost use Rattle.ic_lines.specs.Faults.{IsReadFault};
+ghost use Rattle.ic_session.specs.TakenLines.{TakesListed, TakesNextListed};
+
+use crate::taken_line::take_line;
+use ic_command::listed_of;
+use ic_lines::{Input, IoFault, Piece};
+use ic_name::EventName;
+use std::alloc::Global;
+use std::io::Read;
+
+/// What the next line lists.
+#[derive(Drop)]
+pub(crate) enum NextListed {
+    /// An event.
+    Event(EventName),
+    /// No event.
+    Unlisted,
+    /// The input has ended.
+    Ended,
+}
+
+/// Takes the next `count` lines, and answers the events that they list; `None` where one of them lists none, or where
+/// they are fewer. `line` is room for a line.
+pub(crate) fn listed_events<R: Read>(
+    alloc: Global,
+    input: &mut Input,
+    reader: &mut R,
+    line: &mut Vec<u8>,
+    count: u32,
+) -> Result<Option<Vec<EventName>>, IoFault>
+    ensures taken { IfOk result (λ events. IfSome (left input.old (R.remaining reader.old))
+        (λ bytes. IsSomeAnd (left input.new (R.remaining reader.new)) (TakesListed count events bytes))) }
+    ensures less { OnOk result (work input.new ≤ work input.old) }
+    ensures fewer { input.new.reads ≤ input.old.reads }
+    ensures fault { IfErr result (IsReadFault input.old.reads input.new.reads) }
+{
+    let mut events = Vec::new(alloc);
+    let mut all = true;
+    for _taken in 0..count {
+        match next_listed(alloc, input, reader, line)? {
+            NextListed::Event(event) => events.push(event)?,
+            NextListed::Unlisted => all = false,
+            NextListed::Ended => return Ok(None),
+        }
+    }
+    if all { Ok(Some(events)) } else { Ok(None) }
+}
+
+/// Takes the next line, and answers what it lists. `line` is room for a line.
+fn next_listed<R: Read>(
+    alloc: Global,
+    input: &mut Input,
+    reader: &mut R,
+    line: &mut Vec<u8>,
+) -> Result<NextListed, IoFault>
+    ensures taken { IfOk result (λ listed. IfSome (left input.old (R.remaining reader.old))
+        (λ bytes. TakesNextListed listed bytes (left input.new (R.remaining reader.new)))) }
+    ensures less { OnOk result (work input.new ≤ work input.old) }
+    ensures fewer { input.new.reads ≤ input.old.reads }
+    ensures fault { IfErr result (IsReadFault input.old.reads input.new.reads) }
+{
+    match take_line(input, reader, line)? {
+        Piece::Line(_) => match listed_of(alloc, line)? {
+            Some(event) => Ok(NextListed::Event(event)),
+            None => Ok(NextListed::Unlisted),
+        },
+        Piece::TooLong => Ok(NextListed::Unlisted),
+        Piece::End => Ok(NextListed::Ended),
+    }
+}

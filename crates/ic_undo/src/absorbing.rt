@@ -1,0 +1,80 @@
+ghost use Rattle.std.specs.Prelude.{◌≡◌, ◌≤◌, length, IfErr, IfOk};
+ghost use Rattle.ic_undo.specs.Absorbing.{Absorbs, AbsorbsNone};
+ghost use Rattle.ic_undo.specs.Backwards.{AreIdsOfFree, AreUndoneFrom};
+ghost use Rattle.ic_undo.specs.Coming.{fault_from};
+
+use crate::backwards::undo_each;
+use crate::faults::AbsorbFault;
+use crate::turns::{Hindrance, Stop, Turns, fire_listed};
+use ic_journal::{Bench, LinkStore, ReserveFault};
+use ic_name::limits::MAX_LINES;
+use ic_name::{EventId, EventName};
+use std::alloc::Global;
+
+/// Fires the listed events that don't stand: of those that are active the one with the least lead, again and again. Then
+/// all of them stand, whatever the order of the list, and the answer is how many were fired. A listed event that stands
+/// already, or is listed twice, isn't fired again. Its work is in proportion to K log K for K listed events and as many
+/// firings.
+///
+/// `HistoryFull` before anything else, exactly where the history would be too long with two lines for each listed event.
+/// `Deep`, `Full` or `Memory` where a firing is answered so, or where memory runs out elsewhere; else `NeverActive` where
+/// a listed event is in no sound set of what stood and what is listed, with the least such name. At each of these what
+/// was fired is undone, the last first, and that takes no memory.
+pub fn absorb<L: LinkStore>(
+    alloc: Global,
+    bench: &mut Bench<L>,
+    events: &[EventName],
+) -> Result<u32, AbsorbFault>
+    ensures absorbed { IfOk result (λ count. Absorbs bench.old events.now count bench.new) }
+    ensures fault { IfErr result (λ fault. AbsorbsNone bench.old events.now fault bench.new) }
+{
+    bench.lawful();
+    if events.len() > MAX_LINES {
+        return Err(AbsorbFault::HistoryFull);
+    }
+    match bench.reserve(2 * events.len()) {
+        Ok(()) => {}
+        Err(ReserveFault::HistoryFull) => return Err(AbsorbFault::HistoryFull),
+        Err(ReserveFault::Memory) => return Err(AbsorbFault::Memory),
+    }
+    bench.lawful();
+    let fired = fire_listed(alloc, bench, events);
+    bench.lawful();
+    match fired {
+        Ok(turns) => {
+            let Turns { ids, mut missing } = turns;
+            let Some(name) = missing.pop_first() else {
+                return Ok(ids.len() as u32);
+            };
+            take_back(bench, ids);
+            bench.lawful();
+            Err(AbsorbFault::NeverActive(name))
+        }
+        Err(stop) => {
+            let Stop { ids, why } = stop;
+            take_back(bench, ids);
+            bench.lawful();
+            Err(fault_of(why))
+        }
+    }
+}
+
+/// Undoes all that was fired, the last event first. It takes no memory.
+fn take_back<L: LinkStore>(bench: &mut Bench<L>, ids: Vec<EventId>)
+    requires free { AreIdsOfFree bench.old ids.items }
+    requires room { length ids.items ≤ bench.old.room }
+    ensures { AreUndoneFrom bench.old ids.items bench.new }
+{
+    undo_each(bench, &ids);
+}
+
+/// The fault that a hindrance is.
+fn fault_of(why: Hindrance) -> AbsorbFault
+    ensures { result ≡ fault_from why }
+{
+    match why {
+        Hindrance::Deep => AbsorbFault::Deep,
+        Hindrance::Full => AbsorbFault::Full,
+        Hindrance::Memory => AbsorbFault::Memory,
+    }
+}
