@@ -1,5 +1,5 @@
 -- The command line, and what it chooses.
-use Rattle.std.specs.Prelude.{◌≡◌, ◌≤◌, ◌⊎◌, ℕ, List, [], Option, MatchOption, pos, Some, codes}
+use Rattle.std.specs.Prelude.{◌≡◌, ◌≤◌, ◌⊎◌, ℕ, List, [], Option, MatchOption, pos, Some, true, codes}
 use Rattle.std.specs.Str.Parse.{digits_value, without_leading_plus}
 use Rattle.clap.specs.Words.{App, IsAmong, Rule, Text, new_app, new_rule, with_rule, matches_of, one_of, fault_of}
 use Rattle.clap.specs.declared.builder.action.ArgAction.TheVariants.{Set}
@@ -26,9 +26,13 @@ workers_rule = number_rule (codes "workers") 1 MAX_WORKERS
 abbrev pub budget_rule : Rule
 budget_rule = number_rule (codes "budget") 0 MAX_BUDGET
 
+-- a program that tells its version where it is asked to
+abbrev pub versioned : App → App
+versioned app = record app { top = record app.top { has_version = true } }
+
 -- the program, as its command line is read
 abbrev pub icbench : App
-icbench = with_rule (with_rule (new_app (codes "icbench")) workers_rule) budget_rule
+icbench = with_rule (with_rule (versioned (new_app (codes "icbench"))) workers_rule) budget_rule
 
 -- the number that an option was given, or what stands where it was not given; it is within the option's limits
 pub record IsChoice (otherwise low high : ℕ) (given : Option Text) (n : ℕ) : Type 0 where

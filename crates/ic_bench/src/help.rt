@@ -1,3 +1,9 @@
+/// The version of the program.
+pub const VERSION: &str = "0.1.0";
+
+/// How the program is called.
+pub const USE: &str = "icbench [--workers 1..64] [--budget 0..1048576] < FILE";
+
 /// What stands in the help above the usage.
 pub const ABOUT: &str =
     "A workbench for nets of interaction combinators: fires interactions, and takes them back in any causal order.
@@ -21,6 +27,7 @@ Commands:
   reduce N     fire up to N active pairs, each time the one with the least name; in any order with several workers
   mark NAME    note which events stand
   back NAME    go back to the events that were noted
+  absorb K     fire the events that the next K lines list, A B each, in whatever order they can be fired
   journal      list the events that stand
   undo-all     undo all events
 
@@ -37,6 +44,17 @@ Example:
   0 1
   fired 0 1
   why 0 1 rank 0 causes 0
+
+Refusals:
+  1 to 9   the net text is wrong, mostly with the byte where; without the line --- all of the input is net text
+  21       one of the agents isn't there, or no wire joins their principal ports
+  22, 23   names would get too long; there would be too many agents
+  24       the history is full, since what was undone doesn't leave it: begin a session anew
+  25       there is no memory
+  31, 32   no such event stands; the one that is named rests on it and has to be undone first
+  40       no command: write commands in lower case, agents as 0 or 0.2, and two different ones
+  41, 42   there is no such mark; there are 256 marks
+  51       the event that is named can't come to stand with what stands and what is listed
 
 Exit status:
   0    the session ended

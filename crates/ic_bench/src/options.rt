@@ -3,7 +3,7 @@ ghost use Rattle.clap.specs.Words.{IsPlain, IsPlainArg, app_of, kind_of, rule_of
 ghost use Rattle.clap.specs.declared.builder.command.Command.TheViews.{out-Command};
 ghost use Rattle.ic_bench.specs.CommandLine.{Choose, IsFaultOf, budget_rule, icbench, workers_rule};
 
-use crate::help::{ABOUT, LESSON};
+use crate::help::{ABOUT, LESSON, USE, VERSION};
 use clap::{Arg, ArgAction, Command, Error, value_parser};
 use ic_session::{MAX_BUDGET, MAX_WORKERS};
 use std::alloc::{AllocError, Global};
@@ -39,7 +39,9 @@ fn command<'a>(alloc: Global) -> Result<Command<'a>, AllocError>
     ensures local { IfOk result (λ command. (out-Command command).has_globals ≡ false) }
 {
     Command::new(alloc, "icbench")
+        .version(VERSION)
         .about(ABOUT)
+        .override_usage(USE)
         .after_help(LESSON)
         .arg(workers_argument(alloc))?
         .arg(budget_argument(alloc))
@@ -52,10 +54,10 @@ fn workers_argument<'a>(alloc: Global) -> Arg<'a>
 {
     Arg::new(alloc, "workers")
         .long("workers")
-        .value_name("N")
+        .value_name("1..64")
         .value_parser(value_parser!(u8).range(1..=i64::from(MAX_WORKERS)))
         .action(ArgAction::Set)
-        .help("workers of a reduce, each on a thread of its own, 1 to 64 [default: 1]")
+        .help("workers of a reduce, each on a thread of its own [default: 1]")
 }
 
 /// The option that says how much a `reduce` may fire.
@@ -65,8 +67,8 @@ fn budget_argument<'a>(alloc: Global) -> Arg<'a>
 {
     Arg::new(alloc, "budget")
         .long("budget")
-        .value_name("N")
+        .value_name("0..1048576")
         .value_parser(value_parser!(u32).range(0..=i64::from(MAX_BUDGET)))
         .action(ArgAction::Set)
-        .help("the most that a reduce fires, 0 to 1048576 [default: 1048576]")
+        .help("the most that a reduce fires [default: 1048576]")
 }

@@ -122,10 +122,10 @@ fn refuses<T: Threads + Wait + Sync>(
 #[test]
 fn command_lines_that_are_refused(rt: HostRuntime) {
     let no_workers =
-        b"error: invalid value '0' for '--workers <N>': 0 is not in 1..=64\n\nFor more information, try '--help'.\n";
+        b"error: invalid value '0' for '--workers <1..64>': 0 is not in 1..=64\n\nFor more information, try '--help'.\n";
     assert!(rt; refuses(&rt, rt.alloc(), &["icbench", "--workers", "0"], no_workers));
     let many_workers =
-        b"error: invalid value '65' for '--workers <N>': 65 is not in 1..=64\n\nFor more information, try '--help'.\n";
+        b"error: invalid value '65' for '--workers <1..64>': 65 is not in 1..=64\n\nFor more information, try '--help'.\n";
     assert!(rt;
         refuses(
             &rt,
@@ -135,10 +135,10 @@ fn command_lines_that_are_refused(rt: HostRuntime) {
         )
     );
     let much =
-        b"error: invalid value '1048577' for '--budget <N>': 1048577 is not in 0..=1048576\n\nFor more information, try '--help'.\n";
+        b"error: invalid value '1048577' for '--budget <0..1048576>': 1048577 is not in 0..=1048576\n\nFor more information, try '--help'.\n";
     assert!(rt; refuses(&rt, rt.alloc(), &["icbench", "--budget", "1048577"], much));
     let word =
-        b"error: unexpected argument 'net' found\n\nUsage: icbench [OPTIONS]\n\nFor more information, try '--help'.\n";
+        b"error: unexpected argument 'net' found\n\nUsage: icbench [--workers 1..64] [--budget 0..1048576] < FILE\n\nFor more information, try '--help'.\n";
     assert!(rt; refuses(&rt, rt.alloc(), &["icbench", "net"], word));
 }
 
@@ -161,15 +161,22 @@ fn the_help_names_each_command(rt: HostRuntime) -> Result<(), Fail> {
         "reduce N",
         "mark NAME",
         "back NAME",
+        "absorb K",
         "journal ",
         "undo-all ",
-        "--workers <N>",
-        "--budget <N>",
+        "--workers <1..64>",
+        "--budget <0..1048576>",
     ];
     for name in names {
         assert!(rt; text.contains(name), "no {name}");
     }
     Ok(())
+}
+
+#[test]
+fn the_version_is_told(rt: HostRuntime) {
+    let words = ["icbench", "--version"];
+    assert!(rt; runs(&rt, rt.alloc(), &words, b"", 0, b"icbench 0.1.0\n", b""));
 }
 
 #[test]

@@ -1,31 +1,13 @@
 use crate::answers::{answer_of, answers};
+use crate::names::{name_of, names_of, standing_names};
 use crate::player::{Game, Player, wins};
-use ic_journal::{Bench, LinkStore, Store};
-use ic_name::{AgentName, EventName};
+use ic_journal::{Bench, Store};
+use ic_name::EventName;
 use ic_reduce::{NoGate, fire_least};
 use ic_text::read_net;
 use ic_undo::{AbsorbFault, absorb};
 use std::alloc::Global;
 use std::test::Fail;
-
-/// The name of the event of two agents.
-fn name_of(alloc: Global, a: &[u8], b: &[u8]) -> Result<EventName, Fail> {
-    let first = AgentName::read(alloc, a)?;
-    let second = AgentName::read(alloc, b)?;
-    match EventName::of(first, second) {
-        Some(name) => Ok(name),
-        None => Err("two agents".into()),
-    }
-}
-
-/// The names of the events of these agents.
-fn names_of(alloc: Global, pairs: &[(&[u8], &[u8])]) -> Result<Vec<EventName>, Fail> {
-    let mut names = Vec::new(alloc);
-    for (a, b) in pairs {
-        names.push(name_of(alloc, a, b)?)?;
-    }
-    Ok(names)
-}
 
 /// The number of what absorbing answers, and how many events it absorbed: 0 and that, or the refusal's and 0.
 fn absorbs(alloc: Global, bench: &mut Bench<Store>, names: &[EventName]) -> (u8, u32) {
@@ -94,21 +76,6 @@ impl Game for Least {
 fn the_least_that_cannot_come_is_named(rt: HostRuntime) -> Result<(), Fail> {
     assert!(rt; wins(rt.alloc(), NET, &Least)?);
     Ok(())
-}
-
-/// The names of what stands on a bench.
-fn standing_names<L: LinkStore>(alloc: Global, bench: &Bench<L>) -> Result<Vec<EventName>, Fail> {
-    let mut names = Vec::new(alloc);
-    for id in &bench.standing()? {
-        if let Some(event) = bench.event_of(*id)? {
-            let lead = event.lead().copy()?;
-            let other = event.other().copy()?;
-            if let Some(name) = EventName::of(lead, other) {
-                names.push(name)?;
-            }
-        }
-    }
-    Ok(names)
 }
 
 /// A bench over four copies of a net, on which so many events were fired.

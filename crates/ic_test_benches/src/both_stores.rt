@@ -1,10 +1,11 @@
 use crate::answers::{answer_of, answers};
+use crate::calls::{fired, some_agents, some_event};
 use crate::numbers::Numbers;
 use crate::player::{Game, Player, wins};
 use crate::random_nets::some_net;
-use ic_journal::{ActivePair, Bench, LinkStore, Store};
+use ic_journal::{Bench, Store};
 use ic_link::LinkRows;
-use ic_name::{AgentId, EventId};
+use ic_name::AgentId;
 use ic_text::read_net;
 use std::alloc::Global;
 use std::test::Fail;
@@ -13,47 +14,6 @@ use std::test::Fail;
 fn bench_over(alloc: Global, text: &[u8]) -> Result<Bench<LinkRows>, Fail> {
     let start = read_net(alloc, text)?;
     Ok(Bench::over(alloc, start)?)
-}
-
-/// What a bench answers to the firing of two agents: an id, or the number of a refusal.
-fn fired<L: LinkStore>(
-    bench: &mut Bench<L>,
-    lead: AgentId,
-    other: AgentId,
-) -> Result<Result<EventId, u8>, Fail> {
-    let proposal = bench.propose(lead, other)?;
-    match bench.fire(proposal) {
-        Ok(id) => Ok(Ok(id)),
-        Err(fault) => Ok(Err(fault.number())),
-    }
-}
-
-/// One of the events that stand.
-fn some_event(bench: &Bench<LinkRows>, numbers: &mut Numbers) -> Result<Option<EventId>, Fail> {
-    let ids = bench.standing()?;
-    if ids.is_empty() {
-        return Ok(None);
-    }
-    Ok(ids.get(numbers.below(ids.len())).copied())
-}
-
-/// Two agents of these pairs, the first one a lead.
-fn agents_of(pairs: &[ActivePair], numbers: &mut Numbers) -> Option<(AgentId, AgentId)> {
-    if pairs.is_empty() {
-        return None;
-    }
-    let lead = pairs.get(numbers.below(pairs.len()))?.lead;
-    let other = pairs.get(numbers.below(pairs.len()))?.other;
-    Some((lead, other))
-}
-
-/// Two agents of active pairs, if there are any.
-fn some_agents(
-    bench: &Bench<LinkRows>,
-    numbers: &mut Numbers,
-) -> Result<Option<(AgentId, AgentId)>, Fail> {
-    let pairs = bench.active()?;
-    Ok(agents_of(&pairs, numbers))
 }
 
 /// Whether a bench over either store answers one firing alike.

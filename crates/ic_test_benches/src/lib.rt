@@ -1,4 +1,4 @@
-// Tests of public calls: steps and replays of nets, benches, undoing, and sets of events.
+// Tests of public calls: steps and replays of nets, benches, undoing, sets of events, and traces.
 #![tactic(auto)]
 
 #[cfg(test)]
@@ -8,6 +8,8 @@ mod answers;
 #[cfg(test)]
 mod both_stores;
 #[cfg(test)]
+mod calls;
+#[cfg(test)]
 mod causal_orders;
 #[cfg(test)]
 mod events;
@@ -15,6 +17,8 @@ mod events;
 mod going_back;
 #[cfg(test)]
 mod histories;
+#[cfg(test)]
+mod names;
 #[cfg(test)]
 mod numbers;
 #[cfg(test)]
@@ -33,5 +37,9 @@ mod reductions;
 mod replays;
 #[cfg(test)]
 mod steps;
+#[cfg(test)]
+mod trace_checks;
+#[cfg(test)]
+mod traces;
 #[cfg(test)]
 mod unwinding;

@@ -1,0 +1,9 @@
+pub mod Letters
+pub mod Moves
+pub mod Accepted
+pub mod Traces
+pub mod Faults
+pub mod Known
+pub mod Readings
+pub mod Cursors
+pub mod Sortings

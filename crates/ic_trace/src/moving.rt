@@ -1,0 +1,8 @@
+/// A move of a list of letters, at the letter with this number and the one behind it, counted from 0.
+#[derive(Clone, Copy, Debug, PartialEq, Eq)]
+pub enum Move {
+    /// The two change places.
+    Swap(usize),
+    /// The two, of which one is the inverse of the other, go.
+    Cancel(usize),
+}

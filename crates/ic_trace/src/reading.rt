@@ -1,0 +1,166 @@
+ghost use Rattle.std.specs.Prelude.{◌≡◌, ◌≤◌, ◌<◌, ◌↔◌, length, option_map, IsTrue, IfOk};
+ghost use Rattle.ic_name.specs.Events.{Event as AnEvent, pair};
+ghost use Rattle.ic_name.specs.declared.limits.TheConstants.{MAX_LINES};
+ghost use Rattle.ic_theory.specs.Active.{IsActive};
+ghost use Rattle.ic_trace.specs.declared.lists.Letter.TheVariants.{Fire, Undo};
+ghost use Rattle.ic_trace.specs.declared.reading.Step.TheVariants as step;
+ghost use Rattle.ic_trace.specs.Readings.{IsFollowed, ReadsAs, IsReadingOf, IsOnlyActive, AreInverse, number_of};
+
+use crate::known::{EventTable, Known, rank_above};
+use crate::lists::Letter;
+use ic_name::{Event, EventName};
+use ic_past::Past;
+use ic_start::Start;
+use std::alloc::{AllocError, Global};
+
+/// A letter of a list, by the number of its event.
+#[derive(Clone, Copy)]
+pub(crate) enum Step {
+    Fire(usize),
+    Undo(usize),
+}
+
+impl Step {
+    /// The number of the event.
+    pub fn number(self) -> usize
+        ensures { result ≡ number_of self }
+    {
+        match self {
+            Step::Fire(number) | Step::Undo(number) => number,
+        }
+    }
+
+    /// Whether one of the two letters undoes what the other one does.
+    pub fn undoes(self, other: Step) -> bool
+        ensures { IsTrue result ↔ AreInverse self other }
+    {
+        match (self, other) {
+            (Step::Fire(number), Step::Undo(another)) | (Step::Undo(number), Step::Fire(another)) =>
+                number == another,
+            (Step::Fire(_), Step::Fire(_)) | (Step::Undo(_), Step::Undo(_)) => false,
+        }
+    }
+}
+
+/// A legal list of letters, and what is known of its events.
+#[derive(Drop)]
+pub(crate) struct Trace {
+    pub known: Vec<Known>,
+    pub steps: Vec<Step>,
+}
+
+/// What reading a list gives: the list, or the number of the first letter that the start doesn't accept.
+#[derive(Drop)]
+pub(crate) enum Reading {
+    Legal(Trace),
+    Refused(usize),
+}
+
+/// Reads a list of letters.
+pub(crate) fn read(alloc: Global, start: &Start, letters: &[Letter]) -> Result<Reading, AllocError>
+    requires { length letters.now ≤ MAX_LINES }
+    ensures { IfOk result (λ reading. IsReadingOf start.now letters.now reading) }
+{
+    start.lawful();
+    let mut past = Past::over(alloc, start)?;
+    let mut table = EventTable::new(alloc);
+    let mut steps = Vec::new(alloc);
+    for (number, letter) in letters.iter().enumerate() {
+        match read_letter(alloc, &mut past, &mut table, letter)? {
+            Some(step) => steps.push(step)?,
+            None => return Ok(Reading::Refused(number)),
+        }
+    }
+    Ok(Reading::Legal(Trace {
+        known: table.known,
+        steps,
+    }))
+}
+
+/// Reads a letter; `None` where it isn't accepted.
+fn read_letter(
+    alloc: Global,
+    past: &mut Past,
+    table: &mut EventTable,
+    letter: &Letter,
+) -> Result<Option<Step>, AllocError>
+    requires followed { IsFollowed past.old table.old }
+    requires few { length past.old.events < MAX_LINES }
+    ensures { IfOk result (λ step. ReadsAs past.old table.old.known.items letter.now step past.new table.new) }
+{
+    match letter {
+        Letter::Fire(name) => match read_firing(alloc, past, table, name)? {
+            Some(number) => Ok(Some(Step::Fire(number))),
+            None => Ok(None),
+        },
+        Letter::Undo(name) => match read_undo(past, table, name) {
+            Some(number) => Ok(Some(Step::Undo(number))),
+            None => Ok(None),
+        },
+    }
+}
+
+/// Reads a firing, and notes the event where it is new.
+fn read_firing(
+    alloc: Global,
+    past: &mut Past,
+    table: &mut EventTable,
+    name: &EventName,
+) -> Result<Option<usize>, AllocError>
+    requires followed { IsFollowed past.old table.old }
+    requires few { length past.old.events < MAX_LINES }
+    ensures { IfOk result (λ number. ReadsAs past.old table.old.known.items (Fire name.now) (option_map step.Fire number) past.new table.new) }
+{
+    past.lawful();
+    let Some(event) = event_of(past, name)? else {
+        return Ok(None);
+    };
+    if !past.fire(&event)? {
+        return Ok(None);
+    }
+    if let Some(number) = table.number(name.lead()) {
+        return Ok(Some(number));
+    }
+    let Some(causes) = past.causes(name)? else {
+        unreachable!()
+    };
+    let causes = table.numbers_of(alloc, &causes)?;
+    let rank = rank_above(&table.known, &causes);
+    let number = table.add(Known {
+        event,
+        causes,
+        rank,
+    })?;
+    Ok(Some(number))
+}
+
+/// Reads an undo.
+fn read_undo(past: &mut Past, table: &EventTable, name: &EventName) -> Option<usize>
+    requires { IsFollowed past.old table.now }
+    ensures { ReadsAs past.old table.now.known.items (Undo name.now) (option_map step.Undo result) past.new table.now }
+{
+    if !past.undo(name) {
+        return None;
+    }
+    let Some(number) = table.number(name.lead()) else {
+        unreachable!()
+    };
+    Some(number)
+}
+
+/// The event of this name that may be active; `None` where an agent of it isn't there.
+fn event_of(past: &Past, name: &EventName) -> Result<Option<Event>, AllocError>
+    ensures { IfOk result (λ event. IsOnlyActive past.now name.now event) }
+{
+    past.lawful();
+    name.lawful();
+    let Some(lead_kind) = past.kind(name.lead()) else {
+        return Ok(None);
+    };
+    let Some(other_kind) = past.kind(name.other()) else {
+        return Ok(None);
+    };
+    let lead = name.lead().copy()?;
+    let other = name.other().copy()?;
+    Ok(Event::of(lead, lead_kind, other, other_kind))
+}
