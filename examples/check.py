@@ -2,7 +2,8 @@
 """Runs the sessions of this folder on the built program: python3 examples/check.py [PROGRAM].
 
 Each NAME.session has what it is answered beside it, in NAME.answer. Prints the names of those that are answered
-otherwise, and of those that `ic_rows`, which the gate runs, holds in another form; the status is 1 if there are any.
+otherwise, and of those that `ic_rows`, which the gate runs, holds in another form, and last how many there are of both; the
+status is 1 if there are any.
 """
 
 import pathlib
@@ -22,8 +23,8 @@ def is_row(session, answer):
 
 def main():
     program = sys.argv[1] if len(sys.argv) > 1 else str(PROGRAM)
-    wrong = 0
-    for session in sorted(HERE.glob("*.session")):
+    sessions, wrong = sorted(HERE.glob("*.session")), 0
+    for session in sessions:
         done = subprocess.run([program], input=session.read_bytes(), capture_output=True, check=False)
         answer = session.with_suffix(".answer").read_bytes()
         if done.returncode != 0 or done.stdout != answer:
@@ -32,6 +33,7 @@ def main():
         if not is_row(session, answer):
             print(f"{session.name}: differs from crates/ic_rows/data")
             wrong += 1
+    print(f"{len(sessions)} sessions, {wrong} differences")
     sys.exit(1 if wrong else 0)
 
 

@@ -12,6 +12,7 @@ pub mod OneQuery
 pub mod OneChange
 pub mod OneUnwinding
 pub mod OneReduction
+pub mod OneNormalText
 pub mod Reaching
 pub mod OneAnswer
 pub mod WaysBack

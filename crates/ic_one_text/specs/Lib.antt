@@ -1,3 +1,4 @@
 pub mod Wants
 pub mod States
 pub mod NormalEnds
+pub mod Reductions
