@@ -119,6 +119,13 @@ fn in_turn(alloc: Global, count: usize) -> Result<Vec<Letter>, Fail> {
 }
 
 #[test]
+fn refusals_of_lists_have_numbers(rt: HostRuntime) {
+    assert!(rt; TraceFault::TooMany.number() == 71);
+    assert!(rt; TraceFault::NotLegal(3).number() == 72);
+    assert!(rt; TraceFault::Memory.number() == 25);
+}
+
+#[test]
 fn a_list_has_two_thousand_letters_at_most(rt: HostRuntime) -> Result<(), Fail> {
     let most = in_turn(rt.alloc(), 2_000)?;
     let more = in_turn(rt.alloc(), 2_001)?;
