@@ -4,3 +4,4 @@ pub mod Unwinding
 pub mod Replies
 pub mod Ends
 pub mod Turns
+pub mod Longer

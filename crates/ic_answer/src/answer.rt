@@ -1,6 +1,7 @@
 ghost use Rattle.std.specs.Prelude.{◌≡◌, IfOk, MatchResult, OnErr};
 ghost use Rattle.ic_answer.specs.declared.refused.Refused.TheVariants.{Memory};
 ghost use Rattle.ic_answer.specs.Texts.{answer_text, refusal_text};
+ghost use Rattle.ic_answer.specs.Longer.{IsLonger};
 ghost use Rattle.ic_answer.specs.Turns.{Turns};
 
 use crate::changing::{fire, undo};
@@ -36,13 +37,14 @@ impl Answer {
 
 /// Carries out a command over a bench. Where there is no memory for it, the answer is a refusal, and then neither net nor
 /// standing set have changed, but for what a `reduce` says that it has fired. An error where there is no memory for the
-/// answer to a command that has changed them; the start stays the same then, too.
+/// answer to a command that has changed them. The start stays the same in each case, and the history only grows.
 pub fn carry_out<L: LinkStore>(
     alloc: Global,
     bench: &mut Bench<L>,
     command: Command,
 ) -> Result<Answer, AllocError>
-    ensures { MatchResult result (λ answer. Turns bench.old command (answer_text answer) bench.new) (λ _. bench.new.start ≡ bench.old.start) }
+    ensures turns { MatchResult result (λ answer. Turns bench.old command (answer_text answer) bench.new) (λ _. bench.new.start ≡ bench.old.start) }
+    ensures lines { IsLonger bench.old bench.new }
 {
     match command {
         Command::Nothing => Ok(Answer::Text(Vec::new(alloc))),

@@ -1,6 +1,7 @@
 ghost use Rattle.std.specs.Prelude.{◌≡◌, IfOk, MatchResult};
 ghost use Rattle.ic_command.specs.declared.command.Command.TheVariants.{Reduce};
 ghost use Rattle.ic_answer.specs.Texts.{answer_text};
+ghost use Rattle.ic_answer.specs.Longer.{IsLonger};
 ghost use Rattle.ic_answer.specs.Turns.{Turns};
 ghost use Rattle.ic_answer.specs.Ends.{end_text};
 
@@ -16,7 +17,8 @@ pub(crate) fn reduce<L: LinkStore>(
     bench: &mut Bench<L>,
     most: u32,
 ) -> Result<Answer, AllocError>
-    ensures { MatchResult result (λ answer. Turns bench.old (Reduce most) (answer_text answer) bench.new) (λ _. bench.new.start ≡ bench.old.start) }
+    ensures turns { MatchResult result (λ answer. Turns bench.old (Reduce most) (answer_text answer) bench.new) (λ _. bench.new.start ≡ bench.old.start) }
+    ensures lines { IsLonger bench.old bench.new }
 {
     let (fired, end) = fire_least(bench, most, &NoGate, 0);
     Ok(Answer::Text(end_text(alloc, fired, end)?))

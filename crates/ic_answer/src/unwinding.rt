@@ -3,6 +3,7 @@ ghost use Rattle.std.specs.Fmt.{decimal};
 ghost use Rattle.std.specs.List.{flat_map};
 ghost use Rattle.ic_command.specs.declared.command.Command.TheVariants.{UndoAll, Unwind};
 ghost use Rattle.ic_answer.specs.Texts.{answer_text, pair_line, undone_all_text};
+ghost use Rattle.ic_answer.specs.Longer.{IsLonger};
 ghost use Rattle.ic_answer.specs.Turns.{Turns};
 
 use crate::answer::Answer;
@@ -19,7 +20,8 @@ pub(crate) fn undo_with_dependents<L: LinkStore>(
     bench: &mut Bench<L>,
     event: &EventName,
 ) -> Result<Answer, AllocError>
-    ensures { MatchResult result (λ answer. Turns bench.old (Unwind event.now) (answer_text answer) bench.new) (λ _. bench.new.start ≡ bench.old.start) }
+    ensures turns { MatchResult result (λ answer. Turns bench.old (Unwind event.now) (answer_text answer) bench.new) (λ _. bench.new.start ≡ bench.old.start) }
+    ensures lines { IsLonger bench.old bench.new }
 {
     bench.lawful();
     let Some(id) = bench.event(event) else {
@@ -40,7 +42,8 @@ pub(crate) fn undo_everything<L: LinkStore>(
     alloc: Global,
     bench: &mut Bench<L>,
 ) -> Result<Answer, AllocError>
-    ensures { MatchResult result (λ answer. Turns bench.old UndoAll (answer_text answer) bench.new) (λ _. bench.new.start ≡ bench.old.start) }
+    ensures turns { MatchResult result (λ answer. Turns bench.old UndoAll (answer_text answer) bench.new) (λ _. bench.new.start ≡ bench.old.start) }
+    ensures lines { IsLonger bench.old bench.new }
 {
     bench.lawful();
     let cleared = clear(bench);

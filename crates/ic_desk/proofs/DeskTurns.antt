@@ -1,7 +1,7 @@
 -- What a desk answers, put together.
-use Rattle.std.proofs.Common.{◌≡◌, ◌≤◌, ◌<◌, ℕ, List, length, Option, None, Result, Ok, Err, IfErr, refl, sym, ap, subst, arith, ◌∙◌}
+use Rattle.std.proofs.Common.{◌≡◌, ◌≤◌, ◌<◌, ℕ, List, length, map, Option, None, Result, Ok, Err, IfOk, IfErr, refl, sym, ap, subst, arith, ◌∙◌}
 use Rattle.std.specs.Prelude.{MatchResult}
-use Rattle.ic_path.specs.Orders.{IsIn}
+use Rattle.ic_path.specs.Orders.{IsIn, Alike}
 use Rattle.ic_path.proofs.Alikes.{alike_back, alike_then}
 use Rattle.ic_journal.specs.Views.{BenchView}
 use Rattle.ic_journal.specs.Benches.{IsAt, IsBench}
@@ -15,28 +15,48 @@ use Rattle.ic_command.specs.declared.request.Request.{Request}
 use Rattle.ic_command.specs.declared.request.Request.TheVariants.{Bench, Mark, Back}
 use Rattle.ic_answer.specs.declared.answer.Answer.{Answer}
 use Rattle.ic_answer.specs.declared.refused.Refused.TheVariants.{HistoryFull, Memory, NoMark, TooManyMarks}
+use Rattle.ic_answer.specs.Longer.{IsLonger}
 use Rattle.ic_answer.specs.Texts.{answer_text, refusal_text}
 use Rattle.ic_answer.specs.Turns as bench
+use Rattle.ic_desk.specs.Desks.{Noted}
 use Rattle.ic_desk.specs.Places.{IsPlace, PutsAt}
 use Rattle.ic_desk.specs.Replies.{Replies, marked_text, back_text, wanting_text, of_bench, marked, too_many, mark_memory, no_mark, back_history_full, back, back_memory}
-use Rattle.ic_desk.specs.Views.{NamedView, DeskView, IsDesk, Turns}
+use Rattle.ic_desk.specs.Views.{NamedView, DeskView, IsDesk, Turns, note_of}
 use Rattle.ic_desk.specs.declared.desk.TheConstants.{MAX_MARKS}
 use Rattle.ic_desk.proofs.BackReplies.{mark_over, doesnt_fit_at, goes_back, goes_part_way}
+use Rattle.ic_desk.proofs.LongerHistories.{back_adds, back_stays}
 use Rattle.ic_desk.proofs.Marks.{noted, none_noted, noted_length, puts}
+use Rattle.ic_desk.proofs.Stoods.{mark_stays}
 
 -- a bench with marks
 abbrev pub desk_of : BenchView → List NamedView → DeskView
 desk_of v marks = record { bench = v; marks = marks }
 
--- the marks stay over the start of the bench where it stays
-pub desk_still : (old new : BenchView) (marks : List NamedView) → IsDesk (desk_of old marks) → new.start ≡ old.start → IsDesk (desk_of new marks)
-desk_still old new marks d same = λ x i. d x i ∙ sym same
+-- the marks stay marks on the bench where its start stays and its history only grows
+pub desk_still : (old new : BenchView) (marks : List NamedView) → IsDesk (desk_of old marks) → new.start ≡ old.start → IsLonger old new → IsDesk (desk_of new marks)
+desk_still old new marks d same longer = λ x i. mark_stays old new x same longer (d x i)
 
--- and it does
+-- so they do on the way back to a mark, however far it comes
+pub desk_on_way : (old new : BenchView) (marks : List NamedView) (m : MarkView) (result : Result Counts BackFault)
+    → IfOk result (λ counts. IsBack old m counts new) → IfErr result (λ fault. IsntBack old m fault new) → IsDesk (desk_of old marks) → IsDesk (desk_of new marks)
+desk_on_way old new marks m result ok err d = desk_still old new marks d (back_stays old new m result ok err) (back_adds old new m result ok err)
+
+-- the start stays, whatever the answer
 pub same_start : {E : Type 0} (old new : BenchView) (marks : List NamedView) (request : Request) (r : Result Answer E)
     → MatchResult r (λ a. Turns (desk_of old marks) request (answer_text a) (desk_of new marks)) (λ _. new.start ≡ old.start) → new.start ≡ old.start
 same_start old new marks request (Ok a) h = h.start
 same_start old new marks request (Err e) h = h
+
+-- marks may be others of the same names and events
+pub same_notes : (old new : BenchView) (marks other : List NamedView) (r : Request) (text : List ℕ) → map note_of other ≡ map note_of marks
+    → Turns (desk_of old marks) r text (desk_of new marks) → Turns (desk_of old marks) r text (desk_of new other)
+same_notes old new marks other r text same t = record {
+  start = t.start;
+  replies = λ st at. (
+      let a = t.replies st at in
+      (a.0, a.1, record { bench = a.2.bench; marks = subst (λ (ns : List Noted). Alike ns a.0.marks) (sym same) a.2.marks })
+      );
+}
 
 -- what going back does, where the fault is known
 pub fault_known : {X : Type 0} (old : BenchView) (m : MarkView) (new : BenchView) (result : Result X BackFault) (f known : BackFault)
@@ -60,13 +80,13 @@ bench_answer old new marks c (Err e) h = h
 
 module _ (v : BenchView) (marks : List NamedView) (name : List ℕ) where
   -- what stands is marked
-  pub marks_turns : (new : List NamedView) (place : Option ℕ) (m : MarkView) (text : List ℕ) → IsPlace marks name place → (place ≡ None → length marks < MAX_MARKS)
-      → PutsAt marks place (record { name = name; mark = m }) new → Marks v m → text ≡ marked_text name (length m.events)
+  pub marks_turns : (new : List NamedView) (place : Option ℕ) (m : MarkView) (since : ℕ) (text : List ℕ) → IsPlace marks name place → (place ≡ None → length marks < MAX_MARKS)
+      → PutsAt marks place (record { name = name; mark = m; since = since }) new → Marks v m → text ≡ marked_text name (length m.events)
       → Turns (desk_of v marks) (Mark name) text (desk_of v new)
-  marks_turns new place m text p room is k told = record {
+  marks_turns new place m since text p room is k told = record {
     start = refl;
     replies = λ st at. (
-        let put = puts marks at.marks new name place (record { name = name; mark = m }) refl p room is in
+        let put = puts marks at.marks new name place (record { name = name; mark = m; since = since }) refl p room is in
         let alike = alike_then (alike_back (events_at v at.bench)) k.events in
         (record st { marks = put.0 }, subst (λ t. Replies v.start st (Mark name) t (record st { marks = put.0 })) (sym told) (marked alike put.1), record { bench = at.bench; marks = put.2 })
         );

@@ -3,6 +3,8 @@ pub mod MachineFirings
 pub mod WaysBack
 pub mod BackReplies
 pub mod Marks
+pub mod LongerHistories
+pub mod Stoods
 pub mod DeskTurns
 pub mod Sweeping
 pub mod AbsorbedRuns

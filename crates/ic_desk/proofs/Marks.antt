@@ -1,8 +1,8 @@
 -- The marks of a desk, and those of a state.
-use Rattle.std.proofs.Common.{◌≡◌, ℕ, zero, suc, ◌+◌, ◌<◌, ◌≤◌, List, [], ◌∷◌, ◌++◌, length, map, set, take, drop, get_or, Bool, true, false, not, Option, Some, None, ◌⊎◌, inl, inr, refl, sym, ap, subst, arith, ◌∙◌}
+use Rattle.std.proofs.Common.{◌≡◌, ℕ, zero, suc, ◌+◌, ◌<◌, ◌≤◌, List, [], ◌∷◌, ◌++◌, length, map, set, take, drop, get_or, Bool, true, false, not, Option, Some, None, ◌⊎◌, inl, inr, refl, sym, ap, subst, append-nil, arith, ◌∙◌}
 use Rattle.std.specs.Prelude.{slice_get}
 use Rattle.std.specs.Option.{is_some}
-use Rattle.std.proofs.lemmas.List.{length-map, take_more}
+use Rattle.std.proofs.lemmas.List.{length-map, take_more, take_all, drop_all}
 use Rattle.std.proofs.lemmas.Option.{slice_get_cases, get_or_from_slice_get}
 use Rattle.ic_path.specs.Orders.{Pick, here, there, IsIn, Alike}
 use Rattle.ic_path.proofs.Picks.{none_in, in_picked, in_others, in-cons_cases, pick-map}
@@ -53,17 +53,29 @@ has_at {X} xs i x e = by (slice_get_cases xs i).1
     by (inl w) = let same : w.0 ≡ x = let found = w.2 in cc in record { within = w.1; is = subst (λ y. get_or xs i y ≡ y) same w.3 }
     by (inr w) = let none = w.1 in absurd cc
 
+-- a list in whose place another one of its length comes is that one
+pub written_back : {X : Type 0} (n : ℕ) (new old : List X) → length new ≡ n → length old ≡ n → take n (new ++ drop (length new) old) ≡ new
+written_back n new old e f =
+    let none : drop (length new) old ≡ [] = drop_all (length new) old (omega (arith, e, f)) in
+    ap (λ xs. take n (new ++ xs)) none ∙ ap (take n) (append-nil new) ∙ take_all n new (omega (arith, e))
+
 -- a mark of this name is one of these
 pub record IsFound (marks : List NamedView) (name : List ℕ) (x : NamedView) : Type 0 where
   pub there : IsIn x marks
   pub named : x.name ≡ name
 
 -- what stands at the place is one
-pub found : (marks : List NamedView) (name : List ℕ) (i : ℕ) → IsPlace marks name (Some i) → (x : NamedView) → x ≡ get_or marks i x → IsFound marks name x
-found marks name i p x e = record {
-  there = subst (λ y. IsIn y marks) (sym e) (_, pick_at marks i x (has_at marks i p.0 p.1).within);
-  named = ap (λ (y : NamedView). y.name) (e ∙ get_or_from_slice_get marks i p.0 x p.1) ∙ p.2;
-}
+pub found : (marks : List NamedView) (name : List ℕ) (i : ℕ) → IsPlace marks name (Some i) → (d : NamedView) → IsFound marks name (get_or marks i d)
+found marks name i p d =
+    let is = get_or_from_slice_get marks i p.0 d p.1 in
+    record {
+      there = subst (λ y. IsIn y marks) ((has_at marks i p.0 p.1).is ∙ sym is) (_, pick_at marks i p.0 (has_at marks i p.0 p.1).within);
+      named = ap (λ (y : NamedView). y.name) is ∙ p.2;
+    }
+
+-- whatever would be read elsewhere
+pub same_read : (marks : List NamedView) (name : List ℕ) (i : ℕ) → IsPlace marks name (Some i) → (d e : NamedView) → get_or marks i d ≡ get_or marks i e
+same_read marks name i p d e = get_or_from_slice_get marks i p.0 d p.1 ∙ sym (get_or_from_slice_get marks i p.0 e p.1)
 
 -- the place of a mark is one
 pub place_in : (marks : List NamedView) (name : List ℕ) (place : Option ℕ) → IsPlace marks name place → IsPlaceIn marks place

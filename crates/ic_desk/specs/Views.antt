@@ -5,25 +5,32 @@ use Rattle.ic_theory.specs.Starts.{Start}
 use Rattle.ic_journal.specs.Views.{BenchView}
 use Rattle.ic_journal.specs.Benches.{IsAt, Opens}
 use Rattle.ic_undo.specs.Marks.{MarkView}
+use Rattle.ic_undo.specs.Stood.{StoodAt}
 use Rattle.ic_command.specs.declared.request.Request.{Request}
 use Rattle.ic_desk.specs.Desks.{Noted, State}
 use Rattle.ic_desk.specs.Replies.{Replies}
 
--- a mark under its name
+-- a mark under its name, and after how many lines of the history just its events last stood
 pub record NamedView : Type 0 where
   pub name : List ℕ
   pub mark : MarkView
+  pub since : ℕ
 
 -- a bench, and marks
 pub record DeskView : Type 0 where
   pub bench : BenchView
   pub marks : List NamedView
 
--- what a desk keeps: its marks were made over the start of its bench
-abbrev pub IsDesk : DeskView → Type 0
-IsDesk v = (x : NamedView) → IsIn x v.marks → x.mark.start ≡ v.bench.start
+-- a mark over the start of the bench, with a number of lines after which just its events stood
+pub record IsMarkOn (v : BenchView) (x : NamedView) : Type 0 where
+  pub start : x.mark.start ≡ v.start
+  pub stood : StoodAt v x.since x.mark
 
--- a mark without its start
+-- what a desk keeps: its marks are marks on its bench
+abbrev pub IsDesk : DeskView → Type 0
+IsDesk v = (x : NamedView) → IsIn x v.marks → IsMarkOn v.bench x
+
+-- a mark's name and events
 abbrev pub note_of : NamedView → Noted
 note_of x = record { name = x.name; events = x.mark.events }
 

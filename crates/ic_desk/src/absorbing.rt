@@ -1,4 +1,5 @@
 ghost use Rattle.std.specs.Prelude.{◌≡◌, MatchResult};
+ghost use Rattle.ic_answer.specs.Longer.{IsLonger};
 ghost use Rattle.ic_answer.specs.Texts.{answer_text};
 ghost use Rattle.ic_command.specs.declared.request.Request.TheVariants.{Absorb};
 ghost use Rattle.ic_desk.specs.Views.{IsDesk, Turns};
@@ -18,7 +19,8 @@ pub(crate) fn absorb_events<L: LinkStore>(
     marks: &[NamedMark],
     names: &Vec<EventName>,
 ) -> Result<Answer, AllocError>
-    ensures { MatchResult result (λ answer. Turns (record { bench = bench.old; marks = marks.now }) (Absorb names.now) (answer_text answer) (record { bench = bench.new; marks = marks.now })) (λ _. bench.new.start ≡ bench.old.start) }
+    ensures turns { MatchResult result (λ answer. Turns (record { bench = bench.old; marks = marks.now }) (Absorb names.now) (answer_text answer) (record { bench = bench.new; marks = marks.now })) (λ _. bench.new.start ≡ bench.old.start) }
+    ensures lines { IsLonger bench.old bench.new }
 {
     bench.lawful();
     let absorbed = absorb(alloc, bench, names);

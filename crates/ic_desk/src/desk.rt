@@ -1,4 +1,5 @@
 ghost use Rattle.std.specs.Prelude.{◌≡◌, ◌<◌, ◌≤◌, IfOk, MatchResult};
+ghost use Rattle.ic_answer.specs.Longer.{IsLonger};
 ghost use Rattle.ic_answer.specs.Texts.{answer_text};
 ghost use Rattle.ic_command.specs.declared.command.Command.TheVariants.{Reduce};
 ghost use Rattle.ic_command.specs.declared.request.Request.TheVariants as request;
@@ -68,7 +69,7 @@ impl<L: LinkStore> Desk<L> {
                 command,
             ),
             Request::Mark(name) => Ok(mark_under(alloc, &self.bench, &mut self.marks, name)),
-            Request::Back(name) => go_back(alloc, &mut self.bench, &self.marks, &name),
+            Request::Back(name) => go_back(alloc, &mut self.bench, &mut self.marks, &name),
             Request::Absorb(names) => absorb_events(alloc, &mut self.bench, &self.marks, &names),
         }
     }
@@ -141,7 +142,8 @@ fn carry_out_command<L: LinkStore>(
     marks: &[NamedMark],
     command: Command,
 ) -> Result<Answer, AllocError>
-    ensures { MatchResult result (λ answer. Turns (record { bench = bench.old; marks = marks.now }) (request.Bench command) (answer_text answer) (record { bench = bench.new; marks = marks.now })) (λ _. bench.new.start ≡ bench.old.start) }
+    ensures turns { MatchResult result (λ answer. Turns (record { bench = bench.old; marks = marks.now }) (request.Bench command) (answer_text answer) (record { bench = bench.new; marks = marks.now })) (λ _. bench.new.start ≡ bench.old.start) }
+    ensures lines { IsLonger bench.old bench.new }
 {
     carry_out(alloc, bench, command)
 }

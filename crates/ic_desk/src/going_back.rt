@@ -8,29 +8,35 @@ use crate::texts::{back_text, wanting_text};
 use ic_answer::{Answer, Refused};
 use ic_command::MarkName;
 use ic_journal::{Bench, LinkStore};
-use ic_undo::{BackFault, back};
+use ic_undo::{BackFault, back_since};
 use std::alloc::{AllocError, Global};
 
-/// Goes back to the mark of this name. An error where there is no memory for the answer.
+/// Goes back to the mark of this name, from what has changed since just its events last stood. An error where there is
+/// no memory for the answer.
 pub(crate) fn go_back<L: LinkStore>(
     alloc: Global,
     bench: &mut Bench<L>,
-    marks: &[NamedMark],
+    marks: &mut [NamedMark],
     name: &MarkName,
 ) -> Result<Answer, AllocError>
-    requires { IsDesk (record { bench = bench.old; marks = marks.now }) }
-    ensures { MatchResult result (λ answer. Turns (record { bench = bench.old; marks = marks.now }) (Back name.now) (answer_text answer) (record { bench = bench.new; marks = marks.now })) (λ _. bench.new.start ≡ bench.old.start) }
+    requires { IsDesk (record { bench = bench.old; marks = marks.old }) }
+    ensures turns { MatchResult result (λ answer. Turns (record { bench = bench.old; marks = marks.old }) (Back name.now) (answer_text answer) (record { bench = bench.new; marks = marks.new })) (λ _. bench.new.start ≡ bench.old.start) }
+    ensures desk { IsDesk (record { bench = bench.new; marks = marks.new }) }
 {
     bench.lawful();
     let Some(place) = place_of(marks, name) else {
         return Ok(Answer::Refused(Refused::NoMark));
     };
-    let mark = marks[place].mark();
+    let named = &marks[place];
+    let mark = named.mark();
     mark.lawful();
-    let went = back(alloc, bench, mark);
+    let went = back_since(alloc, bench, mark, named.since());
     bench.lawful();
     match went {
-        Ok(counts) => Ok(Answer::Text(back_text(alloc, name, counts)?)),
+        Ok(counts) => {
+            marks[place].stands_after(bench.lines() as usize);
+            Ok(Answer::Text(back_text(alloc, name, counts)?))
+        }
         Err(BackFault::HistoryFull) => Ok(Answer::Refused(Refused::HistoryFull)),
         Err(BackFault::Memory(counts)) => Ok(Answer::Text(wanting_text(alloc, counts)?)),
     }

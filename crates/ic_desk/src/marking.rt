@@ -47,9 +47,11 @@ fn marked<L: LinkStore>(
     if place.is_none() && full {
         return Ok(Answer::Refused(Refused::TooManyMarks));
     }
+    bench.lawful();
     let mark = mark(alloc, bench)?;
     let text = marked_text(alloc, &name, mark.len())?;
-    put(marks, place, NamedMark { name, mark })?;
+    let since = bench.lines() as usize;
+    put(marks, place, NamedMark { name, mark, since })?;
     Ok(Answer::Text(text))
 }
 

@@ -5,11 +5,12 @@ use ic_command::MarkName;
 use ic_undo::Mark;
 use std::marker::Model;
 
-/// A mark under its name.
+/// A mark under its name, and after how many lines of the history just its events last stood.
 #[derive(Drop)]
 pub(crate) struct NamedMark {
     pub(crate) name: MarkName,
     pub(crate) mark: Mark,
+    pub(crate) since: usize,
 }
 
 impl Model for NamedMark {
@@ -17,7 +18,7 @@ impl Model for NamedMark {
 
     ghost Value = { NamedView };
 
-    ghost view = { λ m. record { name = m.name; mark = m.mark } };
+    ghost view = { λ m. record { name = m.name; mark = m.mark; since = m.since } };
 }
 
 impl NamedMark {
@@ -31,6 +32,19 @@ impl NamedMark {
         ensures { result.now ≡ self.now.mark }
     {
         &self.mark
+    }
+
+    pub(crate) fn since(&self) -> usize
+        ensures { result ≡ self.now.since }
+    {
+        self.since
+    }
+
+    /// Just its events stand after so many lines.
+    pub(crate) fn stands_after(&mut self, lines: usize)
+        ensures { self.new ≡ record self.old { since = lines } }
+    {
+        self.since = lines;
     }
 }
 

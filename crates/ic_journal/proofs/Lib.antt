@@ -6,3 +6,4 @@ pub mod KeptLines
 pub mod KeptBenches
 pub mod PairLimits
 pub mod NamedPairs
+pub mod ChangedLines

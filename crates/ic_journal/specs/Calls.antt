@@ -50,6 +50,11 @@ Fires old e (Err fire.Full) new = Refuses old (Fire e) reply.Full new
 Fires old e (Err (fire.HistoryFull f)) new = (length old.lines ≡ MAX_LINES) × (f ≡ e) × (new ≡ old)
 Fires old e (Err (fire.Memory f)) new = (length old.lines < MAX_LINES) × (f ≡ e) × Stays old new
 
+-- the answer to a firing, with the id alone
+abbrev pub id_answer : Result Fired FireFault → Result EventId FireFault
+id_answer (Ok fired) = Ok fired.id
+id_answer (Err fault) = Err fault
+
 -- what firing the event of an active pair does, and the pairs that become active by it
 abbrev pub FiresPair : BenchView → Event → Result Fired PairFault → BenchView → Type 0
 FiresPair old e (Ok fired) new = Fires old e (Ok fired.id) new × Awakes (set_of old) (set_of new) fired.awoken

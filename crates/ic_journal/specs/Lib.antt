@@ -1,5 +1,6 @@
 pub mod Views
 pub mod Kept
+pub mod Changed
 pub mod Histories
 pub mod Benches
 pub mod Calls

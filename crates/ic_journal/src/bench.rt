@@ -1,6 +1,8 @@
 ghost use Rattle.std.specs.Prelude.{◌≡◌, IfOk};
 ghost use Rattle.ic_journal.specs.Benches.{IsBench, Opens};
-ghost use Rattle.ic_journal.specs.Calls.{Fires, Undoes, Reserves};
+ghost use Rattle.ic_set.specs.Pairs.{Awakes};
+ghost use Rattle.ic_journal.specs.Views.{set_of};
+ghost use Rattle.ic_journal.specs.Calls.{id_answer, Fires, Undoes, Reserves};
 
 use crate::faults::{FireFault, ReserveFault, UndoFault};
 use crate::history::History;
@@ -10,7 +12,7 @@ use crate::verdict::judge;
 use ic_link::LinkStore;
 use ic_name::limits::MAX_LINES;
 use ic_name::{EventId, Reply};
-use ic_set::StandingSet;
+use ic_set::{Fired, StandingSet};
 use ic_start::Start;
 use std::alloc::{AllocError, Global};
 use std::marker::Model;
@@ -93,6 +95,17 @@ impl<L: LinkStore> Bench<L> {
     pub fn fire(&mut self, proposal: Proposal) -> Result<EventId, FireFault>
         ensures { Fires self.old proposal result self.new }
     {
+        match self.fire_proposal(proposal) {
+            Ok(fired) => Ok(fired.id),
+            Err(fault) => Err(fault),
+        }
+    }
+
+    /// Fires an event as `fire` does, and tells with its id the pairs that became active by it.
+    pub fn fire_proposal(&mut self, proposal: Proposal) -> Result<Fired, FireFault>
+        ensures fires { Fires self.old proposal (id_answer result) self.new }
+        ensures awoken { IfOk result (λ fired. Awakes (set_of self.old) (set_of self.new) fired.awoken) }
+    {
         let line = self.history.len();
         if line == MAX_LINES {
             return Err(FireFault::HistoryFull(proposal));
@@ -117,7 +130,7 @@ impl<L: LinkStore> Bench<L> {
             return Err(FireFault::Memory(proposal));
         };
         self.history.note(KeptCall::Fired(event), Reply::Fired);
-        Ok(fired.id)
+        Ok(fired)
     }
 
     /// Undoes the firing of the event whose firing is the line of the id: one step of the machine, which adds a line. The

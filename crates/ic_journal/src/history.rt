@@ -1,10 +1,12 @@
 ghost use Rattle.std.specs.Prelude.{◌≡◌, ◌+◌, ◌<◌, ◌≤◌, ◌++◌, ◌∷◌, ◌↔◌, [], length, map, slice_get, IsTrue, Some, IfOk, OnOk, OnErr};
 ghost use Rattle.ic_name.specs.declared.limits.TheConstants.{MAX_LINES};
+ghost use Rattle.ic_name.specs.Events.{Event as AnEvent};
+ghost use Rattle.ic_journal.specs.Changed.{IsChangedIn, IsFiredIn};
 ghost use Rattle.ic_journal.specs.Kept.{line_in, AreLinesNamed};
 
 use crate::kept::{KeptCall, KeptLine};
 use ic_name::limits::MAX_LINES;
-use ic_name::{Call, Line, Reply};
+use ic_name::{Call, Event, Line, Reply};
 use ic_names::NameTable;
 use ic_roster::Roster;
 use std::alloc::{AllocError, Global};
@@ -106,5 +108,39 @@ impl History {
             lines.push(line.read(roster)?)?;
         }
         Ok(lines)
+    }
+
+    /// The event that the line with this number fired or undid; `None` where there is none. At an error memory ran out.
+    pub fn changed_in(&self, roster: &Roster, number: usize) -> Result<Option<Event>, AllocError>
+        requires { AreLinesNamed roster.now.names self.now.lines }
+        ensures { IfOk result (λ event. (e : AnEvent) → (event ≡ Some e) ↔ IsChangedIn (map (line_in roster.now.names) self.now.lines) number e) }
+    {
+        let Some(line) = self.lines.get(number) else {
+            return Ok(None);
+        };
+        if line.reply != Reply::Undone {
+            return self.fired_in(roster, number);
+        }
+        match &line.call {
+            KeptCall::Undo(fired) => self.fired_in(roster, *fired as usize),
+            KeptCall::Fired(_) | KeptCall::Refused(_) => Ok(None),
+        }
+    }
+
+    /// The event that the line with this number fired; `None` where there is none. At an error memory ran out.
+    fn fired_in(&self, roster: &Roster, number: usize) -> Result<Option<Event>, AllocError>
+        requires { AreLinesNamed roster.now.names self.now.lines }
+        ensures { IfOk result (λ event. (e : AnEvent) → (event ≡ Some e) ↔ IsFiredIn (map (line_in roster.now.names) self.now.lines) number e) }
+    {
+        let Some(line) = self.lines.get(number) else {
+            return Ok(None);
+        };
+        if line.reply != Reply::Fired {
+            return Ok(None);
+        }
+        match line.call.read(roster)? {
+            Call::Fire(event) => Ok(Some(event)),
+            Call::Undo(_) => Ok(None),
+        }
     }
 }

@@ -39,7 +39,7 @@ impl KeptCall {
     }
 
     /// The call with the names of a roster. At an error memory ran out.
-    fn read(&self, roster: &Roster) -> Result<Call, AllocError>
+    pub fn read(&self, roster: &Roster) -> Result<Call, AllocError>
         requires { IsCallNamed roster.now.names self.now }
         ensures { IfOk result (λ call. call ≡ call_in roster.now.names self.now) }
     {

@@ -3,6 +3,7 @@
 #![tactic(auto)]
 
 pub mod bench;
+pub mod changed;
 pub mod faults;
 mod firing;
 mod history;

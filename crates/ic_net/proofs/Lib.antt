@@ -14,3 +14,4 @@ pub mod ReachedNets
 pub mod WholeTables
 pub mod StepTables
 pub mod Replayed
+pub mod Makings

@@ -5,3 +5,4 @@ pub mod StepFaults
 pub mod Rewirings
 pub mod Tables
 pub mod Replays
+pub mod Makings

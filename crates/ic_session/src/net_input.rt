@@ -1,4 +1,4 @@
-ghost use Rattle.std.specs.Prelude.{◌≡◌, ◌++◌, IfErr, IfOk, IfSome, OnOk};
+ghost use Rattle.std.specs.Prelude.{◌≡◌, ◌≤◌, ◌++◌, IfErr, IfOk, IfSome, OnOk};
 ghost use Rattle.ic_lines.specs.Left.{left};
 ghost use Rattle.ic_lines.specs.Faults.{IsReadFault};
 ghost use Rattle.ic_session.specs.InputLines.{is_bar, whole_line};
@@ -32,6 +32,7 @@ pub fn read_net_text<R: Read>(
     reader: &mut R,
 ) -> Result<NetInput, IoFault>
     ensures read { IfOk result (λ net. IfSome (left input.old (R.remaining reader.old)) (λ bytes. ReadsNet net bytes (left input.new (R.remaining reader.new)))) }
+    ensures fewer { input.new.reads ≤ input.old.reads }
     ensures fault { IfErr result (IsReadFault input.old.reads input.new.reads) }
 {
     let mut text = Vec::new(alloc);

@@ -28,9 +28,6 @@ use std::io::{Read, Write};
 use std::sync::Wait;
 use std::thread::Threads;
 
-/// The calls of `read` that a session makes, at most; after so many, it ends with `Fault::Read`.
-pub const MAX_READS: u32 = 1_073_741_824;
-
 /// How a session ended.
 #[derive(Clone, Copy, Debug, PartialEq, Eq)]
 pub enum Status {
@@ -40,26 +37,28 @@ pub enum Status {
     NetRefused,
 }
 
-/// Runs a session: reads a net as text and commands, and writes an answer to each command. A `reduce` fires no more than
-/// the budget, whatever it asks for; with two workers or more, of 64 at most, it is a sweep by so many.
+/// Runs a session over an input: reads a net as text and commands, and writes an answer to each command.
 ///
-/// `Fault::Read` where the reader fails or `MAX_READS` calls were made, `Fault::Write` where the writer fails,
-/// `Fault::Memory` where there is no memory, and `Fault::Settle` where the workers of a sweep say that they did what the
-/// history doesn't say. What was written by then is a front of what a session may write.
-pub fn run_session<R: Read, W: Write, T: Threads + Wait + Sync>(
+/// `Fault::Read` only where a call of the reader was made, or none was left: the reader failed, or the input has no call
+/// of it left. `Fault::Write` where the writer fails, `Fault::Memory` where there is no memory, and `Fault::Settle` where
+/// the workers of a sweep say that they did what the history doesn't say. What was written by then is a front of what a
+/// session may write.
+#[tactic(auto, using(crate::proofs::SessionFacts::still_read_fault))]
+pub(crate) fn run_over<R: Read, W: Write, T: Threads + Wait + Sync>(
     threads: &T,
     alloc: Global,
+    input: &mut Input,
     reader: &mut R,
     writer: &mut W,
     workers: u8,
     budget: u32,
 ) -> Result<Status, Fault>
     requires { (0 < workers) × (workers ≤ MAX_WORKERS) }
-    ensures written { IfOk result (λ status. IfSome (R.remaining reader.old) (λ input. Writes workers budget input status (W.contents writer.old) (W.contents writer.new))) }
-    ensures begun { OnErr result (IfSome (R.remaining reader.old) (λ input. (text : List ℕ) × IsBegun workers budget input text × Appends (W.contents writer.old) (W.contents writer.new) text)) }
+    ensures written { IfOk result (λ status. IfSome (left input.old (R.remaining reader.old)) (λ bytes. Writes workers budget bytes status (W.contents writer.old) (W.contents writer.new))) }
+    ensures begun { OnErr result (IfSome (left input.old (R.remaining reader.old)) (λ bytes. (text : List ℕ) × IsBegun workers budget bytes text × Appends (W.contents writer.old) (W.contents writer.new) text)) }
+    ensures read { IfErr result (λ fault. fault ≡ Read → IsReadFault input.old.reads input.new.reads io_fault.Read) }
 {
-    let mut input = Input::new(alloc, MAX_READS)?;
-    let text = match read_net_text(alloc, &mut input, reader)? {
+    let text = match read_net_text(alloc, input, reader)? {
         NetInput::TooLong => return refuse(alloc, Refusal::TooLong, writer),
         NetInput::Whole(text) => text,
     };
@@ -69,9 +68,7 @@ pub fn run_session<R: Read, W: Write, T: Threads + Wait + Sync>(
         Err(TextFault::Refused(refusal)) => return refuse(alloc, refusal, writer),
     };
     let desk: Desk<Store> = Desk::over(alloc, start)?;
-    answer_all(
-        threads, alloc, desk, &mut input, reader, writer, workers, budget,
-    )?;
+    answer_all(threads, alloc, desk, input, reader, writer, workers, budget)?;
     Ok(Status::Ended)
 }
 
@@ -102,6 +99,7 @@ fn answer_all<R: Read, W: Write, T: Threads + Wait + Sync>(
         (text : List ℕ) × AreAnswers desk.bench.start workers budget st (lines bytes) text × Appends (W.contents writer.old) (W.contents writer.new) text)) }
     ensures begun { OnErr result (IfSome (left input.old (R.remaining reader.old)) (λ bytes. (st : State) → IsDeskAt desk st →
         (text : List ℕ) × AreBegun desk.bench.start workers budget st (lines bytes) text × Appends (W.contents writer.old) (W.contents writer.new) text)) }
+    ensures fewer { input.new.reads ≤ input.old.reads }
     ensures fault { IfErr result (λ fault. fault ≡ Read → IsReadFault input.old.reads input.new.reads io_fault.Read) }
 {
     let mut line = Vec::new(alloc);

@@ -52,7 +52,7 @@ lead_consumed v n x i q z =
 
 module _ (v : SetView) (set : IsStandingSet v) where
   -- an agent that is there has an id
-  member_of : (n : Name) (kind : Kind) → IsIn (n, kind) (agents v.start (standing v)) → (m : Member) × IsIn m v.agents × (m.name ≡ n) × (m.kind ≡ kind)
+  pub member_of : (n : Name) (kind : Kind) → IsIn (n, kind) (agents v.start (standing v)) → (m : Member) × IsIn m v.agents × (m.name ≡ n) × (m.kind ≡ kind)
   member_of n kind i =
       let m = map_cases agent_of v.agents (alike-in (alike_back set.agents) i) in
       (m.0, m.1, ap (λ (a : Name × Kind). a.0) m.2, ap (λ (a : Name × Kind). a.1) m.2)

@@ -53,4 +53,4 @@ pub mod PlacedOrders
 pub mod OrderedIds
 pub mod RankedEvents
 pub mod SetNets
-pub mod CanonicalSteps
+pub mod ReadNets

@@ -11,3 +11,4 @@ pub mod Joining
 pub mod Admission
 pub mod Placed
 pub mod Queues
+pub mod Reading

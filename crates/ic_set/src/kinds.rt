@@ -26,7 +26,7 @@ impl<L: LinkStore> BareSet<L> {
     }
 
     /// Whether a standing event consumed the agent, whose id and whose name's place these are.
-    fn is_consumed(&self, agent: AgentId, name: NameId) -> bool
+    pub(crate) fn is_consumed(&self, agent: AgentId, name: NameId) -> bool
         requires inside { name.place < length self.now.names }
         requires there { (kind : AKind) × IsIn (record { id = agent; name = name_at self.now.names name.place; kind = kind }) self.now.set.agents }
         ensures { IsTrue result ↔ (consumed_times (name_at self.now.names name.place) (standing self.now.set) ≢ 0) }

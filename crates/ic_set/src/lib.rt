@@ -13,6 +13,7 @@ pub mod nets;
 pub mod orders;
 pub mod pairs;
 mod queue;
+mod reading;
 pub mod removal;
 pub mod set;
 

@@ -14,9 +14,15 @@ use crate::orders::Placed;
 use ic_cause::RankedEvent;
 use ic_link::LinkStore;
 use ic_name::Event;
-use ic_net::{Net, StepFault, replay};
+use ic_net::{Net, NetMaker};
 use ic_roster::Roster;
 use std::alloc::{AllocError, Global};
+
+/// So many agents are more than a net counts.
+const TOO_MANY_AGENTS: usize = 1 << 32;
+
+/// So many rings are more than a net counts.
+const TOO_MANY_RINGS: u64 = 1 << 63;
 
 impl<L: LinkStore> BareSet<L> {
     /// The net of the set: the one in which the steps of its events end, in each causal order of them (Lafont 1997).
@@ -27,15 +33,15 @@ impl<L: LinkStore> BareSet<L> {
         ensures every_order { IfOk result (λ net. (order : List AnEvent) → Alike (standing self.now.set) (then_fired [] order) → AreAfterCauses self.now.set.start (then_fired [] order) (then_fired [] order) → IsSameNet (shown net) (steps (net_of self.now.set.start []) order)) }
     {
         self.lawful();
-        let events = without_ranks(self.alloc, self.ranked()?)?;
-        match replay(self.alloc, &self.start, &events) {
-            Ok(net) => Ok(net),
-            Err(fault) => match fault.cause {
-                StepFault::Memory => Err(AllocError),
-                StepFault::NotActive => unreachable!(),
-                StepFault::Deep => unreachable!(),
-            },
+        self.start.lawful();
+        let mut maker = NetMaker::new(self.alloc, self.start.profile());
+        self.put_agents(&mut maker)?;
+        self.put_frees(&mut maker)?;
+        let rings = self.store.rings();
+        if maker.agents() >= TOO_MANY_AGENTS || rings >= TOO_MANY_RINGS {
+            return Err(AllocError);
         }
+        Ok(maker.finish(rings))
     }
 
     /// The standing events with their ranks, in canonical order.

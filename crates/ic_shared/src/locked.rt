@@ -1,13 +1,15 @@
 // What lies under the lock.
-ghost use Rattle.std.specs.Prelude.{◌≡◌, ◌+◌, ◌++◌, ◌<◌, length, vec_len, vec_capacity};
+ghost use Rattle.std.specs.Prelude.{◌≡◌, ◌+◌, ◌++◌, ◌<◌, length, vec_len, vec_capacity, IfOk};
 ghost use Rattle.ic_name.specs.declared.lines.Call.TheVariants.{Fire, Undo};
+ghost use Rattle.ic_set.specs.Pairs.{Awakes};
+ghost use Rattle.ic_journal.specs.Views.{set_of};
 ghost use Rattle.ic_journal.specs.Benches.{IsBench};
-ghost use Rattle.ic_journal.specs.Calls.{Fires, Undoes};
+ghost use Rattle.ic_journal.specs.Calls.{id_answer, Fires, Undoes};
 ghost use Rattle.ic_shared.specs.CallLines.{fire_reply, undo_reply, lines_of, fire_lines, undo_lines};
 ghost use Rattle.ic_shared.specs.Receipts.{receipts_of};
 
 use crate::receipts::Receipt;
-use ic_journal::{Bench, FireFault, Proposal, Store, UndoFault};
+use ic_journal::{Bench, FireFault, Fired, Proposal, Store, UndoFault};
 use ic_name::{Call, Event, EventId, Reply};
 use std::sync::ledger::{Book, Ledger, Share};
 
@@ -28,19 +30,20 @@ impl<B: Ledger> Locked<B> {
         receipts: &mut Vec<Receipt>,
         proposal: Proposal,
         event: Event,
-    ) -> Result<EventId, FireFault>
+    ) -> Result<Fired, FireFault>
         requires part { 0 < share.old.parts }
         requires room { vec_len receipts.old < vec_capacity receipts.old }
         requires copy { event ≡ proposal }
         ensures bench { IsBench self.old.bench }
-        ensures fires { Fires self.old.bench proposal result self.new.bench }
-        ensures receipts { receipts.new.items ≡ receipts.old.items ++ receipts_of (length self.old.bench.lines) (fire_lines proposal result) }
+        ensures fires { Fires self.old.bench proposal (id_answer result) self.new.bench }
+        ensures awoken { IfOk result (λ fired. Awakes (set_of self.old.bench) (set_of self.new.bench) fired.awoken) }
+        ensures receipts { receipts.new.items ≡ receipts.old.items ++ receipts_of (length self.old.bench.lines) (fire_lines proposal (id_answer result)) }
         ensures parts { share.new.parts ≡ share.old.parts }
-        ensures amount { share.new.amount ≡ share.old.amount + length (fire_lines proposal result) }
+        ensures amount { share.new.amount ≡ share.old.amount + length (fire_lines proposal (id_answer result)) }
     {
         self.bench.lawful();
         let number = self.bench.lines();
-        let answer = self.bench.fire(proposal);
+        let answer = self.bench.fire_proposal(proposal);
         let reply = reply_of_firing(&answer);
         note(
             &mut self.book,
@@ -111,8 +114,8 @@ fn note<B: Ledger>(
 }
 
 /// The reply that stands in the history for an answer to a firing; `None` where the call adds no line.
-fn reply_of_firing(answer: &Result<EventId, FireFault>) -> Option<Reply>
-    ensures { result ≡ fire_reply answer.now }
+fn reply_of_firing(answer: &Result<Fired, FireFault>) -> Option<Reply>
+    ensures { result ≡ fire_reply (id_answer answer.now) }
 {
     match answer {
         Ok(_) => Some(Reply::Fired),

@@ -30,7 +30,7 @@ use Rattle.ic_shown.proofs.OnePort.{HasSpot}
 use Rattle.ic_shown.proofs.ByPorts.{reaches_named}
 
 -- a port that is loose in a set is so in any order of it
-loose-alike : (s : Start) {es fs : List Event} (p : Port) → Alike es fs → IsLoose s es p → IsLoose s fs p
+pub loose-alike : (s : Start) {es fs : List Event} (p : Port) → Alike es fs → IsLoose s es p → IsLoose s fs p
 loose-alike s (port.Of n i) a h = (h.0, in_alike h.1 (made_alike born_agents (start_agents s) a), h.2, sym (consumed-alike n a) ∙ h.3)
 loose-alike s (port.Name j) a h = sym (degree-alike net_shape (made_alike (born_links s.profile) (start_links s) a) (port.Name j)) ∙ h
 

@@ -1,3 +1,15 @@
+pub mod RingLabels
+pub mod AddedLabels
+pub mod SplitSlots
+pub mod UnitedSlots
+pub mod UnitedLabels
+pub mod LabelWalks
+pub mod JoinedLabels
+pub mod NamedSpots
+pub mod PartedLabels
+pub mod Renamed
+pub mod Tips
+pub mod PathLabels
 pub mod RecordWrites
 pub mod Left
 pub mod JoinedRecords

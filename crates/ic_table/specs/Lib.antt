@@ -1,4 +1,5 @@
 pub mod Ends
+pub mod Labels
 pub mod Records
 pub mod Chains
 pub mod Changes

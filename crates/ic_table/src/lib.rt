@@ -2,6 +2,7 @@
 #![tactic(auto)]
 
 mod changes;
+mod labels;
 mod records;
 mod slots;
 mod splices;

@@ -1,6 +1,7 @@
 use crate::answers::{answer_of, answers};
 use crate::calls::{fired, some_agents, some_event};
 use crate::numbers::Numbers;
+use crate::orders::orders_agree;
 use crate::player::{Game, Player, wins};
 use crate::random_nets::some_net;
 use ic_journal::{Bench, Store};
@@ -80,7 +81,8 @@ fn show_the_same(
     Ok(true)
 }
 
-/// Whether they do after each of some calls.
+/// Whether they do after each of some calls, and replays of causal orders of what stands then lead to that net, which is
+/// read off the store.
 fn agree(
     alloc: Global,
     plain: &mut Bench<LinkRows>,
@@ -92,7 +94,7 @@ fn agree(
             return Ok(false);
         }
     }
-    answer(alloc, plain, fast, b"undo-all")
+    Ok(orders_agree(alloc, fast)? && answer(alloc, plain, fast, b"undo-all")?)
 }
 
 /// A bench over the other store, and the net of this text, shows the same after some calls, which ones by a number.

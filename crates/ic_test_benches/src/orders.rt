@@ -110,7 +110,7 @@ fn order_agrees(alloc: Global, bench: &Bench<Store>, number: usize) -> Result<bo
 }
 
 /// Whether causal orders of what stands do.
-fn orders_agree(alloc: Global, bench: &Bench<Store>) -> Result<bool, Fail> {
+pub(crate) fn orders_agree(alloc: Global, bench: &Bench<Store>) -> Result<bool, Fail> {
     for number in 0..ORDERS {
         if !order_agrees(alloc, bench, number)? {
             return Ok(false);

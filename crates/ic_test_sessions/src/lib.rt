@@ -4,6 +4,8 @@
 #[cfg(test)]
 mod desks;
 #[cfg(test)]
+mod drips;
+#[cfg(test)]
 mod faults;
 #[cfg(test)]
 mod laws;

@@ -1,18 +1,19 @@
 use crate::benches::{FOUR_COPIES, bench_over};
 use ic_work::{End, Gate, sweep};
+use std::alloc::Global;
+use std::sync::Wait;
 use std::sync::atomic::{AtomicBool, AtomicU64, Ordering};
 use std::test::Fail;
+use std::thread::Threads;
 
 /// How often a worker that is held back looks, at most.
 const TURNS: u32 = 50_000_000;
-
-/// The commits of the other worker that the first one waits for.
-const OTHERS: u64 = 12;
 
 /// Holds the first commit of worker 0 until so many of the other's were answered, and each of the other's until worker
 /// 0 has asked for its first.
 #[derive(Drop)]
 struct HoldsFirst {
+    others: u64,
     asked: AtomicU64,
     answered: AtomicU64,
     /// Whether worker 0 saw all these answers while it was held.
@@ -41,7 +42,7 @@ impl Gate for HoldsFirst {
         if worker != 0 {
             await_number(&self.asked, 1);
         } else if self.asked.fetch_add(1, Ordering::SeqCst) == 0 {
-            let seen = await_number(&self.answered, OTHERS);
+            let seen = await_number(&self.answered, self.others);
             self.seen.store(seen, Ordering::SeqCst);
         }
     }
@@ -53,22 +54,62 @@ impl Gate for HoldsFirst {
     }
 }
 
-#[test]
-fn a_worker_goes_on_while_another_is_held(rt: HostRuntime) -> Result<(), Fail> {
-    let gate = HoldsFirst {
+/// A gate that holds worker 0 until so many commits of the other's were answered.
+fn holding(others: u64) -> HoldsFirst {
+    HoldsFirst {
+        others,
         asked: AtomicU64::new(0),
         answered: AtomicU64::new(0),
         seen: AtomicBool::new(false),
         late: AtomicBool::new(false),
-    };
-    let bench = bench_over(rt.alloc(), FOUR_COPIES).ok_or("a bench")?;
-    let swept = sweep(&rt, rt.alloc(), bench, 2, BUDGET, &gate)
+    }
+}
+
+/// Whether two workers over the net of this text fire so many events, of which so many while the first one is held.
+fn goes_on<R: Threads + Wait + Sync>(
+    rt: &R,
+    alloc: Global,
+    text: &[u8],
+    others: u64,
+    fired: u32,
+) -> Result<bool, Fail> {
+    let gate = holding(others);
+    let bench = bench_over(alloc, text).ok_or("a bench")?;
+    let swept = sweep(rt, alloc, bench, 2, BUDGET, &gate)
         .ok()
         .ok_or("a sweep that settles")?;
-    assert!(rt; gate.seen.load(Ordering::SeqCst));
-    assert!(rt; !gate.late.load(Ordering::SeqCst));
-    assert_eq!(rt; swept.ran, 2);
-    assert_eq!(rt; swept.fired, 16);
-    assert!(rt; swept.end == End::Normal);
+    let held = gate.seen.load(Ordering::SeqCst) && !gate.late.load(Ordering::SeqCst);
+    Ok(held && swept.ran == 2 && swept.fired == fired && swept.end == End::Normal)
+}
+
+#[test]
+fn a_worker_goes_on_while_another_is_held(rt: HostRuntime) -> Result<(), Fail> {
+    assert!(rt; goes_on(&rt, rt.alloc(), FOUR_COPIES, 12, 16)?);
+    Ok(())
+}
+
+/// Puts so many agents in, none of whose principal ports meets another's.
+fn push_idle(text: &mut Vec<u8>, agents: usize) -> Result<(), Fail> {
+    for number in 0..agents / 3 {
+        let name = [b'a' + (number / 26 % 26) as u8, b'a' + (number % 26) as u8];
+        text.extend_from_slice(b"G(E,E) = ")?;
+        text.extend_from_slice(&name)?;
+        text.extend_from_slice(b";\n")?;
+    }
+    Ok(())
+}
+
+/// Four pairs that meet, of which the first and the third have leads that lie so far apart that one word stands for both.
+fn colliding(alloc: Global) -> Result<Vec<u8>, Fail> {
+    let mut text = Vec::from_slice(alloc, b"E = E; E = E;\n")?;
+    push_idle(&mut text, 1_020)?;
+    text.extend_from_slice(b"E = E; E = E;\n")?;
+    Ok(text)
+}
+
+#[test]
+fn a_worker_whose_word_is_busy_fires_what_others_have(rt: HostRuntime) -> Result<(), Fail> {
+    let text = colliding(rt.alloc())?;
+    assert!(rt; goes_on(&rt, rt.alloc(), &text, 2, 4)?);
     Ok(())
 }

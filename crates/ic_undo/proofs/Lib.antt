@@ -4,7 +4,6 @@ pub mod FirableEvents
 pub mod FiredInTurn
 pub mod FreeOrders
 mod HistoryLimits
-mod LeadTests
 pub mod MarkedBenches
 pub mod MarkedEvents
 mod NextUndone
@@ -29,3 +28,9 @@ mod MissingNames
 mod ReadyPairs
 mod Absorbed
 mod TurnsTaken
+pub mod SameHistories
+mod StoodSince
+mod KeyTests
+mod LedPlaces
+mod OutsideOrders
+mod MissingOrders

@@ -5,7 +5,8 @@ use Rattle.std.specs.List.Sorted.{IsStrictlySortedBy}
 use Rattle.std.specs.declared.cmp.Ordering.{Ordering}
 use Rattle.std.specs.declared.cmp.Ordering.TheVariants.{Less}
 use Rattle.ic_path.specs.Orders.{Pick, here, there, IsIn}
-use Rattle.ic_path.proofs.Picks.{in_first, in_more, in-cons_cases, pick_behind}
+use Rattle.ic_path.proofs.EachOnce.{IsOnce, once_cons}
+use Rattle.ic_path.proofs.Picks.{none_in, in_first, in_more, in-cons_cases, pick_behind}
 
 -- the element at a place, with those before it and those behind it
 pub record At {X Y : Type 0} (f : X → Y) (xs : List X) (k : ℕ) (d : Y) : Type 0 where
@@ -65,3 +66,17 @@ pub in_at : {X : Type 0} (xs : List X) (k : ℕ) (d x : X) → k < length xs →
 in_at [] k d x h e = absurd (omega (arith, h))
 in_at (y ∷ xs) zero d x h e = subst (λ z. IsIn z (y ∷ xs)) e (in_first y xs)
 in_at (y ∷ xs) (suc k) d x h e = in_more y (in_at xs k d x (omega (arith, h)) e)
+
+-- in a sorted list no element is twice, where none comes before itself
+pub once_sorted : {X Y : Type 0} (cmp : Y → Y → Ordering) (f : X → Y) → ((y : Y) → cmp y y ≡ Less → ⊥) → (xs : List X) → IsStrictlySortedBy cmp (map f xs) → IsOnce xs
+unfolding IsStrictlySortedBy
+once_sorted cmp f apart [] up = λ x rest k i. none_in (rest, k)
+once_sorted {X} cmp f apart (x ∷ xs) up = once_cons (λ i. apart (f x) (sorted_behind cmp f [] xs x x up i)) (once_sorted cmp f apart xs up.1)
+
+-- where each element of a list is an image, the list is one of images
+pub preimages : {X Y : Type 0} (f : X → Y) (P : X → Type 0) (ys : List Y) → ((y : Y) → IsIn y ys → (x : X) × P x × (f x ≡ y)) → (xs : List X) × (map f xs ≡ ys) × ((x : X) → IsIn x xs → P x)
+preimages f P [] each = ([], refl, λ x i. absurd (none_in i))
+preimages {X} f P (y ∷ ys) each =
+    let first = each y (in_first y ys) in
+    let rest = preimages f P ys (λ z i. each z (in_more y i)) in
+    (first.0 ∷ rest.0, (λ i. first.2 i ∷ rest.1 i), λ x i. elim (in-cons_cases i) [ inl e ↦ subst P (sym e) first.1 | inr j ↦ rest.2 x j ])

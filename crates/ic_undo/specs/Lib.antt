@@ -3,7 +3,9 @@ pub mod Undone
 pub mod Backwards
 pub mod Unwinding
 pub mod Marks
+pub mod Stood
 pub mod GoingBack
+pub mod Among
 pub mod Absorbing
 pub mod Ready
 pub mod Coming

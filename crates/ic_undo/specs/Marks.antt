@@ -1,6 +1,7 @@
 -- Marks: what stood on a bench at one time.
-use Rattle.std.specs.Prelude.{◌≡◌, ℕ, ◌≤◌, List, length}
+use Rattle.std.specs.Prelude.{◌≡◌, ℕ, ◌≤◌, List, Option, Some, length, slice_get}
 use Rattle.std.specs.List.Sorted.{IsStrictlySortedBy}
+use Rattle.ic_name.specs.Names.{Name}
 use Rattle.ic_name.specs.Events.{Event}
 use Rattle.ic_name.specs.declared.limits.TheConstants.{MAX_AGENTS, MAX_LINES}
 use Rattle.ic_path.specs.Orders.{IsIn, Alike}
@@ -29,3 +30,8 @@ pub record IsMark (m : MarkView) : Type 0 where
 pub record Marks (v : BenchView) (m : MarkView) : Type 0 where
   pub start : m.start ≡ v.start
   pub events : Alike (standing (set_of v)) m.events
+
+-- under the lead of each of the events there is a place, and under a name there is only the place of an event that it leads
+pub record ArePlaces (es : List Event) (at : Name → Option ℕ) : Type 0 where
+  pub each : (e : Event) → IsIn e es → (p : ℕ) × (at e.lead ≡ Some p)
+  pub only : (n : Name) (p : ℕ) → at n ≡ Some p → (e : Event) × (slice_get es p ≡ Some e) × (e.lead ≡ n)

@@ -1,9 +1,10 @@
 ghost use Rattle.std.specs.Prelude.{◌≡◌, ◌+◌, ◌≤◌, IfErr, IfOk, OnOk, length};
 ghost use Rattle.ic_name.specs.declared.limits.TheConstants.{MAX_LINES};
 ghost use Rattle.ic_path.specs.Orders.{Alike};
+ghost use Rattle.ic_set.specs.Orders.{AreInOrder};
 ghost use Rattle.ic_set.specs.Views.{standing};
 ghost use Rattle.ic_journal.specs.Views.{set_of};
-ghost use Rattle.ic_undo.specs.GoingBack.{AreFirable, AreFired, AreSomeFired, IsBack, IsntBack};
+ghost use Rattle.ic_undo.specs.GoingBack.{AreFirable, AreFired, AreMissing, AreSomeFired, IsBack, IsOutside, IsntBack};
 
 use crate::backwards::undo_each;
 use crate::faults::{BackFault, Counts};
@@ -11,10 +12,11 @@ use crate::marks::Mark;
 use crate::missing::missing_events;
 use crate::outside::outside_events;
 use ic_journal::{Bench, FireFault, LinkStore, Proposal, ReserveFault};
+use ic_name::EventId;
 use std::alloc::Global;
 
 /// Nothing was undone, and nothing fired.
-const NOTHING: Counts = Counts {
+pub(crate) const NOTHING: Counts = Counts {
     undone: 0,
     fired: 0,
 };
@@ -45,13 +47,33 @@ pub fn back<L: LinkStore>(
     let Ok(missing) = missing_events(alloc, bench, mark) else {
         return Err(BackFault::Memory(NOTHING));
     };
+    go_over(bench, mark, &gone, missing)
+}
+
+/// Undoes these events, which are those that stand and aren't in the mark, the last one first, then fires these, which are
+/// those that are in the mark and don't stand. Its answers are those of `back`.
+pub(crate) fn go_over<L: LinkStore>(
+    bench: &mut Bench<L>,
+    mark: &Mark,
+    gone: &[EventId],
+    missing: Vec<Proposal>,
+) -> Result<Counts, BackFault>
+    requires start { mark.now.start ≡ bench.old.start }
+    requires outside { AreInOrder (set_of bench.old) (IsOutside mark.now) gone.now }
+    requires missing { AreMissing bench.old mark.now missing.items }
+    ensures back { IfOk result (λ counts. IsBack bench.old mark.now counts bench.new) }
+    ensures stands { OnOk result (Alike mark.now.events (standing (set_of bench.new))) }
+    ensures fault { IfErr result (λ fault. IsntBack bench.old mark.now fault bench.new) }
+{
+    bench.lawful();
+    mark.lawful();
     match bench.reserve(gone.len() + missing.len()) {
         Ok(()) => {}
         Err(ReserveFault::HistoryFull) => return Err(BackFault::HistoryFull),
         Err(ReserveFault::Memory) => return Err(BackFault::Memory(NOTHING)),
     }
     bench.lawful();
-    undo_each(bench, &gone);
+    undo_each(bench, gone);
     bench.lawful();
     let undone = gone.len() as u32;
     match fire_each(bench, missing) {

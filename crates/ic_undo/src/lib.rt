@@ -4,13 +4,17 @@
 
 pub mod absorbing;
 mod backwards;
+mod event_places;
 pub mod faults;
 pub mod going_back;
+pub mod going_back_since;
 pub mod laws;
 pub mod marking;
 pub mod marks;
 mod missing;
+mod missing_among;
 mod outside;
+mod outside_among;
 mod ready;
 mod resting;
 mod turns;
@@ -19,6 +23,7 @@ pub mod unwinding;
 pub use absorbing::absorb;
 pub use faults::{AbsorbFault, BackFault, Counts, UndoAllFault, UnwindFault};
 pub use going_back::back;
+pub use going_back_since::back_since;
 pub use marking::mark;
 pub use marks::Mark;
 pub use unwinding::{clear, undo_all, unwind};

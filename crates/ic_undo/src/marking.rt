@@ -1,6 +1,7 @@
 ghost use Rattle.std.specs.Prelude.{IfOk};
 ghost use Rattle.ic_undo.specs.Marks.{Marks};
 
+use crate::event_places::places_of;
 use crate::marks::Mark;
 use ic_journal::{Bench, LinkStore};
 use ic_set::without_ranks;
@@ -14,5 +15,10 @@ pub fn mark<L: LinkStore>(alloc: Global, bench: &Bench<L>) -> Result<Mark, Alloc
     let start = bench.start().copy(alloc)?;
     start.lawful();
     let events = without_ranks(alloc, bench.ranked()?)?;
-    Ok(Mark { start, events })
+    let places = places_of(alloc, &events)?;
+    Ok(Mark {
+        start,
+        events,
+        places,
+    })
 }

@@ -33,7 +33,7 @@ pub(crate) fn missing_events<L: LinkStore>(
 }
 
 /// Whether an event of this name stands.
-fn stands<L: LinkStore>(bench: &Bench<L>, event: &Event) -> Result<bool, AllocError>
+pub(crate) fn stands<L: LinkStore>(bench: &Bench<L>, event: &Event) -> Result<bool, AllocError>
     ensures { IfOk result (λ stands. IsTrue stands ↔ ((x : Stander) × IsIn x bench.now.events × (pair x.event ≡ pair event.now))) }
 {
     let name = name_of(event)?;
@@ -41,7 +41,7 @@ fn stands<L: LinkStore>(bench: &Bench<L>, event: &Event) -> Result<bool, AllocEr
 }
 
 /// The proposal to fire the event, whose two agents differ.
-fn proposal_of(event: &Event) -> Result<Proposal, AllocError>
+pub(crate) fn proposal_of(event: &Event) -> Result<Proposal, AllocError>
     ensures { IfOk result (λ proposal. proposal ≡ event.now) }
 {
     event.lawful();

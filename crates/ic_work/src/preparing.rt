@@ -30,7 +30,7 @@ pub(crate) struct Prepared<B: Ledger> {
     pub home: Vec<Pass<B>>,
 }
 
-/// What so many workers need. The active pairs of the bench are their first hints, in turn.
+/// What so many workers need. The active pairs of the bench are their first hints, dealt out in blocks.
 pub(crate) fn prepare<B: Ledger>(
     alloc: Global,
     bench: &Bench<Store>,
@@ -68,20 +68,17 @@ pub(crate) fn prepare<B: Ledger>(
     })
 }
 
-/// Deals these pairs out to the workers, in turn.
-fn deal(hints: &mut [Deque<ActivePair>], pairs: &[ActivePair]) -> Result<(), AllocError> {
-    let mut next = 0;
-    for pair in pairs {
-        if next == hints.len() {
-            next = 0;
+/// Deals these pairs out to the workers, in blocks one after the other.
+fn deal(hints: &mut [Deque<ActivePair>], pairs: &[ActivePair]) -> Result<(), AllocError>
+    requires { 0 < length hints.old }
+{
+    let block = pairs.len().div_ceil(hints.len()).max(1);
+    for (own, mine) in hints.iter_mut().zip(pairs.chunks(block)) {
+        for pair in mine {
+            let Ok(()) = own.push(*pair) else {
+                return Err(AllocError);
+            };
         }
-        let Some(own) = hints.get_mut(next) else {
-            return Ok(());
-        };
-        let Ok(()) = own.push(*pair) else {
-            return Err(AllocError);
-        };
-        next += 1;
     }
     Ok(())
 }

@@ -4,40 +4,40 @@ use Rattle.ic_undo.specs.declared.faults.AbsorbFault.TheVariants as fault
 use Rattle.ic_desk.proofs.AbsorbTurns.{absorb_fault_known, absorbed_turns, never_turns, deep_turns, full_turns, too_long_turns, absorb_wants}
 use Rattle.ic_desk.proofs.absorbing.absorb_events.Goals as goal
 
-pub returns-in_ok-absorbed_text-in-Ok : goal.returns-in_ok-absorbed_text-in-Ok
-returns-in_ok-absorbed_text-in-Ok g c =
+pub returns-in_ok-absorbed_text-in-Ok-clause-turns : goal.returns-in_ok-absorbed_text-in-Ok-clause-turns
+returns-in_ok-absorbed_text-in-Ok-clause-turns g c =
     let absorbs = subst (λ ns. Absorbs c.args.bench.now ns c.in-Ok.count c.absorb-absorbed.new.bench) c.deref.ensures.value c.in-Ok.ensures.absorbed in
     absorbed_turns c.args.bench.now c.absorb-absorbed.new.bench c.lawful.ensures c.lawful-2.ensures c.args.marks.now c.args.names.now
     c.in-Ok.count c.in_ok-absorbed_text-in-Ok.field-0.items absorbs c.in_ok-absorbed_text-in-Ok.ensures
 
-pub returns-in_ok-never_text-in-Err-NeverActive : goal.returns-in_ok-never_text-in-Err-NeverActive
-returns-in_ok-never_text-in-Err-NeverActive g c =
+pub returns-in_ok-never_text-in-Err-NeverActive-clause-turns : goal.returns-in_ok-never_text-in-Err-NeverActive-clause-turns
+returns-in_ok-never_text-in-Err-NeverActive-clause-turns g c =
     let refuses = subst (λ ns. AbsorbsNone c.args.bench.now ns (fault.NeverActive c.in-Err-NeverActive.name) c.absorb-absorbed.new.bench) c.deref.ensures.value
     (absorb_fault_known c.args.bench.now c.deref.result.now c.absorb-absorbed.new.bench c.absorb-absorbed.result c.in-Err-NeverActive.field-0 (fault.NeverActive c.in-Err-NeverActive.name)
     c.in-Err-NeverActive.is c.in-Err-NeverActive.field-0-is c.absorb-absorbed.ensures.fault) in
     never_turns c.args.bench.now c.absorb-absorbed.new.bench c.lawful.ensures c.lawful-2.ensures c.args.marks.now c.args.names.now
     c.in-Err-NeverActive.name c.in_ok-never_text-in-Err-NeverActive.field-0.items refuses c.in_ok-never_text-in-Err-NeverActive.ensures
 
-pub returns-in-Err-Deep : goal.returns-in-Err-Deep
-returns-in-Err-Deep g c =
+pub returns-in-Err-Deep-clause-turns : goal.returns-in-Err-Deep-clause-turns
+returns-in-Err-Deep-clause-turns g c =
     let refuses = subst (λ ns. AbsorbsNone c.args.bench.now ns fault.Deep c.absorb-absorbed.new.bench) c.deref.ensures.value
     (absorb_fault_known c.args.bench.now c.deref.result.now c.absorb-absorbed.new.bench c.absorb-absorbed.result c.in-Err-Deep.field-0 fault.Deep c.in-Err-Deep.is c.in-Err-Deep.field-0-is c.absorb-absorbed.ensures.fault) in
     deep_turns c.args.bench.now c.absorb-absorbed.new.bench c.lawful.ensures c.lawful-2.ensures c.args.marks.now c.args.names.now refuses
 
-pub returns-in-Err-Full : goal.returns-in-Err-Full
-returns-in-Err-Full g c =
+pub returns-in-Err-Full-clause-turns : goal.returns-in-Err-Full-clause-turns
+returns-in-Err-Full-clause-turns g c =
     let refuses = subst (λ ns. AbsorbsNone c.args.bench.now ns fault.Full c.absorb-absorbed.new.bench) c.deref.ensures.value
     (absorb_fault_known c.args.bench.now c.deref.result.now c.absorb-absorbed.new.bench c.absorb-absorbed.result c.in-Err-Full.field-0 fault.Full c.in-Err-Full.is c.in-Err-Full.field-0-is c.absorb-absorbed.ensures.fault) in
     full_turns c.args.bench.now c.absorb-absorbed.new.bench c.lawful.ensures c.lawful-2.ensures c.args.marks.now c.args.names.now refuses
 
-pub returns-in-Err-HistoryFull : goal.returns-in-Err-HistoryFull
-returns-in-Err-HistoryFull g c =
+pub returns-in-Err-HistoryFull-clause-turns : goal.returns-in-Err-HistoryFull-clause-turns
+returns-in-Err-HistoryFull-clause-turns g c =
     let refuses = subst (λ ns. AbsorbsNone c.args.bench.now ns fault.HistoryFull c.absorb-absorbed.new.bench) c.deref.ensures.value
     (absorb_fault_known c.args.bench.now c.deref.result.now c.absorb-absorbed.new.bench c.absorb-absorbed.result c.in-Err-HistoryFull.field-0 fault.HistoryFull c.in-Err-HistoryFull.is c.in-Err-HistoryFull.field-0-is c.absorb-absorbed.ensures.fault) in
     too_long_turns c.args.bench.now c.absorb-absorbed.new.bench c.lawful.ensures c.lawful-2.ensures c.args.marks.now c.args.names.now refuses
 
-pub returns-in-Err-Memory : goal.returns-in-Err-Memory
-returns-in-Err-Memory g c =
+pub returns-in-Err-Memory-clause-turns : goal.returns-in-Err-Memory-clause-turns
+returns-in-Err-Memory-clause-turns g c =
     let refuses = subst (λ ns. AbsorbsNone c.args.bench.now ns fault.Memory c.absorb-absorbed.new.bench) c.deref.ensures.value
     (absorb_fault_known c.args.bench.now c.deref.result.now c.absorb-absorbed.new.bench c.absorb-absorbed.result c.in-Err-Memory.field-0 fault.Memory c.in-Err-Memory.is c.in-Err-Memory.field-0-is c.absorb-absorbed.ensures.fault) in
     absorb_wants c.args.bench.now c.absorb-absorbed.new.bench c.lawful.ensures c.lawful-2.ensures c.args.marks.now c.args.names.now refuses

@@ -1,12 +1,13 @@
-use Rattle.std.proofs.Common.{◌≡◌, List, length, refl, ap, subst, arith, ◌∙◌}
+use Rattle.std.proofs.Common.{List, length, refl, ap, subst, arith, ◌∙◌}
 use Rattle.ic_path.specs.Orders.{IsIn}
 use Rattle.ic_answer.specs.Texts.{refusal_text}
 use Rattle.ic_answer.specs.declared.refused.Refused.TheVariants.{TooManyMarks}
 use Rattle.ic_desk.specs.Places.{IsPlace}
 use Rattle.ic_desk.specs.Replies.{marked_text}
-use Rattle.ic_desk.specs.Views.{NamedView}
+use Rattle.ic_desk.specs.Views.{NamedView, IsMarkOn}
 use Rattle.ic_desk.proofs.DeskTurns.{marks_turns, too_many_turns}
 use Rattle.ic_desk.proofs.Marks.{has_none, has_some, place_in, put_all}
+use Rattle.ic_desk.proofs.Stoods.{marks_now}
 use Rattle.ic_desk.proofs.marking.marked.Goals.{else-is_none-via-then-is_none+else-full, else-is_none-via-else-is_none}
 use Rattle.ic_desk.proofs.marking.marked.Goals as goal
 
@@ -29,7 +30,7 @@ returns-in_err-put-clause-desk g c = λ x i. c.requires x (subst (λ (xs : List 
 
 pub returns-clause-turns : goal.returns-clause-turns
 returns-clause-turns g c =
-    marks_turns c.args.bench.now c.args.marks.now.items c.args.name c.put.new.marks.items c.place_of-place.result c.in_ok-mark.mark c.in_ok-text.text.items
+    marks_turns c.args.bench.now c.args.marks.now.items c.args.name c.put.new.marks.items c.place_of-place.result c.in_ok-mark.mark c.lines-since.result c.in_ok-text.text.items
     (rw c.deref.ensures.value at c.place_of-place.ensures)
     (λ none. elim c.else-is_none.branch [
       | else-is_none-via-then-is_none+else-full w ↦ (
@@ -44,5 +45,7 @@ returns-clause-turns g c =
 
 pub returns-clause-desk : goal.returns-clause-desk
 returns-clause-desk g c =
-    put_all (λ (y : NamedView). y.mark.start ≡ c.args.bench.now.start) c.args.marks.now.items c.put.new.marks.items c.place_of-place.result (record { name = c.args.name; mark = c.in_ok-mark.mark })
-    (place_in c.args.marks.now.items c.args.name c.place_of-place.result (rw c.deref.ensures.value at c.place_of-place.ensures)) c.in_ok-put.ensures.puts c.requires c.in_ok-mark.ensures.start
+    let x : NamedView = record { name = c.args.name; mark = c.in_ok-mark.mark; since = c.lines-since.result } in
+    put_all (λ (y : NamedView). IsMarkOn c.args.bench.now y) c.args.marks.now.items c.put.new.marks.items c.place_of-place.result x
+    (place_in c.args.marks.now.items c.args.name c.place_of-place.result (rw c.deref.ensures.value at c.place_of-place.ensures)) c.in_ok-put.ensures.puts c.requires
+    (marks_now c.args.bench.now x c.lawful.ensures c.in_ok-mark.ensures.start c.lines-since.ensures c.in_ok-mark.ensures.events)

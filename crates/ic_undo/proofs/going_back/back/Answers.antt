@@ -1,6 +1,5 @@
-use Rattle.std.proofs.Common.{arith}
 use Rattle.ic_undo.proofs.StayedBenches.{unchanged}
-use Rattle.ic_undo.proofs.WaysBack.{nothing_done, dont_fit_back, free_ids, missing_firable, missing_fit, is_back, back_stands, is_part_way}
+use Rattle.ic_undo.proofs.WaysBack.{nothing_done}
 use Rattle.ic_undo.proofs.going_back.back.Goals as goal
 
 pub returns-in_default-clause-fault : goal.returns-in_default-clause-fault
@@ -8,58 +7,3 @@ returns-in_default-clause-fault g c = nothing_done c.args.bench.now c.lawful.ens
 
 pub returns-in_default-missing_events-clause-fault : goal.returns-in_default-missing_events-clause-fault
 returns-in_default-missing_events-clause-fault g c = nothing_done c.args.bench.now c.lawful.ensures c.args.mark.now c.requires c.lawful-2.ensures c.args.bench.now (unchanged c.args.bench.now)
-
-pub returns-in-Err-HistoryFull-clause-fault : goal.returns-in-Err-HistoryFull-clause-fault
-returns-in-Err-HistoryFull-clause-fault g c =
-    let e = rw c.in-Err-HistoryFull.field-0-is at c.in-Err-HistoryFull.ensures in
-    let l = e.0 in
-    let one = c.len.ensures in
-    let two = c.len-2.ensures in
-    let three = c.in-Ok.gone.ok.0 in
-    let four = c.in-Ok-missing_events.missing.ok.0 in (
-      dont_fit_back c.args.bench.now c.lawful.ensures c.args.mark.now c.requires c.lawful-2.ensures c.in-Ok.gone.items c.in-Ok-missing_events.missing.items c.in-Ok.ensures c.in-Ok-missing_events.ensures (omega (arith, l, one, two, three, four)),
-      e.1,
-    )
-
-pub returns-in-Err-Memory-clause-fault : goal.returns-in-Err-Memory-clause-fault
-returns-in-Err-Memory-clause-fault g c =
-    let e = rw c.in-Err-Memory.field-0-is at c.in-Err-Memory.ensures in
-    rw e.2 (nothing_done c.args.bench.now c.lawful.ensures c.args.mark.now c.requires c.lawful-2.ensures c.args.bench.now (unchanged c.args.bench.now))
-
-pub undo_each-requires-clause-free : goal.undo_each-requires-clause-free
-undo_each-requires-clause-free g c = rw c.deref.ensures.value
-    (free_ids c.args.bench.now c.lawful.ensures c.args.mark.now c.requires c.lawful-2.ensures c.in-Ok.gone.items c.in-Ok-missing_events.missing.items c.in-Ok.ensures c.in-Ok-missing_events.ensures c.reserve.new.self c.in-Ok-reserve.ensures.0)
-
-pub fire_each-requires-clause-firable : goal.fire_each-requires-clause-firable
-fire_each-requires-clause-firable g c =
-    missing_firable c.args.bench.now c.lawful.ensures c.args.mark.now c.requires c.lawful-2.ensures c.in-Ok.gone.items c.in-Ok-missing_events.missing.items c.in-Ok.ensures c.in-Ok-missing_events.ensures c.reserve.new.self c.in-Ok-reserve.ensures.0
-    c.undo_each.new.bench c.lawful-4.ensures (rw c.deref.ensures.value at c.undo_each.ensures)
-
-pub fire_each-requires-clause-fit : goal.fire_each-requires-clause-fit
-fire_each-requires-clause-fit g c =
-    let room = c.in-Ok-reserve.ensures.1 in
-    let one = c.len.ensures in
-    let two = c.len-2.ensures in
-    let three = c.in-Ok.gone.ok.0 in
-    let four = c.in-Ok-missing_events.missing.ok.0 in
-    missing_fit c.args.bench.now c.lawful.ensures c.args.mark.now c.requires c.lawful-2.ensures c.in-Ok.gone.items c.in-Ok-missing_events.missing.items c.in-Ok.ensures c.in-Ok-missing_events.ensures c.reserve.new.self c.in-Ok-reserve.ensures.0
-    c.undo_each.new.bench c.lawful-4.ensures (rw c.deref.ensures.value at c.undo_each.ensures) c.lawful-3.ensures (omega (arith, room, one, two, three, four))
-
-pub returns-in-Ok-fire_each-clause-back : goal.returns-in-Ok-fire_each-clause-back
-returns-in-Ok-fire_each-clause-back g c =
-    let one = c.len-undone.ensures in
-    let three = c.in-Ok.gone.ok.0 in
-    is_back c.args.bench.now c.lawful.ensures c.args.mark.now c.requires c.lawful-2.ensures c.in-Ok.gone.items c.in-Ok-missing_events.missing.items c.in-Ok.ensures c.in-Ok-missing_events.ensures c.reserve.new.self c.in-Ok-reserve.ensures.0
-    c.undo_each.new.bench c.lawful-4.ensures (rw c.deref.ensures.value at c.undo_each.ensures) c.fire_each.new.bench (record { undone = c.len-undone.result; fired = c.in-Ok-fire_each.fired }) c.in-Ok-fire_each.ensures.all.0 (omega (arith, one, three)) c.in-Ok-fire_each.ensures.all.1
-
-pub returns-in-Ok-fire_each-clause-stands : goal.returns-in-Ok-fire_each-clause-stands
-returns-in-Ok-fire_each-clause-stands g c =
-    back_stands c.args.bench.now c.lawful.ensures c.args.mark.now c.requires c.lawful-2.ensures c.in-Ok.gone.items c.in-Ok-missing_events.missing.items c.in-Ok.ensures c.in-Ok-missing_events.ensures c.reserve.new.self c.in-Ok-reserve.ensures.0
-    c.undo_each.new.bench c.lawful-4.ensures (rw c.deref.ensures.value at c.undo_each.ensures) c.fire_each.new.bench c.in-Ok-fire_each.ensures.all.0
-
-pub returns-clause-fault : goal.returns-clause-fault
-returns-clause-fault g c =
-    let one = c.len-undone.ensures in
-    let three = c.in-Ok.gone.ok.0 in
-    is_part_way c.args.bench.now c.lawful.ensures c.args.mark.now c.requires c.lawful-2.ensures c.in-Ok.gone.items c.in-Ok-missing_events.missing.items c.in-Ok.ensures c.in-Ok-missing_events.ensures c.reserve.new.self c.in-Ok-reserve.ensures.0
-    c.undo_each.new.bench c.lawful-4.ensures (rw c.deref.ensures.value at c.undo_each.ensures) c.fire_each.new.bench (record { undone = c.len-undone.result; fired = c.in-Err.fired }) c.in-Err.ensures.some (omega (arith, one, three))

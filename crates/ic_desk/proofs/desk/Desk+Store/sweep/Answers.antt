@@ -7,6 +7,7 @@ use Rattle.ic_command.specs.declared.request.Request.TheVariants.{Bench}
 use Rattle.ic_desk.specs.ManyWorkers.{TurnsWith}
 use Rattle.ic_desk.specs.Views.{DeskView}
 use Rattle.ic_desk.proofs.DeskTurns.{desk_of, desk_still}
+use Rattle.ic_desk.proofs.LongerHistories.{unchanged}
 use Rattle.ic_desk.proofs.Sweeping.{sweep_turns, wanting_turns}
 use Rattle.ic_desk.proofs.desk.Desk+Store.sweep.Given as given
 use Rattle.ic_desk.proofs.desk.Desk+Store.sweep.Goals as goal
@@ -16,11 +17,14 @@ given_back : (g : given.Over) (c : goal.In_ok-text-in-Err-Memory g) → ◌≡�
 given_back g c = subst (λ (f : SweepFault). IsGivenBack c.self.inside.bench f) c.in-Err-Memory.field-0-is c.in-Err-Memory.ensures.fault
 
 pub invariant_of-result : goal.invariant_of-result
-invariant_of-result g c = desk_still c.self.inside.bench c.in-Ok.swept.bench c.self.inside.marks.items c.self.invariant c.in-Ok.ensures.swept.start
+invariant_of-result g c =
+    let goes_on = c.in-Ok.ensures.swept.continues in
+    desk_still c.self.inside.bench c.in-Ok.swept.bench c.self.inside.marks.items c.self.invariant c.in-Ok.ensures.swept.start (record { more = goes_on.added; lines = goes_on.lines })
 
 pub invariant_of-result-in-Err-Memory : goal.invariant_of-result-in-Err-Memory
 invariant_of-result-in-Err-Memory g c =
     desk_still c.self.inside.bench c.in-Err-Memory.bench c.self.inside.marks.items c.self.invariant (ap (λ (v : BenchView). v.start) (given_back g c))
+    (unchanged c.self.inside.bench c.in-Err-Memory.bench (given_back g c))
 
 pub returns-in_ok-text-in-Ok : goal.returns-in_ok-text-in-Ok
 returns-in_ok-text-in-Ok g c =

@@ -1,11 +1,10 @@
-use Rattle.std.proofs.Common.{◌++◌, length, ap, ◌∙◌}
-use Rattle.ic_shared.specs.Receipts.{receipts_of}
-use Rattle.ic_shared.specs.CallLines.{fire_lines}
-use Rattle.ic_shared.specs.CallsForPass.{fired}
+use Rattle.std.proofs.Common.{subst}
+use Rattle.ic_journal.specs.Calls.{id_answer}
+use Rattle.ic_shared.specs.CallsForPass.{FiresForPass}
 use Rattle.ic_shared.proofs.shared.Shared.fire.Goals as goal
 
-pub returns : goal.returns
-returns g c =
-    let bench = c.deref_mut.result.now.bench in
-    let added = receipts_of (length bench.lines) (fire_lines c.args.proposal c.fire.result) in
-    fired bench c.fire.new.self.bench c.fire.ensures.bench c.fire.ensures.fires (c.fire.ensures.receipts ∙ ap (λ xs. xs ++ added) (c.in-Ok.ensures.items ∙ c.pass.view_is))
+pub returns-in-Ok : goal.returns-in-Ok
+returns-in-Ok g c = subst (λ r. FiresForPass c.args.proposal (id_answer r) c.args.pass.now c.fire_then-answer.new.pass) c.in-Ok.is c.fire_then-answer.ensures.fires
+
+pub returns-in-Err : goal.returns-in-Err
+returns-in-Err g c = subst (λ r. FiresForPass c.args.proposal (id_answer r) c.args.pass.now c.fire_then-answer.new.pass) c.in-Err.is c.fire_then-answer.ensures.fires

@@ -1,5 +1,6 @@
-use Rattle.ic_work.specs.Workers.{Works}
+use Rattle.std.proofs.Common.{None}
+use Rattle.ic_work.specs.Workers.{WorksOn}
 use Rattle.ic_work.proofs.worker.Worker.work.Given as goal
 
-abbrev pub invariant-loop-round : goal.invariant-loop-round
-invariant-loop-round g l = Works l.initial.self.seat l.initial.self.pass l.self.seat l.self.pass
+abbrev pub invariant-loop : goal.invariant-loop
+invariant-loop g l = WorksOn None l.initial.self.seat l.initial.self.pass l.in_hand.ticket l.self.seat l.self.pass

@@ -1,0 +1,22 @@
+-- The events that lines of a history changed.
+use Rattle.std.specs.Prelude.{◌≡◌, ℕ, ◌≤◌, ◌⊎◌, List, Some, slice_get}
+use Rattle.ic_name.specs.Events.{Event}
+use Rattle.ic_name.specs.declared.lines.Call.TheVariants.{Fire, Undo}
+use Rattle.ic_name.specs.declared.lines.Reply.TheVariants.{Fired, Undone}
+use Rattle.ic_name.specs.declared.lines.Line.{Line}
+
+-- the line at this place fired the event
+abbrev pub IsFiredIn : List Line → ℕ → Event → Type 0
+IsFiredIn lines k e = slice_get lines k ≡ Some (record { call = Fire e; reply = Fired })
+
+-- the line at this place undid the event: it names the line that fired it
+abbrev pub IsUndoneIn : List Line → ℕ → Event → Type 0
+IsUndoneIn lines k e = (l : ℕ) × (slice_get lines k ≡ Some (record { call = Undo l; reply = Undone })) × IsFiredIn lines l e
+
+-- the line at this place fired or undid the event
+abbrev pub IsChangedIn : List Line → ℕ → Event → Type 0
+IsChangedIn lines k e = IsFiredIn lines k e ⊎ IsUndoneIn lines k e
+
+-- a line from this one on fired or undid the event
+abbrev pub IsChanged : List Line → ℕ → Event → Type 0
+IsChanged lines n e = (k : ℕ) × (n ≤ k) × IsChangedIn lines k e

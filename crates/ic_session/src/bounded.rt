@@ -1,0 +1,56 @@
+ghost use Rattle.std.specs.Prelude.{◌≡◌, ◌<◌, ◌≤◌, ℕ, List, IfErr, IfOk, IfSome, OnErr};
+ghost use Rattle.std.specs.Io.KnownBytes.{Appends};
+ghost use Rattle.ic_session.specs.Sessions.{IsBegun, Writes};
+
+use crate::fault::Fault;
+use crate::session::{Status, run_over};
+use ic_desk::MAX_WORKERS;
+use ic_lines::Input;
+use std::alloc::Global;
+use std::io::{Read, Write};
+use std::sync::Wait;
+use std::thread::Threads;
+
+/// The calls of `read` that `run_session` makes, at most.
+pub const MAX_READS: u32 = 1_073_741_824;
+
+/// Runs a session: reads a net as text and commands, and writes an answer to each command. A `reduce` fires no more than
+/// the budget, whatever it asks for; with two workers or more, of 64 at most, it is a sweep by so many. The reader's `read`
+/// is called `MAX_READS` times at most.
+///
+/// `Fault::Read` where the reader fails or so many calls of it were made, `Fault::Write` where the writer fails,
+/// `Fault::Memory` where there is no memory, and `Fault::Settle` where the workers of a sweep say that they did what the
+/// history doesn't say. What was written by then is a front of what a session may write.
+pub fn run_session<R: Read, W: Write, T: Threads + Wait + Sync>(
+    threads: &T,
+    alloc: Global,
+    reader: &mut R,
+    writer: &mut W,
+    workers: u8,
+    budget: u32,
+) -> Result<Status, Fault>
+    requires { (0 < workers) × (workers ≤ MAX_WORKERS) }
+    ensures written { IfOk result (λ status. IfSome (R.remaining reader.old) (λ input. Writes workers budget input status (W.contents writer.old) (W.contents writer.new))) }
+    ensures begun { OnErr result (IfSome (R.remaining reader.old) (λ input. (text : List ℕ) × IsBegun workers budget input text × Appends (W.contents writer.old) (W.contents writer.new) text)) }
+{
+    run_bounded(threads, alloc, reader, writer, workers, budget, MAX_READS)
+}
+
+/// Runs a session as `run_session` does, with so many calls of the reader's `read` at most: where all of them were made
+/// and one more is asked for, it ends with `Fault::Read`.
+pub fn run_bounded<R: Read, W: Write, T: Threads + Wait + Sync>(
+    threads: &T,
+    alloc: Global,
+    reader: &mut R,
+    writer: &mut W,
+    workers: u8,
+    budget: u32,
+    reads: u32,
+) -> Result<Status, Fault>
+    requires { (0 < workers) × (workers ≤ MAX_WORKERS) }
+    ensures written { IfOk result (λ status. IfSome (R.remaining reader.old) (λ input. Writes workers budget input status (W.contents writer.old) (W.contents writer.new))) }
+    ensures begun { OnErr result (IfSome (R.remaining reader.old) (λ input. (text : List ℕ) × IsBegun workers budget input text × Appends (W.contents writer.old) (W.contents writer.new) text)) }
+{
+    let mut input = Input::new(alloc, reads)?;
+    run_over(threads, alloc, &mut input, reader, writer, workers, budget)
+}

@@ -1,0 +1,21 @@
+use Rattle.std.proofs.Common.{◌≡◌, inl, refl, sym, ap, subst, ◌∙◌}
+use Rattle.ic_names.specs.Tables.{name_at}
+use Rattle.ic_path.specs.Orders.{IsIn}
+use Rattle.ic_roster.specs.Rosters.{Member}
+use Rattle.ic_theory.specs.Sets.{consumed_times}
+use Rattle.ic_set.specs.Views.{NamedView, standing}
+use Rattle.ic_set.proofs.Namings.{same_member}
+use Rattle.ic_set.proofs.bare.BareSet.put_agent.Goals as goal
+
+pub returns-in_default-clause-agents : goal.returns-in_default-clause-agents
+returns-in_default-clause-agents g c = inl (λ n k living. c.in_default.ensures.absent (record { id = c.args.agent; name = n; kind = k }) (subst (λ (w : NamedView). IsIn (record { id = c.args.agent; name = n; kind = k }) w.set.agents) (sym c.self.view_is) living.0) refl, refl)
+
+pub returns-then-is_consumed-clause-agents : goal.returns-then-is_consumed-clause-agents
+returns-then-is_consumed-clause-agents g c = inl (
+  λ n k living. (
+      let v = c.args.self.now.set in
+      let found = subst (λ (w : NamedView). IsIn (record { id = c.args.agent; name = name_at w.names c.in-Some.entry.name.place; kind = c.in-Some.entry.kind }) w.set.agents) c.self.view_is c.in-Some.ensures.found in
+      let same = same_member v.agents (record { id = c.args.agent; name = n; kind = k }) (record { id = c.args.agent; name = name_at c.args.self.now.names c.in-Some.entry.name.place; kind = c.in-Some.entry.kind }) c.lawful.ensures.set.own_names living.0 found (inl refl) in
+      c.is_consumed.ensures.0 c.if-is_consumed.true (ap (λ (m : Member). consumed_times m.name (standing v)) (sym same) ∙ living.1)),
+  refl,
+)

@@ -1,0 +1,46 @@
+ghost use Rattle.std.specs.Prelude.{◌≡◌, IfErr, IfOk, OnOk};
+ghost use Rattle.ic_path.specs.Orders.{Alike};
+ghost use Rattle.ic_set.specs.Views.{standing};
+ghost use Rattle.ic_journal.specs.Views.{set_of};
+ghost use Rattle.ic_undo.specs.GoingBack.{IsBack, IsntBack};
+ghost use Rattle.ic_undo.specs.Stood.{StoodAt};
+
+use crate::faults::{BackFault, Counts};
+use crate::going_back::{NOTHING, back, go_over};
+use crate::marks::Mark;
+use crate::missing_among::missing_among;
+use crate::outside_among::outside_among;
+use ic_journal::{Bench, LinkStore};
+use std::alloc::Global;
+
+/// Goes back to a mark as `back` does, where just its events stood after so many lines of the history: it looks only at
+/// what changed since. Where more lines came since than there are events, it looks at the events.
+pub fn back_since<L: LinkStore>(
+    alloc: Global,
+    bench: &mut Bench<L>,
+    mark: &Mark,
+    since: usize,
+) -> Result<Counts, BackFault>
+    requires start { mark.now.start ≡ bench.old.start }
+    requires stood { StoodAt bench.old since mark.now }
+    ensures back { IfOk result (λ counts. IsBack bench.old mark.now counts bench.new) }
+    ensures stands { OnOk result (Alike mark.now.events (standing (set_of bench.new))) }
+    ensures fault { IfErr result (λ fault. IsntBack bench.old mark.now fault bench.new) }
+{
+    bench.lawful();
+    mark.lawful();
+    let lines = (bench.lines() as usize).saturating_sub(since);
+    if lines > bench.standing_count().saturating_add(mark.events().len()) {
+        return back(alloc, bench, mark);
+    }
+    let Ok(changed) = bench.changed_since(since) else {
+        return Err(BackFault::Memory(NOTHING));
+    };
+    let Ok(gone) = outside_among(alloc, bench, mark, &changed) else {
+        return Err(BackFault::Memory(NOTHING));
+    };
+    let Ok(missing) = missing_among(alloc, bench, mark, &changed) else {
+        return Err(BackFault::Memory(NOTHING));
+    };
+    go_over(bench, mark, &gone, missing)
+}
