@@ -1,4 +1,3 @@
-pub mod SameHistories
 pub mod MachineFirings
 pub mod WaysBack
 pub mod BackReplies

@@ -25,7 +25,7 @@ use Rattle.ic_undo.proofs.Backs.{in_behind}
 use Rattle.ic_answer.specs.Unwinding.{AreUndoneInTurn}
 use Rattle.ic_answer.proofs.UndoneInTurn.{EndsSo, undone_in_turn}
 use Rattle.ic_desk.specs.Backs.{AreFired}
-use Rattle.ic_desk.proofs.SameHistories.{same_history}
+use Rattle.ic_undo.proofs.SameHistories.{same_history}
 use Rattle.ic_desk.proofs.MachineFirings.{FiresSo, fires_in_turn}
 
 -- events that can be undone from the last one on can be where there are fewer in front of them

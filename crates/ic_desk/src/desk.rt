@@ -1,8 +1,9 @@
-ghost use Rattle.std.specs.Prelude.{◌≡◌, ◌<◌, ◌≤◌, IfOk, MatchResult};
+ghost use Rattle.std.specs.Prelude.{◌≡◌, ◌<◌, ◌≤◌, IfErr, IfOk, MatchResult};
 ghost use Rattle.ic_answer.specs.Longer.{IsLonger};
 ghost use Rattle.ic_answer.specs.Texts.{answer_text};
 ghost use Rattle.ic_command.specs.declared.command.Command.TheVariants.{Reduce};
 ghost use Rattle.ic_command.specs.declared.request.Request.TheVariants as request;
+ghost use Rattle.ic_desk.specs.declared.fault.DeskFault.TheVariants.{Settle};
 ghost use Rattle.ic_desk.specs.ManyWorkers.{TurnsWith};
 ghost use Rattle.ic_desk.specs.Views.{IsOver, Turns};
 
@@ -80,7 +81,7 @@ impl Desk<Store> {
     /// desk comes back with the answer.
     ///
     /// `DeskFault::Memory` where there is no memory for the answer to what has changed the desk, and `DeskFault::Settle`
-    /// where the workers' receipts aren't what the history says; the desk is gone then.
+    /// where the workers' receipts aren't what the history says, which takes two workers or more; the desk is gone then.
     pub fn carry_out_with<T: Threads + Wait + Sync>(
         mut self,
         threads: &T,
@@ -89,7 +90,8 @@ impl Desk<Store> {
         request: Request,
     ) -> Result<(Desk<Store>, Answer), DeskFault>
         requires { (0 < workers) × (workers ≤ MAX_WORKERS) }
-        ensures { IfOk result (λ r. TurnsWith workers self request (answer_text r.1) r.0) }
+        ensures turns { IfOk result (λ r. TurnsWith workers self request (answer_text r.1) r.0) }
+        ensures settle { IfErr result (λ fault. fault ≡ Settle → 1 < workers) }
     {
         match request {
             Request::Bench(Command::Reduce(most))

@@ -1,6 +1,7 @@
 ghost use Rattle.std.specs.Prelude.{◌≡◌, ◌<◌, ◌≤◌, ℕ, List, IfErr, IfOk, IfSome, OnErr};
 ghost use Rattle.std.specs.Io.KnownBytes.{Appends};
 ghost use Rattle.ic_session.specs.Sessions.{IsBegun, Writes};
+ghost use Rattle.ic_session.specs.declared.fault.Fault.TheVariants.{Settle};
 
 use crate::fault::Fault;
 use crate::session::{Status, run_over};
@@ -19,8 +20,8 @@ pub const MAX_READS: u32 = 1_073_741_824;
 /// is called `MAX_READS` times at most.
 ///
 /// `Fault::Read` where the reader fails or so many calls of it were made, `Fault::Write` where the writer fails,
-/// `Fault::Memory` where there is no memory, and `Fault::Settle` where the workers of a sweep say that they did what the
-/// history doesn't say. What was written by then is a front of what a session may write.
+/// `Fault::Memory` where there is no memory, and, with two workers or more, `Fault::Settle` where those of a sweep say that
+/// they did what the history doesn't say. What was written by then is a front of what a session may write.
 pub fn run_session<R: Read, W: Write, T: Threads + Wait + Sync>(
     threads: &T,
     alloc: Global,
@@ -32,6 +33,7 @@ pub fn run_session<R: Read, W: Write, T: Threads + Wait + Sync>(
     requires { (0 < workers) × (workers ≤ MAX_WORKERS) }
     ensures written { IfOk result (λ status. IfSome (R.remaining reader.old) (λ input. Writes workers budget input status (W.contents writer.old) (W.contents writer.new))) }
     ensures begun { OnErr result (IfSome (R.remaining reader.old) (λ input. (text : List ℕ) × IsBegun workers budget input text × Appends (W.contents writer.old) (W.contents writer.new) text)) }
+    ensures settle { IfErr result (λ fault. fault ≡ Settle → 1 < workers) }
 {
     run_bounded(threads, alloc, reader, writer, workers, budget, MAX_READS)
 }
@@ -50,6 +52,7 @@ pub fn run_bounded<R: Read, W: Write, T: Threads + Wait + Sync>(
     requires { (0 < workers) × (workers ≤ MAX_WORKERS) }
     ensures written { IfOk result (λ status. IfSome (R.remaining reader.old) (λ input. Writes workers budget input status (W.contents writer.old) (W.contents writer.new))) }
     ensures begun { OnErr result (IfSome (R.remaining reader.old) (λ input. (text : List ℕ) × IsBegun workers budget input text × Appends (W.contents writer.old) (W.contents writer.new) text)) }
+    ensures settle { IfErr result (λ fault. fault ≡ Settle → 1 < workers) }
 {
     let mut input = Input::new(alloc, reads)?;
     run_over(threads, alloc, &mut input, reader, writer, workers, budget)

@@ -9,7 +9,7 @@ ghost use Rattle.ic_desk.specs.Views.{IsDeskAt};
 ghost use Rattle.ic_session.specs.Refusals.{refusal_line};
 ghost use Rattle.ic_session.specs.NextRequest.{TakesRequest};
 ghost use Rattle.ic_session.specs.Sessions.{AreAnswers, AreBegun, IsAnswered, IsBegun, IsBrokenOff, Writes};
-ghost use Rattle.ic_session.specs.declared.fault.Fault.TheVariants.{Read};
+ghost use Rattle.ic_session.specs.declared.fault.Fault.TheVariants.{Read, Settle};
 ghost use Rattle.ic_session.specs.declared.session.Status.TheVariants.{NetRefused};
 
 use crate::fault::Fault;
@@ -57,6 +57,7 @@ pub(crate) fn run_over<R: Read, W: Write, T: Threads + Wait + Sync>(
     ensures written { IfOk result (λ status. IfSome (left input.old (R.remaining reader.old)) (λ bytes. Writes workers budget bytes status (W.contents writer.old) (W.contents writer.new))) }
     ensures begun { OnErr result (IfSome (left input.old (R.remaining reader.old)) (λ bytes. (text : List ℕ) × IsBegun workers budget bytes text × Appends (W.contents writer.old) (W.contents writer.new) text)) }
     ensures read { IfErr result (λ fault. fault ≡ Read → IsReadFault input.old.reads input.new.reads io_fault.Read) }
+    ensures settle { IfErr result (λ fault. fault ≡ Settle → 1 < workers) }
 {
     let text = match read_net_text(alloc, input, reader)? {
         NetInput::TooLong => return refuse(alloc, Refusal::TooLong, writer),
@@ -76,7 +77,7 @@ pub(crate) fn run_over<R: Read, W: Write, T: Threads + Wait + Sync>(
 fn refuse<W: Write>(alloc: Global, refusal: Refusal, writer: &mut W) -> Result<Status, Fault>
     ensures named { IfOk result (λ status. (status ≡ NetRefused) × Appends (W.contents writer.old) (W.contents writer.new) (refusal_line refusal)) }
     ensures front { OnErr result (AppendsFront (W.contents writer.old) (W.contents writer.new) (refusal_line refusal)) }
-    ensures fault { IfErr result (λ fault. fault ≢ Read) }
+    ensures fault { IfErr result (λ fault. (fault ≢ Read) × (fault ≢ Settle)) }
 {
     let line = refusal_line(alloc, refusal)?;
     write_reply(writer, &line)?;
@@ -101,6 +102,7 @@ fn answer_all<R: Read, W: Write, T: Threads + Wait + Sync>(
         (text : List ℕ) × AreBegun desk.bench.start workers budget st (lines bytes) text × Appends (W.contents writer.old) (W.contents writer.new) text)) }
     ensures fewer { input.new.reads ≤ input.old.reads }
     ensures fault { IfErr result (λ fault. fault ≡ Read → IsReadFault input.old.reads input.new.reads io_fault.Read) }
+    ensures settle { IfErr result (λ fault. fault ≡ Settle → 1 < workers) }
 {
     let mut line = Vec::new(alloc);
     loop {
@@ -127,6 +129,7 @@ fn answer<W: Write, T: Threads + Wait + Sync>(
     ensures answered { IfOk result (λ after. IsAnswered workers desk request after (W.contents writer.old) (W.contents writer.new)) }
     ensures begun { OnErr result (IsBrokenOff workers desk request (W.contents writer.old) (W.contents writer.new)) }
     ensures fault { IfErr result (λ fault. fault ≢ Read) }
+    ensures settle { IfErr result (λ fault. fault ≡ Settle → 1 < workers) }
 {
     let (after, answer) = desk.carry_out_with(threads, alloc, u32::from(workers), request)?;
     write_reply(writer, answer.bytes())?;
