@@ -1,35 +1,56 @@
 #!/usr/bin/env python3
-"""Refuses each growth of the fast store's memory in turn, and looks whether its list of links is then as it was.
+"""Refuses each growth of memory in turn, and looks whether the calls then leave all as it was and can be made again.
 
-    python3 bench/refused_growth.py [HOW_MANY]
+    python3 bench/refused_growth.py [HOW_MANY] [CRATE..]
 
-Runs a test of `ic_table` so often, each time with another one of its first allocations refused (40 of them if no number is
-given). The test puts in a hundred links; where one is refused, it looks at the list and puts the link in again.
+Runs the tests of three crates so often, each time with another one of the first allocations of each test refused (40 of
+them if no number is given); with crates named, it runs those of these alone. Each test passes whichever allocation is
+refused: it looks at what is left where a call is answered by want of memory, and makes the call again. It takes about a
+minute for each number and crate.
 """
 import pathlib
 import re
 import subprocess
 import sys
 
-TEST = "tests::a_refused_growth_leaves_the_list"
-CRATE = pathlib.Path(__file__).resolve().parent.parent / "crates" / "ic_table"
+CRATES = pathlib.Path(__file__).resolve().parent.parent / "crates"
+
+# The modules whose tests pass whichever allocation is refused, by crate: links of the fast store; calls of desks over both
+# stores, and sessions of one and two workers; firings of a shared bench.
+MODULES = {
+    "ic_test_nets": ["growth"],
+    "ic_test_sessions": ["refused_growth", "repeated_lines"],
+    "ic_test_threads": ["refused_growth"],
+}
 
 
-def passes(refused):
-    """Whether the test passes where the allocation of this number is refused."""
+def outcomes(crate, refused):
+    """Which tests of the modules passed, by name, where the allocation of this number is refused; empty if none ran."""
     ran = subprocess.run(
-        ["rt", "try", "--test", "--fail-alloc", str(refused)],
-        cwd=CRATE,
+        ["rt", "try", "--test", "--seconds", "20", "--fail-alloc", str(refused)],
+        cwd=CRATES / crate,
         capture_output=True,
         text=True,
     )
-    return bool(re.search(rf"^test {TEST} \.\.\. ok$", ran.stdout + ran.stderr, re.M))
+    modules = "|".join(MODULES[crate])
+    lines = re.findall(rf"^test ((?:{modules})::\w+) \.\.\. (\w+)$", ran.stdout + ran.stderr, re.M)
+    return {name: told == "ok" for name, told in lines}
 
 
 def main():
     count = int(sys.argv[1]) if len(sys.argv) > 1 else 40
-    bad = [refused for refused in range(1, count + 1) if not passes(refused)]
-    print(f"refused {count} growths, one at a time; the list was not as before at {bad or 'none'}")
+    bad = []
+    for crate in sys.argv[2:] or MODULES:
+        tests = set()
+        for refused in range(1, count + 1):
+            told = outcomes(crate, refused)
+            tests.update(told)
+            failed = [name for name, passed in told.items() if not passed]
+            bad += [f"{crate} {name} at {refused}" for name in failed]
+            if not told:
+                bad.append(f"{crate} ran no test at {refused}")
+        print(f"{crate}: refused each of the first {count} allocations of {len(tests)} tests", flush=True)
+    print(f"failed: {', '.join(bad) or 'none'}")
     return 1 if bad else 0
 
 

@@ -1,9 +1,9 @@
 #!/usr/bin/env python3
 """Runs the sessions of this folder on the built program: python3 examples/check.py [PROGRAM].
 
-Each NAME.session has what it is answered beside it, in NAME.answer. Prints the names of those that are answered
-otherwise, and of those that `ic_rows`, which the gate runs, holds in another form, and last how many there are of both; the
-status is 1 if there are any.
+Each NAME.session has what it is answered beside it, in NAME.answer. One that has NAME.errors, too, is run with `--explain`,
+and these are its sentences on standard error. Prints the names of those that are answered otherwise, and of the others that
+`ic_rows`, which the gate runs, holds in another form, and last how many there are of both; the status is 1 if there are any.
 """
 
 import pathlib
@@ -25,12 +25,15 @@ def main():
     program = sys.argv[1] if len(sys.argv) > 1 else str(PROGRAM)
     sessions, wrong = sorted(HERE.glob("*.session")), 0
     for session in sessions:
-        done = subprocess.run([program], input=session.read_bytes(), capture_output=True, check=False)
-        answer = session.with_suffix(".answer").read_bytes()
-        if done.returncode != 0 or done.stdout != answer:
+        answer, errors = session.with_suffix(".answer").read_bytes(), session.with_suffix(".errors")
+        explains = errors.exists()
+        command = [program, "--explain"] if explains else [program]
+        done = subprocess.run(command, input=session.read_bytes(), capture_output=True, check=False)
+        said = errors.read_bytes() if explains else b""
+        if done.returncode != 0 or done.stdout != answer or done.stderr != said:
             print(f"{session.name}: answered otherwise, status {done.returncode}")
             wrong += 1
-        if not is_row(session, answer):
+        if not explains and not is_row(session, answer):
             print(f"{session.name}: differs from crates/ic_rows/data")
             wrong += 1
     print(f"{len(sessions)} sessions, {wrong} differences")

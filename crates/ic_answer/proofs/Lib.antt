@@ -13,3 +13,6 @@ pub mod UnwoundEvents
 pub mod UnwindingReplies
 pub mod ReducingReplies
 pub mod NumberedLines
+pub mod RestingEvents
+pub mod HistoryLines
+pub mod UntoldTurns

@@ -4,7 +4,7 @@ use Rattle.std.specs.Prelude.{codes}
 use Rattle.std.specs.Fmt.{decimal}
 use Rattle.std.proofs.lemmas.Fmt.{decimal_digit, decimal_step}
 use Rattle.ic_answer.specs.declared.refused.Refused.{Refused}
-use Rattle.ic_answer.specs.declared.refused.Refused.TheVariants.{NotActive, Deep, Full, HistoryFull, Memory, NotStanding, Command, NoMark, TooManyMarks}
+use Rattle.ic_answer.specs.declared.refused.Refused.TheVariants.{NotActive, Deep, Full, HistoryFull, Memory, MemoryBeforeReduce, MemoryBeforeBack, NotStanding, Command, NoMark, TooManyMarks}
 use Rattle.ic_answer.specs.Texts.{refusal_number, refusal_text, refusal_words}
 
 -- a number of two digits
@@ -17,6 +17,8 @@ numbered Deep = rw (two_digits 22 (omega arith) (omega arith)) refl
 numbered Full = rw (two_digits 23 (omega arith) (omega arith)) refl
 numbered HistoryFull = rw (two_digits 24 (omega arith) (omega arith)) refl
 numbered Memory = rw (two_digits 25 (omega arith) (omega arith)) refl
+numbered MemoryBeforeReduce = rw (two_digits 25 (omega arith) (omega arith)) refl
+numbered MemoryBeforeBack = rw (two_digits 25 (omega arith) (omega arith)) refl
 numbered NotStanding = rw (two_digits 31 (omega arith) (omega arith)) refl
 numbered Command = rw (two_digits 40 (omega arith) (omega arith)) refl
 numbered NoMark = rw (two_digits 41 (omega arith) (omega arith)) refl

@@ -11,12 +11,15 @@ use Rattle.ic_cause.specs.Journals.{Ranked, journal_text}
 use Rattle.ic_cause.specs.declared.journal.RankedEvent.{RankedEvent}
 use Rattle.ic_set.specs.Views.{standing}
 use Rattle.ic_set.specs.Orders.{AreRanked}
+use Rattle.ic_print.specs.AgentsText.{agents_text}
 use Rattle.ic_print.specs.NetText.{net_text}
 use Rattle.ic_journal.specs.Views.{BenchView, set_of}
 use Rattle.ic_journal.specs.Benches.{IsBench}
 use Rattle.ic_journal.proofs.MachineSteps.{events_at}
 use Rattle.ic_journal.proofs.SameSets.{rank-alike}
 use Rattle.ic_command.specs.declared.command.Command.TheVariants.{Net as NetCommand, Journal}
+use Rattle.ic_command.specs.declared.question.Question.TheVariants.{Agents}
+use Rattle.ic_answer.specs.Questions.{Informs, InformsOf, agents}
 use Rattle.ic_answer.specs.Replies.{net, journal}
 use Rattle.ic_answer.specs.Turns.{Tells}
 use Rattle.ic_shown.proofs.Elements.{map_cases}
@@ -59,6 +62,12 @@ tells_journal v xs r st at = journal (record {
 pub told_net : (v : BenchView) (l : ListedNet) (names : List (List ℕ)) → IsBench v → IsListing l → IsSameNet (shown l) (net_of v.start (standing (set_of v))) → names ≡ v.start.names
     → (text : List ℕ) → text ≡ net_text names l → Tells v NetCommand text
 told_net v l names b listing same e text t = subst (λ u. Tells v NetCommand u) (sym (t ∙ ap (λ ns. net_text ns l) e)) (tells_net v l b listing same)
+
+-- a text that has the lines of its agents behind their names
+pub told_agents : (v : BenchView) (l : ListedNet) (names : List (List ℕ)) → IsBench v → IsListing l → IsSameNet (shown l) (net_of v.start (standing (set_of v))) → names ≡ v.start.names
+    → (text : List ℕ) → text ≡ agents_text names l → InformsOf v Agents text
+told_agents v l names b listing same e text t st at =
+    subst (λ u. Informs v.start st Agents u) (sym (t ∙ ap (λ ns. agents_text ns l) e)) (agents listing (same_then same (net-alike v.start b.set.proper b.set.sound (events_at v at))))
 
 -- a text that is the journal
 pub told_journal : (v : BenchView) (items xs : List RankedEvent) → items ≡ xs → AreRanked (set_of v) xs → (text : List ℕ) → text ≡ journal_text (map ranked_of items) → Tells v Journal text

@@ -1,6 +1,8 @@
 -- What undoing more than one event at once answers.
-use Rattle.std.proofs.Common.{◌≡◌, ◌≢◌, ℕ, ◌+◌, ◌≤◌, ◌<◌, List, [], ◌∷◌, ◌++◌, length, map, reverse, take, get_or, codes, Result, Err, IfErr, refl, sym, ap, ap₂, subst, append_assoc, append-nil, arith, ◌∙◌}
+use Rattle.std.proofs.Common.{◌≡◌, ◌≢◌, ℕ, ◌+◌, ◌≤◌, ◌<◌, List, [], ◌∷◌, ◌++◌, length, map, reverse, take, get_or, codes, Result, Err, IfErr, IfOk, OnErr, Vec, Global, refl, sym, ap, ap₂, subst, append_assoc, append-nil, arith, ◌∙◌}
+use Rattle.std.specs.Prelude.{MatchResult}
 use Rattle.std.specs.Fmt.{decimal}
+use Rattle.std.specs.declared.alloc.AllocError.{AllocError}
 use Rattle.std.specs.List.{flat_map}
 use Rattle.std.specs.List.Sorted.{IsStrictlySortedBy}
 use Rattle.std.proofs.lemmas.List.{length-map, length-append, take_more}
@@ -25,15 +27,19 @@ use Rattle.ic_undo.specs.Backwards.{AreFree}
 use Rattle.ic_undo.proofs.Backs.{map-reverse}
 use Rattle.ic_undo.proofs.FreeOrders.{AreWithDependents, in_free_order, resting_with_dependents, all_with_dependents}
 use Rattle.ic_undo.proofs.Unwinds.{each_once_back}
+use Rattle.ic_command.specs.declared.command.Command.{Command}
 use Rattle.ic_command.specs.declared.command.Command.TheVariants.{Unwind, UndoAll}
+use Rattle.ic_answer.specs.declared.answer.Answer.{Answer}
 use Rattle.ic_answer.specs.declared.refused.Refused.TheVariants as refused
-use Rattle.ic_answer.specs.Replies.{Replies, unwind_not_standing, unwind_history_full, unwound, undo_all_history_full, undone_all}
-use Rattle.ic_answer.specs.Texts.{event_line, pair_line, unwound_text, undone_all_text, refusal_text}
+use Rattle.ic_answer.specs.Replies.{Replies, MayWant, unwind_not_standing, unwind_history_full, unwound, undo_all_history_full, undone_all}
+use Rattle.ic_answer.specs.Texts.{answer_text, event_line, pair_line, unwound_text, undone_all_text, refusal_text}
 use Rattle.ic_answer.specs.Turns.{Tells, Turns}
 use Rattle.ic_answer.specs.Unwinding.{RestsOn, AreUndoneInTurn, events_of}
 use Rattle.ic_answer.proofs.StandingCauses.{named_event, none_named}
+use Rattle.ic_answer.proofs.TurnSteps.{tells_memory}
 use Rattle.ic_answer.proofs.UndoneInTurn.{EndsSo, undone_in_turn}
 use Rattle.ic_answer.proofs.UndoingReplies.{Stands}
+use Rattle.ic_answer.proofs.UntoldTurns.{untold, told_or_refused}
 use Rattle.ic_answer.proofs.UnwoundEvents.{last_first_at, dont_fit_at, any_same, resting_same}
 
 -- the events of a list, the last one in canonical order first, are in a free order from its end
@@ -178,3 +184,13 @@ lines_more head text next names i none name few before is more =
     let taken = ap (λ n. take i names ++ n ∷ []) is ∙ sym (take_more names i none few) in
     let lines = ap (λ t. before_it ++ t) (sym one) ∙ sym (flat_map-append (pair_line []) (take i names) (name ∷ [])) ∙ ap (flat_map (pair_line [])) taken in
     more ∙ ap (λ t. t ++ pair_line [] name) before ∙ append_assoc head before_it (pair_line [] name) ∙ ap (λ t. head ++ t) lines
+
+-- what is told of undoing, or a refusal where no line was added
+pub undoes_or_refused : (old new : BenchView) (c : Command) (undone : List Stander) (known : List ℕ) (text : Result (Vec ℕ Global) AllocError) (result : Result Answer AllocError)
+    → IsBench new → MayWant c → bench.AreUndone old undone new → Turns old c known new → IfOk text (λ t. t.items ≡ known)
+    → IfOk text (λ t. IfOk result (λ a. answer_text a ≡ t.items))
+    → OnErr text (IfOk result (λ a. (answer_text a ≡ refusal_text refused.Memory) × (length new.lines ≤ length old.lines)))
+    → MatchResult result (λ a. Turns old c (answer_text a) new) (λ _. new.start ≡ old.start)
+undoes_or_refused old new c undone known text result lawful want did turns is told instead =
+    told_or_refused (λ t. Turns old c t new) (new.start ≡ old.start) (length new.lines ≤ length old.lines) known text result refused.Memory turns
+    (untold old new c (refusal_text refused.Memory) lawful did.start (record { more = map bench.undoing undone; lines = did.lines }) (tells_memory old c want)) did.start is told instead

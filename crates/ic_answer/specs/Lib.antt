@@ -1,3 +1,5 @@
+pub mod Histories
+pub mod Questions
 pub mod Texts
 pub mod Standing
 pub mod Unwinding

@@ -97,4 +97,5 @@ pub data Replies (s : Start) (st : State) : Command → List ℕ → State → T
   reduced_limit : {most n : ℕ} {mid next : State} → AreFiredInTurn s n st mid → n < most → MeetsLimit s mid next
       → Replies s st (Reduce most) (reduced_text n (codes "limit")) next
   reduced_memory : {most n : ℕ} {next : State} → AreFiredInTurn s n st next → n < most → Replies s st (Reduce most) (wanting_after n) next
+  reduce_memory : {most : ℕ} → Replies s st (Reduce most) (wanting_after 0) st
   memory : {c : Command} → MayWant c → Replies s st c (refusal_text refused.Memory) st

@@ -8,7 +8,7 @@ use Rattle.ic_name.specs.Events.{Pair, Event, pair}
 use Rattle.ic_answer.specs.declared.answer.Answer.{Answer}
 use Rattle.ic_answer.specs.declared.answer.Answer.TheVariants as answers
 use Rattle.ic_answer.specs.declared.refused.Refused.{Refused}
-use Rattle.ic_answer.specs.declared.refused.Refused.TheVariants.{NotActive, Deep, Full, HistoryFull, Memory, NotStanding, Command, NoMark, TooManyMarks}
+use Rattle.ic_answer.specs.declared.refused.Refused.TheVariants.{NotActive, Deep, Full, HistoryFull, Memory, MemoryBeforeReduce, MemoryBeforeBack, NotStanding, Command, NoMark, TooManyMarks}
 
 -- the names of an event's two agents, the lead first
 abbrev pub pair_text : Pair → List ℕ
@@ -53,6 +53,8 @@ refusal_text Deep = codes "refused 22 deep\n"
 refusal_text Full = codes "refused 23 full\n"
 refusal_text HistoryFull = codes "refused 24 history full\n"
 refusal_text Memory = codes "refused 25 memory\n"
+refusal_text MemoryBeforeReduce = codes "refused 25 memory after 0\n"
+refusal_text MemoryBeforeBack = codes "refused 25 memory after 0 undone 0 fired\n"
 refusal_text NotStanding = codes "refused 31 not standing\n"
 refusal_text Command = codes "refused 40 command\n"
 refusal_text NoMark = codes "refused 41 no mark\n"
@@ -65,6 +67,8 @@ refusal_number Deep = DEEP
 refusal_number Full = FULL
 refusal_number HistoryFull = HISTORY_FULL
 refusal_number Memory = MEMORY
+refusal_number MemoryBeforeReduce = MEMORY
+refusal_number MemoryBeforeBack = MEMORY
 refusal_number NotStanding = NOT_STANDING
 refusal_number Command = COMMAND
 refusal_number NoMark = NO_MARK
@@ -77,6 +81,8 @@ refusal_words Deep = codes "deep"
 refusal_words Full = codes "full"
 refusal_words HistoryFull = codes "history full"
 refusal_words Memory = codes "memory"
+refusal_words MemoryBeforeReduce = codes "memory after 0"
+refusal_words MemoryBeforeBack = codes "memory after 0 undone 0 fired"
 refusal_words NotStanding = codes "not standing"
 refusal_words Command = codes "command"
 refusal_words NoMark = codes "no mark"

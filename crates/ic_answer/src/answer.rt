@@ -1,7 +1,7 @@
 ghost use Rattle.std.specs.Prelude.{◌≡◌, IfOk, MatchResult, OnErr};
 ghost use Rattle.ic_answer.specs.declared.refused.Refused.TheVariants.{Memory};
 ghost use Rattle.ic_answer.specs.Texts.{answer_text, refusal_text};
-ghost use Rattle.ic_answer.specs.Longer.{IsLonger};
+ghost use Rattle.ic_answer.specs.Longer.{HasGrown, IsLonger};
 ghost use Rattle.ic_answer.specs.Turns.{Turns};
 
 use crate::changing::{fire, undo};
@@ -33,11 +33,33 @@ impl Answer {
             Answer::Refused(refused) => refused.line(),
         }
     }
+
+    /// A text, or that memory is wanting.
+    pub fn text_or_memory(text: Result<Vec<u8>, AllocError>) -> Answer
+        ensures text { IfOk text (λ t. answer_text result ≡ t.items) }
+        ensures memory { OnErr text (answer_text result ≡ refusal_text Memory) }
+    {
+        match text {
+            Ok(text) => Answer::Text(text),
+            Err(_) => Answer::Refused(Refused::Memory),
+        }
+    }
+
+    /// An answer, or that memory is wanting.
+    pub fn answer_or_memory(answer: Result<Answer, AllocError>) -> Answer
+        ensures answer { IfOk answer (λ a. answer_text result ≡ answer_text a) }
+        ensures memory { OnErr answer (answer_text result ≡ refusal_text Memory) }
+    {
+        match answer {
+            Ok(answer) => answer,
+            Err(_) => Answer::Refused(Refused::Memory),
+        }
+    }
 }
 
 /// Carries out a command over a bench. Where there is no memory for it, the answer is a refusal, and then neither net nor
-/// standing set have changed, but for what a `reduce` says that it has fired. An error where there is no memory for the
-/// answer to a command that has changed them. The start stays the same in each case, and the history only grows.
+/// standing set have changed, but for what a `reduce` says that it has fired. An error only where the history has grown and
+/// there is no memory for the answer. The start stays the same in each case, and the history only grows.
 pub fn carry_out<L: LinkStore>(
     alloc: Global,
     bench: &mut Bench<L>,
@@ -45,40 +67,19 @@ pub fn carry_out<L: LinkStore>(
 ) -> Result<Answer, AllocError>
     ensures turns { MatchResult result (λ answer. Turns bench.old command (answer_text answer) bench.new) (λ _. bench.new.start ≡ bench.old.start) }
     ensures lines { IsLonger bench.old bench.new }
+    ensures grown { OnErr result (HasGrown bench.old bench.new) }
 {
     match command {
         Command::Nothing => Ok(Answer::Text(Vec::new(alloc))),
         Command::Malformed => Ok(Answer::Refused(Refused::Command)),
-        Command::Net => Ok(text_or_memory(reading::net(alloc, bench))),
-        Command::Active => Ok(text_or_memory(reading::active(alloc, bench))),
-        Command::Journal => Ok(text_or_memory(reading::journal(alloc, bench))),
-        Command::Why(event) => Ok(answer_or_memory(why(alloc, bench, &event))),
+        Command::Net => Ok(Answer::text_or_memory(reading::net(alloc, bench))),
+        Command::Active => Ok(Answer::text_or_memory(reading::active(alloc, bench))),
+        Command::Journal => Ok(Answer::text_or_memory(reading::journal(alloc, bench))),
+        Command::Why(event) => Ok(Answer::answer_or_memory(why(alloc, bench, &event))),
         Command::Fire(event) => Ok(fire(alloc, bench, &event)),
         Command::Undo(event) => Ok(undo(alloc, bench, &event)),
         Command::Unwind(event) => undo_with_dependents(alloc, bench, &event),
         Command::UndoAll => undo_everything(alloc, bench),
         Command::Reduce(most) => reduce(alloc, bench, most),
-    }
-}
-
-/// A text, or that memory is wanting.
-fn text_or_memory(text: Result<Vec<u8>, AllocError>) -> Answer
-    ensures text { IfOk text (λ t. answer_text result ≡ t.items) }
-    ensures memory { OnErr text (answer_text result ≡ refusal_text Memory) }
-{
-    match text {
-        Ok(text) => Answer::Text(text),
-        Err(_) => Answer::Refused(Refused::Memory),
-    }
-}
-
-/// An answer, or that memory is wanting.
-fn answer_or_memory(answer: Result<Answer, AllocError>) -> Answer
-    ensures answer { IfOk answer (λ a. answer_text result ≡ answer_text a) }
-    ensures memory { OnErr answer (answer_text result ≡ refusal_text Memory) }
-{
-    match answer {
-        Ok(answer) => answer,
-        Err(_) => Answer::Refused(Refused::Memory),
     }
 }

@@ -16,6 +16,10 @@ pub enum Refused {
     HistoryFull,
     /// Want of memory.
     Memory,
+    /// Want of memory for a `reduce`, before anything is fired.
+    MemoryBeforeReduce,
+    /// Want of memory for a `back`, before anything is undone or fired.
+    MemoryBeforeBack,
     /// An event that doesn't stand.
     NotStanding,
     /// A line that is no command.
@@ -37,6 +41,8 @@ impl Refused {
             Refused::Full => numbers::FULL,
             Refused::HistoryFull => numbers::HISTORY_FULL,
             Refused::Memory => numbers::MEMORY,
+            Refused::MemoryBeforeReduce => numbers::MEMORY,
+            Refused::MemoryBeforeBack => numbers::MEMORY,
             Refused::NotStanding => numbers::NOT_STANDING,
             Refused::Command => numbers::COMMAND,
             Refused::NoMark => numbers::NO_MARK,
@@ -54,6 +60,8 @@ impl Refused {
             Refused::Full => b"refused 23 full\n",
             Refused::HistoryFull => b"refused 24 history full\n",
             Refused::Memory => b"refused 25 memory\n",
+            Refused::MemoryBeforeReduce => b"refused 25 memory after 0\n",
+            Refused::MemoryBeforeBack => b"refused 25 memory after 0 undone 0 fired\n",
             Refused::NotStanding => b"refused 31 not standing\n",
             Refused::Command => b"refused 40 command\n",
             Refused::NoMark => b"refused 41 no mark\n",

@@ -41,7 +41,7 @@ pub(crate) fn why<L: LinkStore>(
 }
 
 /// Puts a line with the names of each of these events at the end.
-fn push_events<L: LinkStore>(
+pub(crate) fn push_events<L: LinkStore>(
     bench: &Bench<L>,
     text: &mut Vec<u8>,
     events: &[EventId],

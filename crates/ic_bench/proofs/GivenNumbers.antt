@@ -23,7 +23,7 @@ use Rattle.clap.specs.declared.builder.value_parser.ValueParser.{ValueParser}
 use Rattle.clap.specs.declared.builder.value_parser.ValueParser.TheVariants.{Signed}
 use Rattle.clap.specs.declared.parser.matches.ArgMatches.{ArgMatches}
 use Rattle.clap.specs.declared.parser.matches.MatchedArg.{MatchedArg}
-use Rattle.ic_bench.specs.CommandLine.{IsChoice, budget_rule, icbench, workers_rule}
+use Rattle.ic_bench.specs.CommandLine.{IsChoice, budget_rule, explain_rule, icbench, workers_rule}
 
 -- the first value, of values of which each has a property
 first_value : (P : Bor (List ℕ) → Type 0) (how : Reading) (vs : List (Bor (List ℕ))) (t : List ℕ) → All P vs
@@ -120,49 +120,61 @@ given_number old m p plain local k d own name id low high width fits parser E G 
         let parsed = only t (Ok read.0) (subst (λ (o : Option ℕ). ReadsOne G t o) read.1 (value t e)) in
         record { number = same ∙ parsed.1; least = rw same read.2; most = rw same read.3 }
 
--- the two arguments of the program
-record TwoArguments (old : Command) : Type 0 where
+-- the three arguments of the program
+record ThreeArguments (old : Command) : Type 0 where
   first : Arg
   second : Arg
-  are : args_of old ≡ first ∷ second ∷ []
+  third : Arg
+  are : args_of old ≡ first ∷ second ∷ third ∷ []
   first_rule : rule_of first ≡ workers_rule
   second_rule : rule_of second ≡ budget_rule
+  third_rule : rule_of third ≡ explain_rule
 
-two_of : {A B : Type 0} (f : A → B) (xs : List A) (u v : B) → map f xs ≡ u ∷ v ∷ [] → (a : A) × (b : A) × (xs ≡ a ∷ b ∷ []) × (f a ≡ u) × (f b ≡ v)
-two_of f [] u v is = cc
-two_of f (a ∷ []) u v is = cc
-two_of f (a ∷ b ∷ []) u v is = (a, b, refl, ap (λ rs. slice_index_or rs 0 u) is, ap (λ rs. slice_index_or rs 1 u) is)
-two_of f (a ∷ b ∷ x ∷ xs) u v is = cc
+three_of : {A B : Type 0} (f : A → B) (xs : List A) (u v w : B) → map f xs ≡ u ∷ v ∷ w ∷ []
+    → (a : A) × (b : A) × (c : A) × (xs ≡ a ∷ b ∷ c ∷ []) × (f a ≡ u) × (f b ≡ v) × (f c ≡ w)
+three_of f [] u v w is = cc
+three_of f (a ∷ []) u v w is = cc
+three_of f (a ∷ b ∷ []) u v w is = cc
+three_of f (a ∷ b ∷ c ∷ []) u v w is = (a, b, c, refl, ap (λ rs. slice_index_or rs 0 u) is, ap (λ rs. slice_index_or rs 1 u) is, ap (λ rs. slice_index_or rs 2 u) is)
+three_of f (a ∷ b ∷ c ∷ x ∷ xs) u v w is = cc
 
-two_arguments : (old : Command) → app_of old ≡ icbench → TwoArguments old
-two_arguments old shape =
-    let two = two_of rule_of (args_of old) workers_rule budget_rule (ap (λ (a : App). a.top.rules) shape) in
-    record { first = two.0; second = two.1; are = two.2; first_rule = two.3; second_rule = two.4 }
+three_arguments : (old : Command) → app_of old ≡ icbench → ThreeArguments old
+three_arguments old shape =
+    let three = three_of rule_of (args_of old) workers_rule budget_rule explain_rule (ap (λ (a : App). a.top.rules) shape) in
+    record { first = three.0; second = three.1; third = three.2; are = three.3; first_rule = three.4; second_rule = three.5; third_rule = three.6 }
 
-first_id : (old : Command) (t : TwoArguments old) (e : Arg) → (slice_index_or (args_of old) 0 e).id.now ≡ codes "workers"
+first_id : (old : Command) (t : ThreeArguments old) (e : Arg) → (slice_index_or (args_of old) 0 e).id.now ≡ codes "workers"
 first_id old t e = subst (λ (xs : List Arg). (slice_index_or xs 0 e).id.now ≡ codes "workers") (sym t.are) (ap (λ (r : Rule). r.id) t.first_rule)
 
-second_id : (old : Command) (t : TwoArguments old) (e : Arg) → (slice_index_or (args_of old) 1 e).id.now ≡ codes "budget"
+second_id : (old : Command) (t : ThreeArguments old) (e : Arg) → (slice_index_or (args_of old) 1 e).id.now ≡ codes "budget"
 second_id old t e = subst (λ (xs : List Arg). (slice_index_or xs 1 e).id.now ≡ codes "budget") (sym t.are) (ap (λ (r : Rule). r.id) t.second_rule)
 
-one_of_two : (j : ℕ) → j < 2 → (j ≡ 0) ⊎ (j ≡ 1)
-one_of_two zero lt = inl refl
-one_of_two (suc zero) lt = inr refl
-one_of_two (suc (suc j)) lt = absurd (omega arith)
+third_id : (old : Command) (t : ThreeArguments old) (e : Arg) → (slice_index_or (args_of old) 2 e).id.now ≡ codes "explain"
+third_id old t e = subst (λ (xs : List Arg). (slice_index_or xs 2 e).id.now ≡ codes "explain") (sym t.are) (ap (λ (r : Rule). r.id) t.third_rule)
+
+one_of_three : (j : ℕ) → j < 3 → (j ≡ 0) ⊎ (j ≡ 1) ⊎ (j ≡ 2)
+one_of_three zero lt = inl refl
+one_of_three (suc zero) lt = inr (inl refl)
+one_of_three (suc (suc zero)) lt = inr (inr refl)
+one_of_three (suc (suc (suc j))) lt = absurd (omega arith)
 
 -- an id with another first letter than those of the flags that clap adds, and some letter
 named_apart : (id name : List ℕ) → id ≡ name → (slice_index name 0 ≡ 0 → ⊥) → id ≡ [] → ⊥
 named_apart id name is apart empty = apart (ap (λ (t : List ℕ). slice_index t 0) (sym is ∙ empty))
 
--- each of them is alone in its id
-own_first : (old : Command) (t : TwoArguments old) → IsOwn old 0 t.first
+-- each of those that take a number is alone in its id
+own_first : (old : Command) (t : ThreeArguments old) → IsOwn old 0 t.first
 own_first old t = record {
   stands = subst (λ (xs : List Arg). 0 < length xs) (sym t.are) (omega arith);
-  alone = λ j e lt same. elim (one_of_two j (subst (λ (xs : List Arg). j < length xs) t.are lt)) [
+  alone = λ j e lt same. elim (one_of_three j (subst (λ (xs : List Arg). j < length xs) t.are lt)) [
     | inl zero_is ↦ zero_is
-    | inr one_is ↦
+    | inr (inl one_is) ↦
         let here : (slice_index_or (args_of old) j e).id.now ≡ codes "budget" = rw one_is (second_id old t e) in
         let bad : bytes_eq (codes "budget") (codes "workers") ≡ true = sym (ap₂ bytes_eq here (first_id old t t.first)) ∙ same in
+        cc
+    | inr (inr two_is) ↦
+        let here : (slice_index_or (args_of old) j e).id.now ≡ codes "explain" = rw two_is (third_id old t e) in
+        let bad : bytes_eq (codes "explain") (codes "workers") ≡ true = sym (ap₂ bytes_eq here (first_id old t t.first)) ∙ same in
         cc
   ];
   named = named_apart _ (codes "workers") (first_id old t t.first) (λ e. let bad : 119 ≡ 0 = e in absurd (omega arith));
@@ -172,15 +184,19 @@ own_first old t = record {
   ];
 }
 
-own_second : (old : Command) (t : TwoArguments old) → IsOwn old 1 t.second
+own_second : (old : Command) (t : ThreeArguments old) → IsOwn old 1 t.second
 own_second old t = record {
   stands = subst (λ (xs : List Arg). 1 < length xs) (sym t.are) (omega arith);
-  alone = λ j e lt same. elim (one_of_two j (subst (λ (xs : List Arg). j < length xs) t.are lt)) [
+  alone = λ j e lt same. elim (one_of_three j (subst (λ (xs : List Arg). j < length xs) t.are lt)) [
     | inl zero_is ↦
         let here : (slice_index_or (args_of old) j e).id.now ≡ codes "workers" = rw zero_is (first_id old t e) in
         let bad : bytes_eq (codes "workers") (codes "budget") ≡ true = sym (ap₂ bytes_eq here (second_id old t t.second)) ∙ same in
         cc
-    | inr one_is ↦ one_is
+    | inr (inl one_is) ↦ one_is
+    | inr (inr two_is) ↦
+        let here : (slice_index_or (args_of old) j e).id.now ≡ codes "explain" = rw two_is (third_id old t e) in
+        let bad : bytes_eq (codes "explain") (codes "budget") ≡ true = sym (ap₂ bytes_eq here (second_id old t t.second)) ∙ same in
+        cc
   ];
   named = named_apart _ (codes "budget") (second_id old t t.second) (λ e. let bad : 98 ≡ 0 = e in absurd (omega arith));
   own = λ flag. elim flag [
@@ -190,14 +206,14 @@ own_second old t = record {
 }
 
 -- their parsers
-first_parser : (old : Command) (t : TwoArguments old) → (slice_index_or (args_of old) 0 t.first).value_parser ≡ Some (Signed (pos 1) (pos 64))
+first_parser : (old : Command) (t : ThreeArguments old) → (slice_index_or (args_of old) 0 t.first).value_parser ≡ Some (Signed (pos 1) (pos 64))
 first_parser old t = subst (λ (xs : List Arg). (slice_index_or xs 0 t.first).value_parser ≡ Some (Signed (pos 1) (pos 64))) (sym t.are) (ap (λ (r : Rule). r.parser) t.first_rule)
 
-second_parser : (old : Command) (t : TwoArguments old) → (slice_index_or (args_of old) 1 t.second).value_parser ≡ Some (Signed (pos 0) (pos 1048576))
+second_parser : (old : Command) (t : ThreeArguments old) → (slice_index_or (args_of old) 1 t.second).value_parser ≡ Some (Signed (pos 0) (pos 1048576))
 second_parser old t = subst (λ (xs : List Arg). (slice_index_or xs 1 t.second).value_parser ≡ Some (Signed (pos 0) (pos 1048576))) (sym t.are) (ap (λ (r : Rule). r.parser) t.second_rule)
 
 -- the text that an option was given is that of the words
-chosen_text : (old : Command) (m : ArgMatches) (words : List Text) (name : List ℕ) → app_of old ≡ icbench → HasMatchesOf (app_of old) words m
+pub chosen_text : (old : Command) (m : ArgMatches) (words : List Text) (name : List ℕ) → app_of old ≡ icbench → HasMatchesOf (app_of old) words m
     → one_text (found_of m) name ≡ one_of name (matches_of icbench words)
 chosen_text old m words name shape matches =
     one_text-rows (found_of m) name ∙ ap (one_of name) ((matches (ap is_simple shape)).0) ∙ ap (λ (a : App). one_of name (matches_of a words)) shape
@@ -209,9 +225,9 @@ pub workers_chosen : (old : Command) (m : ArgMatches) (words : List Text) → Is
     → (r : Option ℕ) → (one_text (found_of m) (codes "workers") ≡ None → r ≡ None) → ((t : List ℕ) → one_text (found_of m) (codes "workers") ≡ Some t → ReadsOne G t r)
     → (n : ℕ) → n ≡ unwrap_or r 1 → IsChoice 1 1 64 (one_of (codes "workers") (matches_of icbench words)) n
 workers_chosen old m words p plain local shape matches E G only r none value n is =
-    let two = two_arguments old shape in
+    let three = three_arguments old shape in
     subst (λ (o : Option (List ℕ)). IsChoice 1 1 64 o n) (chosen_text old m words (codes "workers") shape matches)
-    (given_number old m p plain local 0 two.first (own_first old two) (codes "workers") (first_id old two two.first) 1 64 8 (omega arith) (first_parser old two) E G only r none value 1 n is (omega arith) (omega arith))
+    (given_number old m p plain local 0 three.first (own_first old three) (codes "workers") (first_id old three three.first) 1 64 8 (omega arith) (first_parser old three) E G only r none value 1 n is (omega arith) (omega arith))
 
 -- the budget that the words choose
 pub budget_chosen : (old : Command) (m : ArgMatches) (words : List Text) → IsParsedFrom old m → IsPlain old → (out-Command old).has_globals ≡ false
@@ -220,6 +236,6 @@ pub budget_chosen : (old : Command) (m : ArgMatches) (words : List Text) → IsP
     → (r : Option ℕ) → (one_text (found_of m) (codes "budget") ≡ None → r ≡ None) → ((t : List ℕ) → one_text (found_of m) (codes "budget") ≡ Some t → ReadsOne G t r)
     → (n : ℕ) → n ≡ unwrap_or r 1048576 → IsChoice 1048576 0 1048576 (one_of (codes "budget") (matches_of icbench words)) n
 budget_chosen old m words p plain local shape matches E G only r none value n is =
-    let two = two_arguments old shape in
+    let three = three_arguments old shape in
     subst (λ (o : Option (List ℕ)). IsChoice 1048576 0 1048576 o n) (chosen_text old m words (codes "budget") shape matches)
-    (given_number old m p plain local 1 two.second (own_second old two) (codes "budget") (second_id old two two.second) 0 1048576 32 (omega arith) (second_parser old two) E G only r none value 1048576 n is (omega arith) (omega arith))
+    (given_number old m p plain local 1 three.second (own_second old three) (codes "budget") (second_id old three three.second) 0 1048576 32 (omega arith) (second_parser old three) E G only r none value 1048576 n is (omega arith) (omega arith))

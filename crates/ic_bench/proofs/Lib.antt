@@ -1,2 +1,4 @@
+pub mod GivenFlag
 pub mod GivenNumbers
 pub mod RunFacts
+pub mod RunModes

@@ -11,18 +11,19 @@ use Rattle.ic_bench.specs.Runs.{Explains, Held, Runs, RunsSession}
 use Rattle.ic_bench.specs.Runs.Explains.{helped, unheard, wanting, refused}
 use Rattle.ic_bench.specs.Runs.Runs.{session, explained}
 use Rattle.ic_bench.specs.Runs.RunsSession.{ended, broken}
+use Rattle.ic_bench.specs.declared.options.Options.{Options}
 
 -- the first fault of the net was named
 abbrev Named : Option (List ℕ) → Held → Type 0
 Named input output = IfSome input (λ bytes. (text : List ℕ) × NamesFault bytes text × Appends output.before output.after text)
 
-session_named : (workers budget : ℕ) (input : Option (List ℕ)) (output errors : Held) (n : ℕ) → RunsSession workers budget input output errors n → n ≡ 2 → Named input output
-session_named workers budget input output errors n (ended Ended wrote same) is = absurd (omega arith)
-session_named workers budget input output errors n (ended NetRefused wrote same) is = wrote
-session_named workers budget input output errors n (broken Read begun said) is = absurd (omega arith)
-session_named workers budget input output errors n (broken Write begun said) is = absurd (omega arith)
-session_named workers budget input output errors n (broken Memory begun said) is = absurd (omega arith)
-session_named workers budget input output errors n (broken Settle begun said) is = absurd (omega arith)
+session_named : (options : Options) (input : Option (List ℕ)) (output errors : Held) (n : ℕ) → RunsSession options input output errors n → n ≡ 2 → Named input output
+session_named options input output errors n (ended Ended wrote same) is = absurd (omega arith)
+session_named options input output errors n (ended NetRefused wrote same) is = wrote
+session_named options input output errors n (broken Read begun said) is = absurd (omega arith)
+session_named options input output errors n (broken Write begun said) is = absurd (omega arith)
+session_named options input output errors n (broken Memory begun said) is = absurd (omega arith)
+session_named options input output errors n (broken Settle begun said) is = absurd (omega arith)
 
 explained_named : (kind : ErrorKind) (input : Option (List ℕ)) (output errors : Held) (n : ℕ) → Explains kind output errors n → n ≡ 2 → Named input output
 explained_named kind input output errors n (helped text asked wrote same) is = absurd (omega arith)
@@ -32,16 +33,16 @@ explained_named kind input output errors n (refused text mistake memory kept sai
 
 -- with status 2, it was
 pub run_named : (words : List Text) (input : Option (List ℕ)) (output errors : Held) (n : ℕ) → Runs words input output errors n → n ≡ 2 → Named input output
-run_named words input output errors n (session options chosen ran) is = session_named options.workers options.budget input output errors n ran is
+run_named words input output errors n (session options chosen ran) is = session_named options input output errors n ran is
 run_named words input output errors n (explained kind fault told) is = explained_named kind input output errors n told is
 
-session_unwritten : (workers budget : ℕ) (input : Option (List ℕ)) (output errors : Held) (n : ℕ) → RunsSession workers budget input output errors n → n ≡ 64 → output.after ≡ output.before
-session_unwritten workers budget input output errors n (ended Ended wrote same) is = absurd (omega arith)
-session_unwritten workers budget input output errors n (ended NetRefused wrote same) is = absurd (omega arith)
-session_unwritten workers budget input output errors n (broken Read begun said) is = absurd (omega arith)
-session_unwritten workers budget input output errors n (broken Write begun said) is = absurd (omega arith)
-session_unwritten workers budget input output errors n (broken Memory begun said) is = absurd (omega arith)
-session_unwritten workers budget input output errors n (broken Settle begun said) is = absurd (omega arith)
+session_unwritten : (options : Options) (input : Option (List ℕ)) (output errors : Held) (n : ℕ) → RunsSession options input output errors n → n ≡ 64 → output.after ≡ output.before
+session_unwritten options input output errors n (ended Ended wrote same) is = absurd (omega arith)
+session_unwritten options input output errors n (ended NetRefused wrote same) is = absurd (omega arith)
+session_unwritten options input output errors n (broken Read begun said) is = absurd (omega arith)
+session_unwritten options input output errors n (broken Write begun said) is = absurd (omega arith)
+session_unwritten options input output errors n (broken Memory begun said) is = absurd (omega arith)
+session_unwritten options input output errors n (broken Settle begun said) is = absurd (omega arith)
 
 explained_unwritten : (kind : ErrorKind) (output errors : Held) (n : ℕ) → Explains kind output errors n → n ≡ 64 → output.after ≡ output.before
 explained_unwritten kind output errors n (helped text asked wrote same) is = absurd (omega arith)
@@ -51,5 +52,5 @@ explained_unwritten kind output errors n (refused text mistake memory kept said)
 
 -- with status 64, nothing was written
 pub run_unwritten : (words : List Text) (input : Option (List ℕ)) (output errors : Held) (n : ℕ) → Runs words input output errors n → n ≡ 64 → output.after ≡ output.before
-run_unwritten words input output errors n (session options chosen ran) is = session_unwritten options.workers options.budget input output errors n ran is
+run_unwritten words input output errors n (session options chosen ran) is = session_unwritten options input output errors n ran is
 run_unwritten words input output errors n (explained kind fault told) is = explained_unwritten kind output errors n told is

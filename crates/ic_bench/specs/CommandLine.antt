@@ -1,8 +1,8 @@
 -- The command line, and what it chooses.
-use Rattle.std.specs.Prelude.{◌≡◌, ◌≤◌, ◌⊎◌, ℕ, List, [], Option, MatchOption, pos, Some, true, codes}
+use Rattle.std.specs.Prelude.{◌≡◌, ◌≤◌, ◌⊎◌, ℕ, Bool, true, false, List, [], Option, MatchOption, pos, None, Some, codes}
 use Rattle.std.specs.Str.Parse.{digits_value, without_leading_plus}
 use Rattle.clap.specs.Words.{App, IsAmong, Rule, Text, new_app, new_rule, with_rule, matches_of, one_of, fault_of}
-use Rattle.clap.specs.declared.builder.action.ArgAction.TheVariants.{Set}
+use Rattle.clap.specs.declared.builder.action.ArgAction.TheVariants.{Set, SetTrue}
 use Rattle.clap.specs.declared.builder.value_parser.ValueParser.TheVariants.{Signed}
 use Rattle.clap.specs.declared.error.kind.ErrorKind.{ErrorKind}
 use Rattle.clap.specs.declared.error.kind.ErrorKind.TheVariants.{OutOfMemory}
@@ -26,13 +26,17 @@ workers_rule = number_rule (codes "workers") 1 MAX_WORKERS
 abbrev pub budget_rule : Rule
 budget_rule = number_rule (codes "budget") 0 MAX_BUDGET
 
+-- `--explain`
+abbrev pub explain_rule : Rule
+explain_rule = record (new_rule (codes "explain")) { long = Some (codes "explain"); action = Some SetTrue }
+
 -- a program that tells its version where it is asked to
 abbrev pub versioned : App → App
 versioned app = record app { top = record app.top { has_version = true } }
 
 -- the program, as its command line is read
 abbrev pub icbench : App
-icbench = with_rule (with_rule (versioned (new_app (codes "icbench"))) workers_rule) budget_rule
+icbench = with_rule (with_rule (with_rule (versioned (new_app (codes "icbench"))) workers_rule) budget_rule) explain_rule
 
 -- the number that an option was given, or what stands where it was not given; it is within the option's limits
 pub record IsChoice (otherwise low high : ℕ) (given : Option Text) (n : ℕ) : Type 0 where
@@ -40,11 +44,18 @@ pub record IsChoice (otherwise low high : ℕ) (given : Option Text) (n : ℕ) :
   pub least : low ≤ n
   pub most : n ≤ high
 
+-- whether a flag was given
+pub record IsFlag (given : Option Text) (on : Bool) : Type 0 where
+  pub absent : given ≡ None → on ≡ false
+  pub set : given ≡ Some (codes "true") → on ≡ true
+  pub unset : given ≡ Some (codes "false") → on ≡ false
+
 -- the words of a command line have no fault, and choose these options
 pub record Choose (words : List Text) (options : Options) : Type 0 where
   pub faultless : fault_of icbench words ≡ []
   pub workers : IsChoice 1 1 MAX_WORKERS (one_of (codes "workers") (matches_of icbench words)) options.workers
   pub budget : IsChoice MAX_BUDGET 0 MAX_BUDGET (one_of (codes "budget") (matches_of icbench words)) options.budget
+  pub explains : IsFlag (one_of (codes "explain") (matches_of icbench words)) options.explains
 
 -- memory was wanting, or it is a fault of these words
 abbrev pub IsFaultOf : List Text → ErrorKind → Type 0

@@ -1,5 +1,5 @@
 -- What a run of the program does.
-use Rattle.std.specs.Prelude.{◌≡◌, ◌≢◌, ℕ, List, Option, IfSome}
+use Rattle.std.specs.Prelude.{◌≡◌, ◌≢◌, ℕ, false, List, Option, IfSome}
 use Rattle.std.specs.Io.KnownBytes.{Appends}
 use Rattle.clap.specs.Words.{Text}
 use Rattle.clap.specs.declared.error.kind.ErrorKind.{ErrorKind}
@@ -7,6 +7,7 @@ use Rattle.clap.specs.declared.error.kind.ErrorKind.TheVariants.{DisplayHelp, Di
 use Rattle.ic_lines.specs.Faults.{AppendsFront}
 use Rattle.ic_session.specs.Sessions.{IsBegun, Writes}
 use Rattle.ic_session.specs.declared.fault.Fault.{Fault}
+use Rattle.ic_session.specs.declared.mode.Mode.{Mode}
 use Rattle.ic_session.specs.declared.fault.Fault.TheVariants.{Write, Memory}
 use Rattle.ic_session.specs.declared.session.Status.{Status}
 use Rattle.ic_bench.specs.CommandLine.{Choose, IsFaultOf}
@@ -18,13 +19,17 @@ pub record Held : Type 0 where
   pub before : Option (List ℕ)
   pub after : Option (List ℕ)
 
--- A session of so many workers over this input ends in a status: it wrote its text, or it broke off in a fault and said so. A writer that
--- fails holds a front of what it was given.
-pub data RunsSession (workers budget : ℕ) (input : Option (List ℕ)) (output errors : Held) : ℕ → Type 0 where
-  ended : (status : Status) → IfSome input (λ bytes. Writes workers budget bytes status output.before output.after) → errors.after ≡ errors.before
-      → RunsSession workers budget input output errors (session_status status)
-  broken : (fault : Fault) → IfSome input (λ bytes. (text : List ℕ) × IsBegun workers budget bytes text × Appends output.before output.after text)
-      → AppendsFront errors.before errors.after (fault_line fault) → RunsSession workers budget input output errors (fault_status fault)
+-- the mode of a session that is run with these options
+abbrev pub mode_of : Options → Mode
+mode_of options = record { workers = options.workers; budget = options.budget; explains = options.explains }
+
+-- A session with these options over this input ends in a status: it wrote its text, or it broke off in a fault and said so. A writer that
+-- fails holds a front of what it was given. One that explains itself says more.
+pub data RunsSession (options : Options) (input : Option (List ℕ)) (output errors : Held) : ℕ → Type 0 where
+  ended : (status : Status) → IfSome input (λ bytes. Writes (mode_of options) bytes status output.before output.after)
+      → (options.explains ≡ false → errors.after ≡ errors.before) → RunsSession options input output errors (session_status status)
+  broken : (fault : Fault) → IfSome input (λ bytes. (text : List ℕ) × IsBegun (mode_of options) bytes text × Appends output.before output.after text)
+      → (options.explains ≡ false → AppendsFront errors.before errors.after (fault_line fault)) → RunsSession options input output errors (fault_status fault)
 
 -- the command line is wrong, and doesn't ask for a text
 abbrev pub IsMistake : ErrorKind → Type 0
@@ -41,5 +46,5 @@ pub data Explains (kind : ErrorKind) (output errors : Held) : ℕ → Type 0 whe
 
 -- A run ends in a status: the words have no fault and choose a session, or they have one that is explained.
 pub data Runs (words : List Text) (input : Option (List ℕ)) (output errors : Held) (status : ℕ) : Type 0 where
-  session : (options : Options) → Choose words options → RunsSession options.workers options.budget input output errors status → Runs words input output errors status
+  session : (options : Options) → Choose words options → RunsSession options input output errors status → Runs words input output errors status
   explained : (kind : ErrorKind) → IsFaultOf words kind → Explains kind output errors status → Runs words input output errors status

@@ -2,7 +2,7 @@
 pub const VERSION: &str = "0.1.0";
 
 /// How the program is called.
-pub const USE: &str = "icbench [--workers 1..64] [--budget 0..1048576] < FILE";
+pub const USE: &str = "icbench [--workers 1..64] [--budget 0..1048576] [--explain] < FILE";
 
 /// What stands in the help above the usage.
 pub const ABOUT: &str =
@@ -30,6 +30,9 @@ Commands:
   absorb K     fire the events that the next K lines list, A B each, in whatever order they can be fired
   journal      list the events that stand
   undo-all     undo all events
+
+With --explain also:
+  agents, history, marks, dependents A B, step, rules, help: help tells what they do; each refusal is explained
 
 Example:
   G(x,a) = D(x,b);

@@ -1,7 +1,7 @@
 ghost use Rattle.std.specs.Prelude.{◌≡◌, IfErr, IfOk, map, false};
 ghost use Rattle.clap.specs.Words.{IsPlain, IsPlainArg, app_of, kind_of, rule_of};
 ghost use Rattle.clap.specs.declared.builder.command.Command.TheViews.{out-Command};
-ghost use Rattle.ic_bench.specs.CommandLine.{Choose, IsFaultOf, budget_rule, icbench, workers_rule};
+ghost use Rattle.ic_bench.specs.CommandLine.{Choose, IsFaultOf, budget_rule, explain_rule, icbench, workers_rule};
 
 use crate::help::{ABOUT, LESSON, USE, VERSION};
 use clap::{Arg, ArgAction, Command, Error, value_parser};
@@ -16,6 +16,8 @@ pub struct Options {
     pub workers: u8,
     /// The events that a `reduce` may fire.
     pub budget: u32,
+    /// Whether the session explains itself.
+    pub explains: bool,
 }
 
 /// Reads the words of a command line, the first of which names the program.
@@ -29,6 +31,7 @@ pub fn read_options<S: AsStr>(alloc: Global, words: &[S]) -> Result<Options, Err
     Ok(Options {
         workers: workers.unwrap_or(1),
         budget: budget.unwrap_or(MAX_BUDGET),
+        explains: matches.get_flag("explain"),
     })
 }
 
@@ -44,7 +47,8 @@ fn command<'a>(alloc: Global) -> Result<Command<'a>, AllocError>
         .override_usage(USE)
         .after_help(LESSON)
         .arg(workers_argument(alloc))?
-        .arg(budget_argument(alloc))
+        .arg(budget_argument(alloc))?
+        .arg(explain_argument(alloc))
 }
 
 /// The option that says how many worker threads there are.
@@ -71,4 +75,17 @@ fn budget_argument<'a>(alloc: Global) -> Arg<'a>
         .value_parser(value_parser!(u32).range(0..=i64::from(MAX_BUDGET)))
         .action(ArgAction::Set)
         .help("the most that a reduce fires [default: 1048576]")
+}
+
+/// The option that says that the session explains itself.
+fn explain_argument<'a>(alloc: Global) -> Arg<'a>
+    ensures rule { rule_of result ≡ explain_rule }
+    ensures plain { IsPlainArg result × (result.global ≡ false) }
+{
+    Arg::new(alloc, "explain")
+        .long("explain")
+        .action(ArgAction::SetTrue)
+        .help(
+            "answers questions, too, and says on standard error what is wrong with what is refused",
+        )
 }

@@ -15,7 +15,7 @@ use crate::statuses::{
 use clap::Error;
 use clap::error::ErrorKind;
 use ic_lines::write_reply;
-use ic_session::{Fault, MAX_WORKERS, run_session};
+use ic_session::{Fault, MAX_WORKERS, run_explained, run_session};
 use std::alloc::Global;
 use std::convert::AsStr;
 use std::io;
@@ -53,16 +53,19 @@ fn run<R: Read, W: Write, E: Write, T: Threads + Wait + Sync>(
     errors: &mut E,
 ) -> u8
     requires { (0 < options.workers) × (options.workers ≤ MAX_WORKERS) }
-    ensures { RunsSession options.workers options.budget (R.remaining reader.old) (record { before = W.contents writer.old; after = W.contents writer.new }) (record { before = E.contents errors.old; after = E.contents errors.new }) result }
+    ensures { RunsSession options (R.remaining reader.old) (record { before = W.contents writer.old; after = W.contents writer.new }) (record { before = E.contents errors.old; after = E.contents errors.new }) result }
 {
-    match run_session(
-        threads,
-        alloc,
-        reader,
-        writer,
-        options.workers,
-        options.budget,
-    ) {
+    let Options {
+        workers,
+        budget,
+        explains,
+    } = options;
+    let ran = if explains {
+        run_explained(threads, alloc, reader, writer, errors, workers, budget)
+    } else {
+        run_session(threads, alloc, reader, writer, workers, budget)
+    };
+    match ran {
         Ok(status) => session_status(status),
         Err(fault) => fail(fault, errors),
     }

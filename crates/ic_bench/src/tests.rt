@@ -101,6 +101,45 @@ fn a_net_that_is_refused(rt: HostRuntime) {
     );
 }
 
+#[test]
+fn a_session_that_explains_itself(rt: HostRuntime) {
+    let input =
+        b"G(x,a) = D(x,b);\n---\nagents\nstep\ndependents 1 0\nhistory\nfire 0 1\nmark m\nmarks\nNET\nundo 0 0\n";
+    let output =
+        b"agents 2\n0 G(_0,a) = _1;\n1 D(_0,b) = _1;\nfired 0 1\ndependents 0 1 events 1\n0 1\nhistory 1\n0 fire 0 1: fired\nrefused 21 not active\nmarked m 1\nmarks 1\nm 1\nrefused 40 command\nrefused 40 command\n";
+    let errors =
+        b"line 7: the two agents aren't both there with their principal ports joined; active lists the pairs that can fire\nline 10: no command begins so; help lists those that there are, in small letters\nline 11: expected behind the first word are the names of two different agents, such as 0 and 0.2\n";
+    let words = ["icbench", "--explain"];
+    assert!(rt; runs(&rt, rt.alloc(), &words, input, 0, output, errors));
+    let question = b"---\nagents\n";
+    assert!(rt;
+        runs(
+            &rt,
+            rt.alloc(),
+            &["icbench"],
+            question,
+            0,
+            b"refused 40 command\n",
+            b""
+        )
+    );
+}
+
+#[test]
+fn a_net_that_is_refused_is_explained(rt: HostRuntime) {
+    let mut reader = b"# One gamma.\nG(a,b) = !;".as_slice();
+    let mut output = Vec::new(rt.alloc());
+    let mut said = Vec::new(rt.alloc());
+    let words = ["icbench", "--explain"];
+    let status = run_program(&rt, rt.alloc(), &words, &mut reader, &mut output, &mut said);
+    assert!(rt; status == 2 && output.as_slice() == b"refused 2 at 22\n".as_slice());
+    assert!(rt;
+        said.as_slice().starts_with(
+            b"line 2 column 10: bad byte: the byte at 22 begins no token; expected a name"
+        )
+    );
+}
+
 /// Whether a command line is refused, with this on standard error.
 fn refuses<T: Threads + Wait + Sync>(
     threads: &T,
@@ -138,7 +177,7 @@ fn command_lines_that_are_refused(rt: HostRuntime) {
         b"error: invalid value '1048577' for '--budget <0..1048576>': 1048577 is not in 0..=1048576\n\nFor more information, try '--help'.\n";
     assert!(rt; refuses(&rt, rt.alloc(), &["icbench", "--budget", "1048577"], much));
     let word =
-        b"error: unexpected argument 'net' found\n\nUsage: icbench [--workers 1..64] [--budget 0..1048576] < FILE\n\nFor more information, try '--help'.\n";
+        b"error: unexpected argument 'net' found\n\nUsage: icbench [--workers 1..64] [--budget 0..1048576] [--explain] < FILE\n\nFor more information, try '--help'.\n";
     assert!(rt; refuses(&rt, rt.alloc(), &["icbench", "net"], word));
 }
 
@@ -166,6 +205,7 @@ fn the_help_names_each_command(rt: HostRuntime) -> Result<(), Fail> {
         "undo-all ",
         "--workers <1..64>",
         "--budget <0..1048576>",
+        "--explain",
     ];
     for name in names {
         assert!(rt; text.contains(name), "no {name}");

@@ -6,3 +6,5 @@ pub mod AgentsNamed
 pub mod Bodies
 pub mod WordsListed
 pub mod WordsAbsorbing
+pub mod RequestWords
+pub mod WordsQuestioned

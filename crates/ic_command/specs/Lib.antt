@@ -4,3 +4,4 @@ pub mod MarkNames
 pub mod Requests
 pub mod Listed
 pub mod Asked
+pub mod Questions

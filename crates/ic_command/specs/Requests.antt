@@ -5,7 +5,7 @@ use Rattle.ic_command.specs.declared.command.Command.{Command}
 use Rattle.ic_command.specs.declared.request.Request.{Request}
 use Rattle.ic_command.specs.declared.request.Request.TheVariants.{Bench, Mark, Back, Absorb}
 use Rattle.ic_command.specs.Commands as commands
-use Rattle.ic_command.specs.Commands.{IsCommand, is_well_formed}
+use Rattle.ic_command.specs.Commands.{AreWordsOf, IsCommand, is_well_formed}
 use Rattle.ic_command.specs.MarkNames.{IsMarkName}
 use Rattle.ic_command.specs.Words.{words}
 
@@ -18,6 +18,11 @@ pub data AsksMark : List (List ℕ) → Request → Type 0 where
 abbrev pub IsMarkRequestIn : List (List ℕ) → Option Request → Type 0
 IsMarkRequestIn ws (Some r) = AsksMark ws r
 IsMarkRequestIn ws None = (r : Request) → ¬ (AsksMark ws r)
+
+-- what words ask for
+pub data AreRequestWords (ws : List (List ℕ)) : Request → Type 0 where
+  for_mark : {r : Request} → AsksMark ws r → AreRequestWords ws r
+  for_bench : {c : Command} → ((r : Request) → ¬ (AsksMark ws r)) → AreWordsOf ws c → AreRequestWords ws (Bench c)
 
 -- the request of a line; a carriage return at its end goes first
 pub data IsRequest (line : List ℕ) : Request → Type 0 where

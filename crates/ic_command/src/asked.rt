@@ -2,8 +2,8 @@ ghost use Rattle.std.specs.Prelude.{IfOk};
 ghost use Rattle.ic_command.specs.Asked.{IsAbsorbIn, IsAsked};
 ghost use Rattle.ic_command.specs.Words.{words};
 
-use crate::command::{is_well_formed, number_in, without_return};
-use crate::request::{Request, request_of};
+use crate::command::{Command, is_well_formed, number_in, without_return};
+use crate::request::{Request, request_in};
 use crate::words::next_word;
 use ic_name::limits::MAX_ABSORBED;
 use std::alloc::{AllocError, Global};
@@ -22,12 +22,13 @@ pub fn asked_of(alloc: Global, line: &[u8]) -> Result<Asked, AllocError>
     ensures { IfOk result (λ asked. IsAsked line.now asked) }
 {
     let body = without_return(line);
-    if is_well_formed(body) {
-        if let Some(count) = absorb_in(alloc, body)? {
-            return Ok(Asked::Absorb(count));
-        }
+    if !is_well_formed(body) {
+        return Ok(Asked::Alone(Request::Bench(Command::Malformed)));
     }
-    Ok(Asked::Alone(request_of(alloc, line)?))
+    match absorb_in(alloc, body)? {
+        Some(count) => Ok(Asked::Absorb(count)),
+        None => Ok(Asked::Alone(request_in(alloc, body)?)),
+    }
 }
 
 /// How many events the words of a line ask to absorb; `None` where they don't.

@@ -102,7 +102,7 @@ fn is_comment(word: &[u8]) -> bool
 }
 
 /// The command that the words of a line ask for.
-fn command_of_words(alloc: Global, body: &[u8]) -> Result<Command, AllocError>
+pub(crate) fn command_of_words(alloc: Global, body: &[u8]) -> Result<Command, AllocError>
     ensures { IfOk result (λ command. AreWordsOf (words body.now) command) }
 {
     let Some((word, behind)) = next_word(body) else {
@@ -161,7 +161,7 @@ fn alone(behind: &[u8], command: Command) -> Command
 }
 
 /// The event that the words of a line name; `None` where they aren't the names of two agents.
-fn event_in(alloc: Global, line: &[u8]) -> Result<Option<EventName>, AllocError>
+pub(crate) fn event_in(alloc: Global, line: &[u8]) -> Result<Option<EventName>, AllocError>
     ensures { IfOk result (λ event. IsEventIn (words line.now) event) }
 {
     let Some((first, rest)) = next_word(line) else {

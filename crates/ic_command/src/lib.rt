@@ -1,16 +1,20 @@
-// What the lines of a session ask for: words, the commands that they make, and the names of marks.
+//! What the lines of a session ask for: words, the commands that they make, the names of marks, and questions.
 #![tactic(auto)]
 
 pub mod asked;
 pub mod command;
+pub mod help;
 pub mod laws;
 pub mod listed;
 pub mod mark_name;
+pub mod question;
 pub mod request;
 pub mod words;
 
 pub use asked::{Asked, asked_of};
 pub use command::{Command, MAX_COMMAND, command_of};
+pub use help::HELP;
 pub use listed::listed_of;
 pub use mark_name::MarkName;
+pub use question::{Question, question_of};
 pub use request::{Request, request_of};

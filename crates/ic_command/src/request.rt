@@ -1,8 +1,8 @@
 ghost use Rattle.std.specs.Prelude.{◌≡◌, IfOk};
-ghost use Rattle.ic_command.specs.Requests.{IsMarkRequestIn, IsRequest, within};
+ghost use Rattle.ic_command.specs.Requests.{AreRequestWords, IsMarkRequestIn, IsRequest, within};
 ghost use Rattle.ic_command.specs.Words.{words};
 
-use crate::command::{Command, command_of, is_well_formed, without_return};
+use crate::command::{Command, command_of_words, is_well_formed, without_return};
 use crate::mark_name::MarkName;
 use crate::words::next_word;
 use ic_name::EventName;
@@ -39,11 +39,20 @@ pub fn request_of(alloc: Global, line: &[u8]) -> Result<Request, AllocError>
 {
     let body = without_return(line);
     if is_well_formed(body) {
-        if let Some(request) = mark_request_in(alloc, body)? {
-            return Ok(request);
-        }
+        request_in(alloc, body)
+    } else {
+        Ok(Request::Bench(Command::Malformed))
     }
-    Ok(Request::Bench(command_of(alloc, line)?))
+}
+
+/// The request that the words of a line make.
+pub(crate) fn request_in(alloc: Global, body: &[u8]) -> Result<Request, AllocError>
+    ensures { IfOk result (λ request. AreRequestWords (words body.now) request) }
+{
+    match mark_request_in(alloc, body)? {
+        Some(request) => Ok(request),
+        None => Ok(Request::Bench(command_of_words(alloc, body)?)),
+    }
 }
 
 /// What the words of a line ask for with a mark; `None` where they don't.

@@ -1,17 +1,16 @@
 -- What absorbing events answers.
-use Rattle.std.proofs.Common.{◌≡◌, ◌+◌, ◌*◌, ◌≤◌, ◌<◌, ℕ, List, [], ◌∷◌, ◌++◌, length, map, reverse, ◌⊎◌, inl, inr, refl, sym, ap, subst, arith, ◌∙◌, append-nil, append_assoc, length-append}
+use Rattle.std.proofs.Common.{◌≡◌, ◌+◌, ◌*◌, ◌≤◌, ◌<◌, ℕ, List, [], ◌∷◌, ◌++◌, length, map, reverse, inl, inr, refl, sym, ap, subst, arith, ◌∙◌, append-nil, append_assoc, length-append}
 use Rattle.std.proofs.lemmas.List.{length-map}
-use Rattle.ic_name.specs.Events.{Event, Pair, pair}
+use Rattle.ic_name.specs.Events.{Event, Pair}
 use Rattle.ic_name.specs.declared.limits.TheConstants.{MAX_LINES}
 use Rattle.ic_name.specs.declared.lines.Line.{Line}
 use Rattle.ic_name.specs.declared.lines.Call.TheVariants.{Fire}
 use Rattle.ic_name.specs.declared.lines.Reply.{Reply}
 use Rattle.ic_name.specs.declared.lines.Reply.TheVariants as reply
 use Rattle.ic_path.specs.Orders.{IsIn, Alike}
-use Rattle.ic_path.proofs.Alikes.{alike_back, alike_then, alike-in, alike_self, alike-length}
+use Rattle.ic_path.proofs.Alikes.{alike_back, alike_then, alike-in}
 use Rattle.ic_theory.specs.Starts.{Start}
-use Rattle.ic_theory.specs.Active.{IsActive}
-use Rattle.ic_theory.specs.Machine.{Standing, State, events, Answers, deep, full}
+use Rattle.ic_theory.specs.Machine.{State, events, Answers, deep, full}
 use Rattle.ic_theory.proofs.Machines.{IsKept, history_kept, history_length}
 use Rattle.ic_theory.proofs.Normal.{active-alike}
 use Rattle.ic_roster.specs.Rosters.{Stander}

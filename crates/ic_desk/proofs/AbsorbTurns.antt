@@ -1,5 +1,7 @@
 -- What a desk answers to absorbing events.
-use Rattle.std.proofs.Common.{◌≡◌, ℕ, List, [], Result, Err, IfErr, refl, sym, ap, subst, ◌∙◌}
+use Rattle.std.proofs.Common.{◌≡◌, ◌≤◌, ℕ, List, [], length, Result, Err, IfErr, IfOk, OnErr, refl, sym, ap, subst, ◌∙◌}
+use Rattle.std.specs.Prelude.{MatchResult}
+use Rattle.std.specs.declared.alloc.AllocError.{AllocError}
 use Rattle.std.specs.Global.{Vec}
 use Rattle.ic_name.specs.Events.{Pair}
 use Rattle.ic_name.specs.declared.lines.Reply.TheVariants as reply
@@ -9,11 +11,16 @@ use Rattle.ic_undo.specs.Absorbing as bench
 use Rattle.ic_undo.specs.declared.faults.AbsorbFault.{AbsorbFault}
 use Rattle.ic_undo.specs.declared.faults.AbsorbFault.TheVariants as fault
 use Rattle.ic_command.specs.declared.request.Request.TheVariants.{Absorb}
+use Rattle.ic_answer.specs.declared.answer.Answer.{Answer}
 use Rattle.ic_answer.specs.declared.refused.Refused.TheVariants.{Deep, Full, HistoryFull, Memory}
-use Rattle.ic_answer.specs.Texts.{refusal_text}
+use Rattle.ic_answer.specs.Longer.{IsLonger}
+use Rattle.ic_answer.specs.Texts.{answer_text, refusal_text}
+use Rattle.ic_answer.specs.Unwinding as undone
+use Rattle.ic_answer.proofs.UntoldTurns.{still_there, told_or_refused}
+use Rattle.ic_desk.specs.Absorbs as runs
 use Rattle.ic_desk.specs.Replies.{Replies, absorbed_text, never_text, absorbed, never_active, absorb_deep, absorb_full, absorb_history_full, absorb_memory}
 use Rattle.ic_desk.specs.Views.{NamedView, Turns}
-use Rattle.ic_desk.proofs.AbsorbReplies.{fits_not, absorbed_at, comes_and_goes, nothing_said, refused_so, never_at, stays_deep, stays_full}
+use Rattle.ic_desk.proofs.AbsorbReplies.{fits, fits_not, absorbed_at, comes_and_goes, nothing_said, refused_so, never_at, stays_deep, stays_full}
 use Rattle.ic_desk.proofs.DeskTurns.{desk_of}
 
 -- what absorbing does, where the fault is known
@@ -83,3 +90,23 @@ module _ (old new : BenchView) (ok : IsBench old) (lawful : IsBench new) (marks 
         (record st { bench = c.next }, absorb_memory c.absorbs (nothing_said old new ok lawful names.items st.bench at.bench came [] _ c refl), record { bench = c.at_next; marks = at.marks })
         );
   }
+
+  -- what is told of it, or a refusal where no line was added
+  pub absorbs_or_refused : (known : List ℕ) (text : Result (Vec ℕ) AllocError) (result : Result Answer AllocError) → bench.Fits old names.items
+      → new.start ≡ old.start → IsLonger old new → Turns (desk_of old marks) (Absorb names) known (desk_of new marks) → IfOk text (λ t. t.items ≡ known)
+      → IfOk text (λ t. IfOk result (λ a. answer_text a ≡ t.items))
+      → OnErr text (IfOk result (λ a. (answer_text a ≡ refusal_text Memory) × (length new.lines ≤ length old.lines)))
+      → MatchResult result (λ a. Turns (desk_of old marks) (Absorb names) (answer_text a) (desk_of new marks)) (λ _. new.start ≡ old.start)
+  absorbs_or_refused known text result room start longer turns is told instead =
+      told_or_refused (λ t. Turns (desk_of old marks) (Absorb names) t (desk_of new marks)) (new.start ≡ old.start) (length new.lines ≤ length old.lines) known text result Memory
+      turns refused start is told instead
+    where
+      refused : length new.lines ≤ length old.lines → Turns (desk_of old marks) (Absorb names) (refusal_text Memory) (desk_of new marks)
+      refused few = record {
+        start = start;
+        replies = λ st at. (
+          st,
+          absorb_memory (record { fits = fits old new ok lawful names.items st.bench at.bench room; fired = runs.none }) (record { gone = []; backwards = refl; undid = undone.none }),
+          record { bench = still_there old new lawful start longer few st.bench at.bench; marks = at.marks },
+        );
+      }

@@ -48,7 +48,7 @@ same_start old new marks request (Ok a) h = h.start
 same_start old new marks request (Err e) h = h
 
 -- marks may be others of the same names and events
-pub same_notes : (old new : BenchView) (marks other : List NamedView) (r : Request) (text : List ℕ) → map note_of other ≡ map note_of marks
+same_notes : (old new : BenchView) (marks other : List NamedView) (r : Request) (text : List ℕ) → map note_of other ≡ map note_of marks
     → Turns (desk_of old marks) r text (desk_of new marks) → Turns (desk_of old marks) r text (desk_of new other)
 same_notes old new marks other r text same t = record {
   start = t.start;
@@ -57,6 +57,13 @@ same_notes old new marks other r text same t = record {
       (a.0, a.1, record { bench = a.2.bench; marks = subst (λ (ns : List Noted). Alike ns a.0.marks) (sym same) a.2.marks })
       );
 }
+
+-- whatever is answered
+pub other_notes : {E : Type 0} (old new : BenchView) (marks other : List NamedView) (r : Request) (result : Result Answer E) → map note_of other ≡ map note_of marks
+    → MatchResult result (λ a. Turns (desk_of old marks) r (answer_text a) (desk_of new marks)) (λ _. new.start ≡ old.start)
+    → MatchResult result (λ a. Turns (desk_of old marks) r (answer_text a) (desk_of new other)) (λ _. new.start ≡ old.start)
+other_notes old new marks other r (Ok a) same h = same_notes old new marks other r (answer_text a) same h
+other_notes old new marks other r (Err e) same h = h
 
 -- what going back does, where the fault is known
 pub fault_known : {X : Type 0} (old : BenchView) (m : MarkView) (new : BenchView) (result : Result X BackFault) (f known : BackFault)

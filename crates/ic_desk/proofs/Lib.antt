@@ -5,7 +5,9 @@ pub mod Marks
 pub mod LongerHistories
 pub mod Stoods
 pub mod DeskTurns
+pub mod UntoldBacks
 pub mod Sweeping
 pub mod AbsorbedRuns
 pub mod AbsorbReplies
 pub mod AbsorbTurns
+pub mod DeskTellings

@@ -1,8 +1,10 @@
--- Going back only adds lines to the history.
-use Rattle.std.proofs.Common.{◌≡◌, List, [], ◌++◌, map, Result, Ok, Err, IfOk, IfErr, sym, ap, append-nil, append_assoc, ◌∙◌}
-use Rattle.ic_name.specs.Events.{Event}
+-- Going back and absorbing only add lines to the history.
+use Rattle.std.proofs.Common.{◌≡◌, List, [], ◌++◌, map, reverse, Result, Ok, Err, IfOk, IfErr, sym, ap, append-nil, append_assoc, ◌∙◌}
+use Rattle.ic_name.specs.Events.{Event, Pair}
+use Rattle.ic_name.specs.declared.lines.Line.{Line}
 use Rattle.ic_roster.specs.Rosters.{Stander}
 use Rattle.ic_journal.specs.Views.{BenchView}
+use Rattle.ic_undo.specs.Absorbing.{TakesBack}
 use Rattle.ic_undo.specs.GoingBack.{Goes, IsBack, IsntBack, firing}
 use Rattle.ic_undo.specs.Marks.{MarkView}
 use Rattle.ic_undo.specs.Undone.{undoing}
@@ -35,3 +37,11 @@ pub back_stays : (old new : BenchView) (m : MarkView) (result : Result Counts Ba
 back_stays old new m (Ok counts) ok err = ok.did.fired.start ∙ ok.did.undone.start
 back_stays old new m (Err back.HistoryFull) ok err = ap (λ (v : BenchView). v.start) err.1
 back_stays old new m (Err (back.Memory counts)) ok err = err.did.fired.start ∙ err.did.undone.start
+
+-- events are fired, and undone again
+pub took_back : {old new : BenchView} {names : List Pair} {came : List Event} {said : List Line} → TakesBack old names came said new → IsLonger old new
+took_back {old} {new} {names} {came} {said} t =
+    let back = map undoing (reverse t.standers) in record {
+      more = map firing came ++ (said ++ back);
+      lines = t.lines ∙ append_assoc (old.lines ++ map firing came) said back ∙ append_assoc old.lines (map firing came) (said ++ back);
+    }

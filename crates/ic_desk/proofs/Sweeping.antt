@@ -1,19 +1,23 @@
 -- What is told of a desk whose reductions are sweeps.
-use Rattle.std.proofs.Common.{◌≡◌, ℕ, ◌<◌, List, refl, sym, subst}
+use Rattle.std.proofs.Common.{◌≡◌, ℕ, ◌<◌, ◌≤◌, List, length, Result, Ok, IfOk, OnErr, Vec, Global}
+use Rattle.std.specs.declared.alloc.AllocError.{AllocError}
 use Rattle.ic_journal.specs.Views.{BenchView}
+use Rattle.ic_journal.specs.Benches.{IsBench}
 use Rattle.ic_reduce.specs.declared.end.End.{End}
-use Rattle.ic_reduce.specs.declared.end.End.TheVariants.{Memory}
-use Rattle.ic_reduce.specs.Reducing.{none}
 use Rattle.ic_work.specs.Sweeps.{Sweeps}
 use Rattle.ic_command.specs.declared.command.Command.TheVariants.{Reduce}
 use Rattle.ic_command.specs.declared.request.Request.{Request}
 use Rattle.ic_command.specs.declared.request.Request.TheVariants.{Bench}
+use Rattle.ic_answer.specs.declared.answer.Answer.{Answer}
+use Rattle.ic_answer.specs.declared.refused.Refused.TheVariants.{MemoryBeforeReduce}
 use Rattle.ic_answer.specs.Ends.{end_text}
-use Rattle.ic_answer.specs.Replies.{reduced_memory}
-use Rattle.ic_desk.specs.ManyWorkers.{RepliesWith, TurnsWith, as_one, swept}
-use Rattle.ic_desk.specs.Replies.{Replies, of_bench}
+use Rattle.ic_answer.specs.Texts.{answer_text, refusal_text}
+use Rattle.ic_answer.proofs.ReducingReplies.{reduce_wants}
+use Rattle.ic_answer.proofs.TurnSteps.{told_same}
+use Rattle.ic_answer.proofs.UntoldTurns.{untold, told_or_refused}
+use Rattle.ic_desk.specs.ManyWorkers.{TurnsWith, as_one, swept}
 use Rattle.ic_desk.specs.Views.{NamedView, DeskView, Turns}
-use Rattle.ic_desk.proofs.DeskTurns.{desk_of}
+use Rattle.ic_desk.proofs.DeskTurns.{desk_of, bench_turns}
 
 -- what one worker answers, any number of workers may
 pub as_with_one : (workers : ℕ) (old new : DeskView) (r : Request) (text : List ℕ) → Turns old r text new → TurnsWith workers old r text new
@@ -23,22 +27,33 @@ as_with_one workers old new r text t = record {
 }
 
 -- a sweep is told of
-pub sweep_turns : (workers : ℕ) (old new : BenchView) (marks : List NamedView) (most n : ℕ) (end : End) (text : List ℕ) → 1 < workers → Sweeps old most n end new
-    → text ≡ end_text n end → TurnsWith workers (desk_of old marks) (Bench (Reduce most)) text (desk_of new marks)
-sweep_turns workers old new marks most n end text many sweeps told = record {
+sweep_turns : (workers : ℕ) (old new : BenchView) (marks : List NamedView) (most n : ℕ) (end : End) → 1 < workers → Sweeps old most n end new
+    → TurnsWith workers (desk_of old marks) (Bench (Reduce most)) (end_text n end) (desk_of new marks)
+sweep_turns workers old new marks most n end many sweeps = record {
   start = sweeps.start;
   replies = λ st at. (
       let a = sweeps.swept st.bench at.bench in
-      let next = record st { bench = a.0 } in
-      (next, subst (λ t. RepliesWith workers old.start st (Bench (Reduce most)) t next) (sym told) (swept many a.1), record { bench = a.2; marks = at.marks })
+      (record st { bench = a.0 }, swept many a.1, record { bench = a.2; marks = at.marks })
       );
 }
 
--- or that there is no memory for one
-pub wanting_turns : (workers : ℕ) (old new : BenchView) (marks : List NamedView) (most : ℕ) (text : List ℕ) → new ≡ old → 0 < most → text ≡ end_text 0 Memory
-    → TurnsWith workers (desk_of old marks) (Bench (Reduce most)) text (desk_of new marks)
-wanting_turns workers old new marks most text same some told =
-    subst (λ v. TurnsWith workers (desk_of old marks) (Bench (Reduce most)) text (desk_of v marks)) (sym same) (as_with_one workers (desk_of old marks) (desk_of old marks) (Bench (Reduce most)) text (record {
-      start = refl;
-      replies = λ st at. (st, subst (λ t. Replies old.start st (Bench (Reduce most)) t st) (sym told) (of_bench (reduced_memory none some)), at);
-    }))
+-- or it is refused, where no line was added
+pub sweep_or_refused : (workers : ℕ) (old new : BenchView) (marks : List NamedView) (most n : ℕ) (end : End) (text : Result (Vec ℕ Global) AllocError) (answer : Answer)
+    → 1 < workers → IsBench new → Sweeps old most n end new → IfOk text (λ t. t.items ≡ end_text n end)
+    → IfOk text (λ t. answer_text answer ≡ t.items) → OnErr text ((answer_text answer ≡ refusal_text MemoryBeforeReduce) × (length new.lines ≤ length old.lines))
+    → TurnsWith workers (desk_of old marks) (Bench (Reduce most)) (answer_text answer) (desk_of new marks)
+sweep_or_refused workers old new marks most n end text answer many lawful sweeps is told instead =
+    told_or_refused (λ t. TurnsWith workers (desk_of old marks) (Bench (Reduce most)) t (desk_of new marks)) (Unit {0}) (length new.lines ≤ length old.lines) (end_text n end) text (Ok answer)
+    MemoryBeforeReduce (sweep_turns workers old new marks most n end many sweeps) refused tt is told instead
+  where
+    refused : length new.lines ≤ length old.lines → TurnsWith workers (desk_of old marks) (Bench (Reduce most)) (refusal_text MemoryBeforeReduce) (desk_of new marks)
+    refused few = as_with_one workers (desk_of old marks) (desk_of new marks) (Bench (Reduce most)) (refusal_text MemoryBeforeReduce)
+        (bench_turns old new marks (Reduce most) (refusal_text MemoryBeforeReduce) (untold old new (Reduce most) (refusal_text MemoryBeforeReduce) lawful sweeps.start
+        (record { more = sweeps.continues.added; lines = sweeps.continues.lines }) (reduce_wants old most) few))
+
+-- or there is no memory for one
+pub wanting_turns : (workers : ℕ) (old new : BenchView) (marks : List NamedView) (most : ℕ) → new ≡ old
+    → TurnsWith workers (desk_of old marks) (Bench (Reduce most)) (refusal_text MemoryBeforeReduce) (desk_of new marks)
+wanting_turns workers old new marks most same =
+    as_with_one workers (desk_of old marks) (desk_of new marks) (Bench (Reduce most)) (refusal_text MemoryBeforeReduce)
+    (bench_turns old new marks (Reduce most) (refusal_text MemoryBeforeReduce) (told_same old new (Reduce most) (refusal_text MemoryBeforeReduce) same (reduce_wants old most)))

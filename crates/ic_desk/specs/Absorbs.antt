@@ -1,5 +1,5 @@
 -- Absorbing listed events, as the machine does it.
-use Rattle.std.specs.Prelude.{◌≡◌, ◌+◌, ◌*◌, ◌<◌, ◌≤◌, ℕ, List, [], ◌∷◌, length, reverse}
+use Rattle.std.specs.Prelude.{◌≡◌, ◌+◌, ◌*◌, ◌<◌, ◌≤◌, List, [], ◌∷◌, length, reverse}
 use Rattle.ic_name.specs.Events.{Event, Pair, pair}
 use Rattle.ic_name.specs.declared.limits.TheConstants.{MAX_LINES}
 use Rattle.ic_name.specs.declared.lines.Call.TheVariants.{Fire}
@@ -9,7 +9,7 @@ use Rattle.ic_path.specs.Orders.{IsIn}
 use Rattle.ic_theory.specs.Starts.{Start}
 use Rattle.ic_theory.specs.Active.{IsActive}
 use Rattle.ic_theory.specs.Machine.{Standing, State, events, Answers}
-use Rattle.ic_undo.specs.Absorbing.{IsLeastListed, IsLeastNever}
+use Rattle.ic_undo.specs.Absorbing.{IsLeastListed}
 use Rattle.ic_answer.specs.Unwinding.{AreUndoneInTurn, events_of}
 
 -- a history that has two lines for each listed event, too, isn't too long

@@ -5,3 +5,4 @@ pub mod Views
 pub mod Places
 pub mod ManyWorkers
 pub mod Absorbs
+pub mod Questions

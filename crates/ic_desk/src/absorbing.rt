@@ -1,18 +1,18 @@
-ghost use Rattle.std.specs.Prelude.{◌≡◌, MatchResult};
-ghost use Rattle.ic_answer.specs.Longer.{IsLonger};
+ghost use Rattle.std.specs.Prelude.{◌≡◌, MatchResult, OnErr};
+ghost use Rattle.ic_answer.specs.Longer.{HasGrown, IsLonger};
 ghost use Rattle.ic_answer.specs.Texts.{answer_text};
 ghost use Rattle.ic_command.specs.declared.request.Request.TheVariants.{Absorb};
 ghost use Rattle.ic_desk.specs.Views.{IsDesk, Turns};
 
 use crate::named_mark::NamedMark;
 use crate::texts::{absorbed_text, never_text};
-use ic_answer::{Answer, Refused};
+use ic_answer::{Answer, Refused, text_or_refused};
 use ic_journal::{Bench, LinkStore};
 use ic_name::EventName;
 use ic_undo::{AbsorbFault, absorb};
 use std::alloc::{AllocError, Global};
 
-/// Absorbs the events of these names. An error where there is no memory for the answer.
+/// Absorbs the events of these names. An error where lines were added and there is no memory for the answer.
 pub(crate) fn absorb_events<L: LinkStore>(
     alloc: Global,
     bench: &mut Bench<L>,
@@ -21,13 +21,17 @@ pub(crate) fn absorb_events<L: LinkStore>(
 ) -> Result<Answer, AllocError>
     ensures turns { MatchResult result (λ answer. Turns (record { bench = bench.old; marks = marks.now }) (Absorb names.now) (answer_text answer) (record { bench = bench.new; marks = marks.now })) (λ _. bench.new.start ≡ bench.old.start) }
     ensures lines { IsLonger bench.old bench.new }
+    ensures grown { OnErr result (HasGrown bench.old bench.new) }
 {
     bench.lawful();
+    let lines = bench.lines();
     let absorbed = absorb(alloc, bench, names);
     bench.lawful();
     match absorbed {
-        Ok(count) => Ok(Answer::Text(absorbed_text(alloc, count)?)),
-        Err(AbsorbFault::NeverActive(name)) => Ok(Answer::Text(never_text(alloc, &name)?)),
+        Ok(count) => text_or_refused(absorbed_text(alloc, count), bench, lines, Refused::Memory),
+        Err(AbsorbFault::NeverActive(name)) => {
+            text_or_refused(never_text(alloc, &name), bench, lines, Refused::Memory)
+        }
         Err(AbsorbFault::Deep) => Ok(Answer::Refused(Refused::Deep)),
         Err(AbsorbFault::Full) => Ok(Answer::Refused(Refused::Full)),
         Err(AbsorbFault::HistoryFull) => Ok(Answer::Refused(Refused::HistoryFull)),

@@ -1,5 +1,5 @@
-ghost use Rattle.std.specs.Prelude.{◌≡◌, ◌<◌, ◌≤◌, IfErr, IfOk, MatchResult};
-ghost use Rattle.ic_answer.specs.Longer.{IsLonger};
+ghost use Rattle.std.specs.Prelude.{◌≡◌, ◌<◌, ◌≤◌, IfErr, IfOk, MatchResult, OnErr};
+ghost use Rattle.ic_answer.specs.Longer.{HasGrown, IsLonger};
 ghost use Rattle.ic_answer.specs.Texts.{answer_text};
 ghost use Rattle.ic_command.specs.declared.command.Command.TheVariants.{Reduce};
 ghost use Rattle.ic_command.specs.declared.request.Request.TheVariants as request;
@@ -12,10 +12,10 @@ use crate::fault::DeskFault;
 use crate::going_back::go_back;
 use crate::marking::mark_under;
 use crate::named_mark::NamedMark;
-use ic_answer::{Answer, carry_out, end_text};
+use ic_answer::{Answer, Refused, carry_out, end_text, text_or_refused};
 use ic_command::{Command, Request};
 use ic_journal::{Bench, LinkStore, Store};
-use ic_reduce::{End, NoGate};
+use ic_reduce::NoGate;
 use ic_start::Start;
 use ic_work::{MAX_BUDGET, MAX_WORKERS, SweepFault, sweep};
 use std::alloc::{AllocError, Global};
@@ -29,8 +29,8 @@ pub const MAX_MARKS: usize = 256;
 /// A bench, and marks of what stood on it, to which it can go back, over a store of links.
 #[derive(Drop)]
 pub struct Desk<L: LinkStore> {
-    bench: Bench<L>,
-    marks: Vec<NamedMark>,
+    pub(crate) bench: Bench<L>,
+    pub(crate) marks: Vec<NamedMark>,
 }
 
 impl<L: LinkStore> Model for Desk<L> {
@@ -57,10 +57,11 @@ impl<L: LinkStore> Desk<L> {
     }
 
     /// Answers a request. Where there is no memory for it, the answer is a refusal, and then neither net, standing set nor
-    /// marks have changed, but for what the answer says. An error where there is no memory for the answer to what has
-    /// changed them.
+    /// marks have changed, but for what the answer says. An error only where the history has grown and there is no memory for
+    /// the answer.
     pub fn carry_out(&mut self, alloc: Global, request: Request) -> Result<Answer, AllocError>
-        ensures { IfOk result (λ answer. Turns self.old request (answer_text answer) self.new) }
+        ensures turns { IfOk result (λ answer. Turns self.old request (answer_text answer) self.new) }
+        ensures grown { OnErr result (HasGrown self.old.bench self.new.bench) }
     {
         match request {
             Request::Bench(command) => carry_out_command(
@@ -80,8 +81,8 @@ impl Desk<Store> {
     /// Answers a request as `carry_out` does, but that a `reduce` by two workers or more, of 64 at most, is a sweep; the
     /// desk comes back with the answer.
     ///
-    /// `DeskFault::Memory` where there is no memory for the answer to what has changed the desk, and `DeskFault::Settle`
-    /// where the workers' receipts aren't what the history says, which takes two workers or more; the desk is gone then.
+    /// `DeskFault::Memory` where the history has grown and there is no memory for the answer, and `DeskFault::Settle` where
+    /// the workers' receipts aren't what the history says, which takes two workers or more; the desk is gone then.
     pub fn carry_out_with<T: Threads + Wait + Sync>(
         mut self,
         threads: &T,
@@ -108,8 +109,8 @@ impl Desk<Store> {
     /// Reduces the net by a sweep of so many workers, 2 to 64 of them, of at most so many events, 1 to 1,048,576; the marks
     /// stay. Where there is no memory for a sweep, the answer says so, and nothing has changed.
     ///
-    /// `DeskFault::Memory` where there is no memory to tell how many events were fired, and `DeskFault::Settle` where
-    /// the workers' receipts aren't what the history says.
+    /// `DeskFault::Memory` where the history has grown and there is no memory to tell how many events were fired, and
+    /// `DeskFault::Settle` where the workers' receipts aren't what the history says.
     pub fn sweep<T: Threads + Wait + Sync>(
         self,
         threads: &T,
@@ -122,15 +123,18 @@ impl Desk<Store> {
         ensures { IfOk result (λ r. TurnsWith workers self (request.Bench (Reduce most)) (answer_text r.1) r.0) }
     {
         let Desk { bench, marks } = self;
+        let lines = bench.lines();
         match sweep(threads, alloc, bench, workers, most, &NoGate) {
             Ok(swept) => {
-                let text = end_text(alloc, swept.fired, swept.end)?;
+                let text = end_text(alloc, swept.fired, swept.end);
                 let bench = swept.bench;
-                Ok((Desk { bench, marks }, Answer::Text(text)))
+                bench.lawful();
+                let answer = text_or_refused(text, &bench, lines, Refused::MemoryBeforeReduce)?;
+                Ok((Desk { bench, marks }, answer))
             }
             Err(SweepFault::Memory(bench)) => {
-                let text = end_text(alloc, 0, End::Memory)?;
-                Ok((Desk { bench, marks }, Answer::Text(text)))
+                let answer = Answer::Refused(Refused::MemoryBeforeReduce);
+                Ok((Desk { bench, marks }, answer))
             }
             Err(SweepFault::Settle(_)) => Err(DeskFault::Settle),
         }
@@ -146,6 +150,7 @@ fn carry_out_command<L: LinkStore>(
 ) -> Result<Answer, AllocError>
     ensures turns { MatchResult result (λ answer. Turns (record { bench = bench.old; marks = marks.now }) (request.Bench command) (answer_text answer) (record { bench = bench.new; marks = marks.now })) (λ _. bench.new.start ≡ bench.old.start) }
     ensures lines { IsLonger bench.old bench.new }
+    ensures grown { OnErr result (HasGrown bench.old bench.new) }
 {
     carry_out(alloc, bench, command)
 }

@@ -1,4 +1,4 @@
-// A bench with marks of what stood on it, and what it answers to each request.
+//! A bench with marks of what stood on it, and what it answers to each request and question.
 #![tactic(auto)]
 
 mod absorbing;
@@ -7,6 +7,7 @@ pub mod fault;
 mod going_back;
 mod marking;
 mod named_mark;
+pub mod telling;
 mod texts;
 
 pub use desk::{Desk, MAX_MARKS};

@@ -97,6 +97,7 @@ module _ (s : Start) where
   by_one {most = most} n (told.reduced_budget f a) e = absurd (never_budget most n e)
   by_one n (told.reduced_limit {n = m} f l a) e = absurd (never_limit m n e)
   by_one n (told.reduced_memory {n = m} f l) e = absurd (never_wanting m n e)
+  by_one n told.reduce_memory e = absurd (never_wanting 0 n e)
   by_one n (told.memory w) e = absurd w
 
   -- a sweep

@@ -38,4 +38,5 @@ reached_on s st next c x r (told.reduced_normal f l n) = reached_fired s r f
 reached_on s st next c x r (told.reduced_budget f a) = reached_fired s r f
 reached_on s st next c x r (told.reduced_limit f l m) = reached_limit s (reached_fired s r f) m
 reached_on s st next c x r (told.reduced_memory f l) = reached_fired s r f
+reached_on s st next c x r told.reduce_memory = r
 reached_on s st next c x r (told.memory m) = r

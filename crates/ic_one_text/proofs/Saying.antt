@@ -118,4 +118,5 @@ says (told.reduced_normal f l n) w = normal f l n refl
 says (told.reduced_budget f a) w = budget f a refl
 says (told.reduced_limit f l m) w = limit f l m refl
 says (told.reduced_memory {n = n} f l) w = absurd (w (run_wants n))
+says told.reduce_memory w = absurd (w (run_wants 0))
 says (told.memory m) w = absurd (w refusal_wants)

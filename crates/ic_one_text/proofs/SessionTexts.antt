@@ -9,6 +9,9 @@ use Rattle.ic_desk.specs.Desks.{State, initial}
 use Rattle.ic_desk.specs.ManyWorkers.{RepliesWith, as_one, swept}
 use Rattle.ic_desk.specs.Replies.{Replies}
 use Rattle.ic_session.specs.InputLines.{TextLine, lines, net_part, command_lines}
+use Rattle.ic_session.specs.Modes.{TakesDemand, Gives, asks, requests, replied, told, plain}
+use Rattle.ic_session.specs.declared.demand.Demand.{Demand}
+use Rattle.ic_session.specs.declared.demand.Demand.TheVariants.{Requests}
 use Rattle.ic_session.specs.Refusals.{refusal_line}
 use Rattle.ic_session.specs.Sessions.{AreAnswers, AreAnswered, none, more, AnswersCommands, NamesFault, IsSessionText}
 use Rattle.ic_session.specs.declared.session.Status.{Status}
@@ -33,6 +36,16 @@ nothing_taken same (listed h a) = cc
 nothing_taken same (unlisted h a) = cc
 nothing_taken same (wanting h few) = cc
 
+-- a session that only answers takes requests alone
+plain_taken : {budget : ℕ} {ls left : List TextLine} {d : Demand} → TakesDemand (plain 1 budget) ls d left → (r : Request) × (d ≡ Requests r) × Takes ls r left
+plain_taken (asks on a) = absurd cc
+plain_taken (requests {r = r} unasked t) = (r, refl, t)
+
+-- and gives the answers of one worker
+plain_reply : {s : Start} {budget : ℕ} {st next : State} {d : Demand} {r : Request} {text : List ℕ} → d ≡ Requests r → Gives (plain 1 budget) s st d text next → Replies s st (within budget r) text next
+plain_reply {s} {budget} {st} {next} {r = r} {text} same (replied {r = q} a) = let e : q ≡ r = cc in subst (λ z. Replies s st (within budget z) text next) e (by_one a)
+plain_reply same (told t) = absurd cc
+
 -- requests that ask for the same have one answer
 one_asking : {s : Start} (ok : IsProper s) (budget : ℕ) {st tt next after : State} {q r : Request} {x y : List ℕ} → IsInUse s st → IsInUse s tt → AreSameDesks st tt → AskTheSame q r
     → Replies s st (within budget q) x next → Replies s tt (within budget r) y after → ¬ (Wants x) → ¬ (Wants y) → AreOneAnswer x y next after
@@ -42,25 +55,27 @@ one_asking ok budget used other same (lists {xs = xs} {ys = ys} e) a b n m = one
 -- the answers to the same lines over the same desks are equal
 one_answers : {s : Start} → IsProper s → (budget : ℕ) {st tt last end : State} {ls ks left others : List TextLine} {a b : List ℕ} → ls ≡ ks → left ≡ [] → others ≡ []
     → IsInUse s st → IsInUse s tt → AreSameDesks st tt
-    → AreAnswered s 1 budget st ls a last left → AreAnswered s 1 budget tt ks b end others → ¬ (Wants a) → ¬ (Wants b) → a ≡ b
+    → AreAnswered s (plain 1 budget) st ls a last left → AreAnswered s (plain 1 budget) tt ks b end others → ¬ (Wants a) → ¬ (Wants b) → a ≡ b
 one_answers ok budget lines all whole used other same none none n m = refl
-one_answers ok budget lines all whole used other same none (more asked b bs) n m = absurd (nothing_taken (sym lines ∙ all) asked)
-one_answers ok budget lines all whole used other same (more asks a as') none n m = absurd (nothing_taken (lines ∙ whole) asks)
-one_answers ok budget lines all whole used other same (more {reply = x} {behind = xs} asks a as') (more {reply = y} {behind = ys} asked b bs) n m =
-    let took = takes_once lines asks asked in
-    let a' = by_one a in
-    let b' = by_one b in
+one_answers ok budget lines all whole used other same none (more asked b bs) n m = absurd (nothing_taken (sym lines ∙ all) (plain_taken asked).2)
+one_answers ok budget lines all whole used other same (more asked a as') none n m = absurd (nothing_taken (lines ∙ whole) (plain_taken asked).2)
+one_answers ok budget lines all whole used other same (more {reply = x} {behind = xs} first a as') (more {reply = y} {behind = ys} second b bs) n m =
+    let q = plain_taken first in
+    let r = plain_taken second in
+    let took = takes_once lines q.2 r.2 in
+    let a' = plain_reply q.1 a in
+    let b' = plain_reply r.1 b in
     let one = one_asking ok budget used other same took.0 a' b' (λ w. n (front_wants xs w)) (λ w. m (front_wants ys w)) in
     let others = one_answers ok budget took.1 all whole (in_use_on ok used a') (in_use_on ok other b') one.left as' bs (λ w. n (behind_wants x w)) (λ w. m (behind_wants y w)) in
     ap₂ (λ us vs. us ++ vs) one.texts others
 
 -- a session that answers commands
-one_ended : (budget : ℕ) (input a b : List ℕ) → AnswersCommands 1 budget input a → AnswersCommands 1 budget input b
+one_ended : (budget : ℕ) (input a b : List ℕ) → AnswersCommands (plain 1 budget) input a → AnswersCommands (plain 1 budget) input b
     → ¬ (Wants a) → ¬ (Wants b) → a ≡ b
 one_ended budget input a b h k n m =
     let ok = proper (net_part (lines input)) h.start h.denoted in
     let one = one_start (net_part (lines input)) k.start h.start k.denoted h.denoted in
-    let answers = subst (λ (s : Start). AreAnswers s 1 budget initial (command_lines (lines input)) b) one k.answers in
+    let answers = subst (λ (s : Start). AreAnswers s (plain 1 budget) initial (command_lines (lines input)) b) one k.answers in
     let used = first_in_use h.start in
     one_answers ok budget refl refl refl used used first_same h.answers.1 answers.1 n m
 
@@ -72,7 +87,7 @@ one_named input a b h k =
 
 -- it ends in one way, with one text
 pub one_text : (budget : ℕ) (input a b : List ℕ) (i j : Status)
-    → IsSessionText 1 budget input i a → IsSessionText 1 budget input j b → ¬ (Wants a) → ¬ (Wants b) → (i ≡ j) × (a ≡ b)
+    → IsSessionText (plain 1 budget) input i a → IsSessionText (plain 1 budget) input j b → ¬ (Wants a) → ¬ (Wants b) → (i ≡ j) × (a ≡ b)
 one_text budget input a b Ended Ended h k n m = (refl, one_ended budget input a b h k n m)
 one_text budget input a b NetRefused NetRefused h k n m = (refl, one_named input a b h k)
 one_text budget input a b Ended NetRefused h k n m = absurd (h.faultless k.fault k.first.stands)

@@ -1,3 +1,4 @@
+pub mod AgentsText
 pub mod Lines
 pub mod NetText
 pub mod Numbers

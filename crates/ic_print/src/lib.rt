@@ -1,6 +1,7 @@
-// The printed text of a net.
+//! The printed text of a net.
 #![tactic(auto)]
 
+pub mod agents;
 mod free;
 mod numbered;
 mod numbers;
@@ -8,4 +9,5 @@ mod ports;
 pub mod print;
 mod put;
 
+pub use agents::print_agents;
 pub use print::print_net;

@@ -95,7 +95,8 @@ fn put_arguments<'a>(
     }
 }
 
-fn put_line<'a>(
+/// Writes the line of an agent.
+pub(crate) fn put_line<'a>(
     out: &mut Vec<u8>,
     sheet: &NumberedAgents<'a>,
     names: &[Vec<u8>],

@@ -11,95 +11,94 @@ use Rattle.ic_theory.specs.Machine as machine
 use Rattle.ic_theory.specs.Machine.{IsHistory, begins}
 use Rattle.ic_journal.specs.Views.{BenchView}
 use Rattle.ic_journal.specs.Benches.{IsAt, Opens, fired_in}
-use Rattle.ic_command.specs.declared.request.Request.{Request}
 use Rattle.ic_session.specs.InputLines.{lines}
-use Rattle.ic_command.specs.Requests.{within}
 use Rattle.ic_desk.specs.Desks.{State, initial}
-use Rattle.ic_desk.specs.ManyWorkers.{RepliesWith, TurnsWith}
 use Rattle.ic_desk.specs.Views.{DeskView, IsDeskAt, IsOver, note_of}
-use Rattle.ic_session.specs.NextRequest.{TakesRequest}
+use Rattle.ic_session.specs.Modes.{TakesNext, Gives, TurnsIn}
+use Rattle.ic_session.specs.declared.demand.Demand.{Demand}
+use Rattle.ic_session.specs.declared.mode.Mode.{Mode}
 use Rattle.ic_session.specs.Sessions.{AreAnswered, none, AreAnswers, AreBegun, IsAnswered, IsBrokenOff, silent, partly}
 use Rattle.ic_session.proofs.AnswerSteps.{answered_step, answers_begun}
 
 -- what was answered so far leaves the desk in some state, and the lines of what is left unanswered; where the input is
 -- known
-abbrev pub HasAnswered : Start → ℕ → ℕ → State → DeskView → Option (List ℕ) → Option (List ℕ) → Option (List ℕ) → Option (List ℕ) → Type 0
-HasAnswered s workers budget st v None now before after = Unit {0}
-HasAnswered s workers budget st v (Some xs) None before after = ⊥
-HasAnswered s workers budget st v (Some xs) (Some ys) before after =
-    (cur : State) × IsDeskAt v cur × (text : List ℕ) × Appends before after text × AreAnswered s workers budget st (lines xs) text cur (lines ys)
+abbrev pub HasAnswered : Start → Mode → State → DeskView → Option (List ℕ) → Option (List ℕ) → Option (List ℕ) → Option (List ℕ) → Type 0
+HasAnswered s m st v None now before after = Unit {0}
+HasAnswered s m st v (Some xs) None before after = ⊥
+HasAnswered s m st v (Some xs) (Some ys) before after =
+    (cur : State) × IsDeskAt v cur × (text : List ℕ) × Appends before after text × AreAnswered s m st (lines xs) text cur (lines ys)
 
 -- nothing was answered
-pub answered_none : (s : Start) (workers budget : ℕ) (st : State) (v : DeskView) (old before : Option (List ℕ)) → IsDeskAt v st
-    → HasAnswered s workers budget st v old old before before
-answered_none s workers budget st v None before a = tt
-answered_none s workers budget st v (Some xs) before a = (st, a, [], Appends-nil before, none)
+pub answered_none : (s : Start) (m : Mode) (st : State) (v : DeskView) (old before : Option (List ℕ)) → IsDeskAt v st
+    → HasAnswered s m st v old old before before
+answered_none s m st v None before a = tt
+answered_none s m st v (Some xs) before a = (st, a, [], Appends-nil before, none)
 
 -- one command more was answered
-pub answered_more : (s : Start) (workers budget : ℕ) (st : State) (v w : DeskView) (old now next before then after : Option (List ℕ)) (o : Option Request) (c : Request)
-    → v.bench.start ≡ s → HasAnswered s workers budget st v old now before then → o ≡ Some c → IfSome now (λ ys. TakesRequest o ys next) → IsAnswered workers v (within budget c) w then after → HasAnswered s workers budget st w old next before after
-answered_more s workers budget st v w None now next before then after o c i h e t r = tt
-answered_more s workers budget st v w (Some xs) None next before then after o c i h e t r = absurd h
-answered_more s workers budget st v w (Some xs) (Some ys) None before then after o c i h e t r = absurd (subst (λ p. TakesRequest p ys None) e t)
-answered_more s workers budget st v w (Some xs) (Some ys) (Some zs) before then after o c i h e t r =
-    let taken : TakesRequest (Some c) ys (Some zs) = subst (λ p. TakesRequest p ys (Some zs)) e t in
-    let turn = r.turn.replies h.0 h.1 in
-    let reply = subst (λ z. RepliesWith workers z h.0 (within budget c) r.reply turn.0) i turn.1 in
+pub answered_more : (s : Start) (m : Mode) (st : State) (v w : DeskView) (old now next before then after : Option (List ℕ)) (o : Option Demand) (c : Demand)
+    → v.bench.start ≡ s → HasAnswered s m st v old now before then → o ≡ Some c → IfSome now (λ ys. TakesNext m o ys next) → IsAnswered m v c w then after → HasAnswered s m st w old next before after
+answered_more s m st v w None now next before then after o c i h e t r = tt
+answered_more s m st v w (Some xs) None next before then after o c i h e t r = absurd h
+answered_more s m st v w (Some xs) (Some ys) None before then after o c i h e t r = absurd (subst (λ p. TakesNext m p ys None) e t)
+answered_more s m st v w (Some xs) (Some ys) (Some zs) before then after o c i h e t r =
+    let taken : TakesNext m (Some c) ys (Some zs) = subst (λ p. TakesNext m p ys (Some zs)) e t in
+    let turn = r.turn.gives h.0 h.1 in
+    let reply = subst (λ z. Gives m z h.0 c r.reply turn.0) i turn.1 in
     (turn.0, turn.2, h.2 ++ r.reply, Appends-trans before then after h.2 r.reply h.3 r.written, answered_step h.4 taken reply)
 
 -- all were answered
-pub answered_all : (s : Start) (workers budget : ℕ) (st : State) (v : DeskView) (old now next before after : Option (List ℕ)) (o : Option Request)
-    → HasAnswered s workers budget st v old now before after → o ≡ None → IfSome now (λ ys. TakesRequest o ys next) → IfSome old (λ xs. (text : List ℕ) × AreAnswers s workers budget st (lines xs) text × Appends before after text)
-answered_all s workers budget st v None now next before after o h e t = tt
-answered_all s workers budget st v (Some xs) None next before after o h e t = absurd h
-answered_all s workers budget st v (Some xs) (Some ys) next before after o h e t =
-    let ended : ys ≡ [] = subst (λ p. TakesRequest p ys next) e t in
-    (h.2, (h.0, subst (λ zs. AreAnswered s workers budget st (lines xs) h.2 h.0 (lines zs)) ended h.4), h.3)
+pub answered_all : (s : Start) (m : Mode) (st : State) (v : DeskView) (old now next before after : Option (List ℕ)) (o : Option Demand)
+    → HasAnswered s m st v old now before after → o ≡ None → IfSome now (λ ys. TakesNext m o ys next) → IfSome old (λ xs. (text : List ℕ) × AreAnswers s m st (lines xs) text × Appends before after text)
+answered_all s m st v None now next before after o h e t = tt
+answered_all s m st v (Some xs) None next before after o h e t = absurd h
+answered_all s m st v (Some xs) (Some ys) next before after o h e t =
+    let ended : ys ≡ [] = subst (λ p. TakesNext m p ys next) e t in
+    (h.2, (h.0, subst (λ zs. AreAnswered s m st (lines xs) h.2 h.0 (lines zs)) ended h.4), h.3)
 
 -- the lines that are left could not be read: no more was written
-pub answered_begun : (s : Start) (workers budget : ℕ) (st : State) (v : DeskView) (old now before after : Option (List ℕ))
-    → HasAnswered s workers budget st v old now before after
-    → IfSome old (λ xs. (text : List ℕ) × AreBegun s workers budget st (lines xs) text × Appends before after text)
-answered_begun s workers budget st v None now before after h = tt
-answered_begun s workers budget st v (Some xs) None before after h = absurd h
-answered_begun s workers budget st v (Some xs) (Some ys) before after h = (h.2, answers_begun s workers budget st h.0 (lines xs) (lines ys) h.2 h.2 [] h.4 (sym (append-nil h.2)), h.3)
+pub answered_begun : (s : Start) (m : Mode) (st : State) (v : DeskView) (old now before after : Option (List ℕ))
+    → HasAnswered s m st v old now before after
+    → IfSome old (λ xs. (text : List ℕ) × AreBegun s m st (lines xs) text × Appends before after text)
+answered_begun s m st v None now before after h = tt
+answered_begun s m st v (Some xs) None before after h = absurd h
+answered_begun s m st v (Some xs) (Some ys) before after h = (h.2, answers_begun s m st h.0 (lines xs) (lines ys) h.2 h.2 [] h.4 (sym (append-nil h.2)), h.3)
 
 -- of the answer to one command more, a front was written
-answered_front : (s : Start) (workers budget : ℕ) (st : State) (v w : DeskView) (old now next before then after : Option (List ℕ)) (o : Option Request) (c : Request) (text : List ℕ)
-    → v.bench.start ≡ s → HasAnswered s workers budget st v old now before then → o ≡ Some c → IfSome now (λ ys. TakesRequest o ys next) → TurnsWith workers v (within budget c) text w → AppendsFront then after text
-    → IfSome old (λ xs. (text : List ℕ) × AreBegun s workers budget st (lines xs) text × Appends before after text)
-answered_front s workers budget st v w None now next before then after o c text i h e t r a = tt
-answered_front s workers budget st v w (Some xs) None next before then after o c text i h e t r a = absurd h
-answered_front s workers budget st v w (Some xs) (Some ys) None before then after o c text i h e t r a = absurd (subst (λ p. TakesRequest p ys None) e t)
-answered_front s workers budget st v w (Some xs) (Some ys) (Some zs) before then after o c text i h e t r a =
-    let taken : TakesRequest (Some c) ys (Some zs) = subst (λ p. TakesRequest p ys (Some zs)) e t in
-    let turn = r.replies h.0 h.1 in
-    let reply = subst (λ z. RepliesWith workers z h.0 (within budget c) text turn.0) i turn.1 in
+answered_front : (s : Start) (m : Mode) (st : State) (v w : DeskView) (old now next before then after : Option (List ℕ)) (o : Option Demand) (c : Demand) (text : List ℕ)
+    → v.bench.start ≡ s → HasAnswered s m st v old now before then → o ≡ Some c → IfSome now (λ ys. TakesNext m o ys next) → TurnsIn m v c text w → AppendsFront then after text
+    → IfSome old (λ xs. (text : List ℕ) × AreBegun s m st (lines xs) text × Appends before after text)
+answered_front s m st v w None now next before then after o c text i h e t r a = tt
+answered_front s m st v w (Some xs) None next before then after o c text i h e t r a = absurd h
+answered_front s m st v w (Some xs) (Some ys) None before then after o c text i h e t r a = absurd (subst (λ p. TakesNext m p ys None) e t)
+answered_front s m st v w (Some xs) (Some ys) (Some zs) before then after o c text i h e t r a =
+    let taken : TakesNext m (Some c) ys (Some zs) = subst (λ p. TakesNext m p ys (Some zs)) e t in
+    let turn = r.gives h.0 h.1 in
+    let reply = subst (λ z. Gives m z h.0 c text turn.0) i turn.1 in
     let parts = ap (λ ws. h.2 ++ ws) a.parts ∙ sym (append_assoc h.2 a.front a.behind) in
-    (h.2 ++ a.front, answers_begun s workers budget st turn.0 (lines xs) (lines zs) (h.2 ++ text) (h.2 ++ a.front) a.behind (answered_step h.4 taken reply) parts, Appends-trans before then after h.2 a.front h.3 a.appended)
+    (h.2 ++ a.front, answers_begun s m st turn.0 (lines xs) (lines zs) (h.2 ++ text) (h.2 ++ a.front) a.behind (answered_step h.4 taken reply) parts, Appends-trans before then after h.2 a.front h.3 a.appended)
 
 -- the answer to one command more broke off
-pub answered_broken : (s : Start) (workers budget : ℕ) (st : State) (v : DeskView) (old now next before then after : Option (List ℕ)) (o : Option Request) (c : Request)
-    → v.bench.start ≡ s → HasAnswered s workers budget st v old now before then → o ≡ Some c → IfSome now (λ ys. TakesRequest o ys next) → IsBrokenOff workers v (within budget c) then after
-    → IfSome old (λ xs. (text : List ℕ) × AreBegun s workers budget st (lines xs) text × Appends before after text)
-answered_broken s workers budget st v old now next before then after o c i h e t (silent same) =
-    rw same (answered_begun s workers budget st v old now before then h)
-answered_broken s workers budget st v old now next before then after o c i h e t (partly {new = w} {reply = text} r a) =
-    answered_front s workers budget st v w old now next before then after o c text i h e t r a
+pub answered_broken : (s : Start) (m : Mode) (st : State) (v : DeskView) (old now next before then after : Option (List ℕ)) (o : Option Demand) (c : Demand)
+    → v.bench.start ≡ s → HasAnswered s m st v old now before then → o ≡ Some c → IfSome now (λ ys. TakesNext m o ys next) → IsBrokenOff m v c then after
+    → IfSome old (λ xs. (text : List ℕ) × AreBegun s m st (lines xs) text × Appends before after text)
+answered_broken s m st v old now next before then after o c i h e t (silent same) =
+    rw same (answered_begun s m st v old now before then h)
+answered_broken s m st v old now next before then after o c i h e t (partly {new = w} {reply = text} r a) =
+    answered_front s m st v w old now next before then after o c text i h e t r a
 
 -- whatever state the desk was in
-pub all_begun : (workers budget : ℕ) (old : Option (List ℕ)) (v : DeskView) (before after : Option (List ℕ))
-    → ((st : State) → IsDeskAt v st → IfSome old (λ xs. (text : List ℕ) × AreBegun v.bench.start workers budget st (lines xs) text × Appends before after text))
-    → IfSome old (λ xs. (st : State) → IsDeskAt v st → (text : List ℕ) × AreBegun v.bench.start workers budget st (lines xs) text × Appends before after text)
-all_begun workers budget None v before after h = tt
-all_begun workers budget (Some xs) v before after h = h
+pub all_begun : (m : Mode) (old : Option (List ℕ)) (v : DeskView) (before after : Option (List ℕ))
+    → ((st : State) → IsDeskAt v st → IfSome old (λ xs. (text : List ℕ) × AreBegun v.bench.start m st (lines xs) text × Appends before after text))
+    → IfSome old (λ xs. (st : State) → IsDeskAt v st → (text : List ℕ) × AreBegun v.bench.start m st (lines xs) text × Appends before after text)
+all_begun m None v before after h = tt
+all_begun m (Some xs) v before after h = h
 
 -- whatever state the desk was in
-pub all_answered : (workers budget : ℕ) (old : Option (List ℕ)) (v : DeskView) (before after : Option (List ℕ))
-    → ((st : State) → IsDeskAt v st → IfSome old (λ xs. (text : List ℕ) × AreAnswers v.bench.start workers budget st (lines xs) text × Appends before after text))
-    → IfSome old (λ xs. (st : State) → IsDeskAt v st → (text : List ℕ) × AreAnswers v.bench.start workers budget st (lines xs) text × Appends before after text)
-all_answered workers budget None v before after h = tt
-all_answered workers budget (Some xs) v before after h = h
+pub all_answered : (m : Mode) (old : Option (List ℕ)) (v : DeskView) (before after : Option (List ℕ))
+    → ((st : State) → IsDeskAt v st → IfSome old (λ xs. (text : List ℕ) × AreAnswers v.bench.start m st (lines xs) text × Appends before after text))
+    → IfSome old (λ xs. (st : State) → IsDeskAt v st → (text : List ℕ) × AreAnswers v.bench.start m st (lines xs) text × Appends before after text)
+all_answered m None v before after h = tt
+all_answered m (Some xs) v before after h = h
 
 -- a bench on which no call has been made
 opened_at : (s : Start) (v : BenchView) → Opens s v → IsAt v machine.initial
@@ -113,19 +112,19 @@ over_at : (s : Start) (v : DeskView) → IsOver s v → IsDeskAt v initial
 over_at s v o = record { bench = opened_at s v.bench o.bench; marks = subst (λ l. Alike (map note_of l) []) (sym o.marks) Orders.none }
 
 -- the answers of a desk of which nothing was asked
-pub opened_answers : (now : Option (List ℕ)) (s : Start) (workers budget : ℕ) (v : DeskView) (before after : Option (List ℕ))
+pub opened_answers : (now : Option (List ℕ)) (s : Start) (m : Mode) (v : DeskView) (before after : Option (List ℕ))
     → IsOver s v
-    → IfSome now (λ ys. (st : State) → IsDeskAt v st → (text : List ℕ) × AreAnswers v.bench.start workers budget st (lines ys) text × Appends before after text)
-    → IfSome now (λ ys. (text : List ℕ) × AreAnswers s workers budget initial (lines ys) text × Appends before after text)
-opened_answers None s workers budget v before after o h = tt
-opened_answers (Some ys) s workers budget v before after o h =
+    → IfSome now (λ ys. (st : State) → IsDeskAt v st → (text : List ℕ) × AreAnswers v.bench.start m st (lines ys) text × Appends before after text)
+    → IfSome now (λ ys. (text : List ℕ) × AreAnswers s m initial (lines ys) text × Appends before after text)
+opened_answers None s m v before after o h = tt
+opened_answers (Some ys) s m v before after o h =
     let a = h initial (over_at s v o) in
-    (a.0, subst (λ z. AreAnswers z workers budget initial (lines ys) a.0) o.bench.start a.1, a.2)
+    (a.0, subst (λ z. AreAnswers z m initial (lines ys) a.0) o.bench.start a.1, a.2)
 
 -- what a desk began of which nothing was asked
-pub opened_begun : (now : Option (List ℕ)) (s : Start) (workers budget : ℕ) (v : DeskView) (before after : Option (List ℕ))
+pub opened_begun : (now : Option (List ℕ)) (s : Start) (m : Mode) (v : DeskView) (before after : Option (List ℕ))
     → IsOver s v
-    → IfSome now (λ ys. (st : State) → IsDeskAt v st → (text : List ℕ) × AreBegun v.bench.start workers budget st (lines ys) text × Appends before after text)
-    → IfSome now (λ ys. (text : List ℕ) × AreBegun s workers budget initial (lines ys) text × Appends before after text)
-opened_begun None s workers budget v before after o h = tt
-opened_begun (Some ys) s workers budget v before after o h = let a = h initial (over_at s v o) in (a.0, subst (λ z. AreBegun z workers budget initial (lines ys) a.0) o.bench.start a.1, a.2)
+    → IfSome now (λ ys. (st : State) → IsDeskAt v st → (text : List ℕ) × AreBegun v.bench.start m st (lines ys) text × Appends before after text)
+    → IfSome now (λ ys. (text : List ℕ) × AreBegun s m initial (lines ys) text × Appends before after text)
+opened_begun None s m v before after o h = tt
+opened_begun (Some ys) s m v before after o h = let a = h initial (over_at s v o) in (a.0, subst (λ z. AreBegun z m initial (lines ys) a.0) o.bench.start a.1, a.2)

@@ -7,3 +7,5 @@ pub mod RequestsTaken
 pub mod AnswerSteps
 pub mod AnswerFacts
 pub mod SessionFacts
+pub mod DemandsTaken
+pub mod Meetings

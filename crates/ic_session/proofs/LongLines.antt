@@ -7,10 +7,12 @@ use Rattle.ic_command.proofs.Bodies.{apart}
 use Rattle.ic_command.specs.Asked.{IsAsked, of_request}
 use Rattle.ic_command.specs.Commands.{is_well_formed, unsaid}
 use Rattle.ic_command.specs.Listed.{IsListed}
+use Rattle.ic_command.specs.Questions.{IsQuestion}
 use Rattle.ic_command.specs.Requests.{of_bench}
 use Rattle.ic_command.specs.declared.asked.Asked.TheVariants.{Alone}
 use Rattle.ic_command.specs.declared.command.Command.TheVariants.{Malformed}
 use Rattle.ic_command.specs.declared.command.TheConstants.{MAX_COMMAND}
+use Rattle.ic_command.specs.declared.question.Question.{Question}
 use Rattle.ic_command.specs.declared.request.Request.TheVariants.{Bench}
 
 -- longer by more than its end
@@ -36,3 +38,7 @@ long_asked line long =
 -- and lists no event
 pub long_unlisted : (line : List ℕ) → MAX_COMMAND + 1 < length line → (p : Pair) → IsListed line p → ⊥
 long_unlisted line long p l = apart (sym l.0 ∙ long_line line long)
+
+-- and asks no question
+pub long_unasked : (line : List ℕ) → MAX_COMMAND + 1 < length line → (q : Question) → IsQuestion line q → ⊥
+long_unasked line long q a = apart (sym a.0 ∙ long_line line long)

@@ -5,3 +5,4 @@ pub mod TakenLines
 pub mod Refusals
 pub mod Sessions
 pub mod Faults
+pub mod Modes

@@ -1,9 +1,13 @@
 ghost use Rattle.std.specs.Prelude.{◌≡◌, ◌<◌, ◌≤◌, ℕ, List, IfErr, IfOk, IfSome, OnErr};
 ghost use Rattle.std.specs.Io.KnownBytes.{Appends};
+ghost use Rattle.ic_session.specs.Modes.{plain, explaining};
 ghost use Rattle.ic_session.specs.Sessions.{IsBegun, Writes};
 ghost use Rattle.ic_session.specs.declared.fault.Fault.TheVariants.{Settle};
 
 use crate::fault::Fault;
+use crate::mode::Mode;
+use crate::notes::explain_fault;
+use crate::place::Place;
 use crate::session::{Status, run_over};
 use ic_desk::MAX_WORKERS;
 use ic_lines::Input;
@@ -31,8 +35,8 @@ pub fn run_session<R: Read, W: Write, T: Threads + Wait + Sync>(
     budget: u32,
 ) -> Result<Status, Fault>
     requires { (0 < workers) × (workers ≤ MAX_WORKERS) }
-    ensures written { IfOk result (λ status. IfSome (R.remaining reader.old) (λ input. Writes workers budget input status (W.contents writer.old) (W.contents writer.new))) }
-    ensures begun { OnErr result (IfSome (R.remaining reader.old) (λ input. (text : List ℕ) × IsBegun workers budget input text × Appends (W.contents writer.old) (W.contents writer.new) text)) }
+    ensures written { IfOk result (λ status. IfSome (R.remaining reader.old) (λ input. Writes (plain workers budget) input status (W.contents writer.old) (W.contents writer.new))) }
+    ensures begun { OnErr result (IfSome (R.remaining reader.old) (λ input. (text : List ℕ) × IsBegun (plain workers budget) input text × Appends (W.contents writer.old) (W.contents writer.new) text)) }
     ensures settle { IfErr result (λ fault. fault ≡ Settle → 1 < workers) }
 {
     run_bounded(threads, alloc, reader, writer, workers, budget, MAX_READS)
@@ -50,10 +54,61 @@ pub fn run_bounded<R: Read, W: Write, T: Threads + Wait + Sync>(
     reads: u32,
 ) -> Result<Status, Fault>
     requires { (0 < workers) × (workers ≤ MAX_WORKERS) }
-    ensures written { IfOk result (λ status. IfSome (R.remaining reader.old) (λ input. Writes workers budget input status (W.contents writer.old) (W.contents writer.new))) }
-    ensures begun { OnErr result (IfSome (R.remaining reader.old) (λ input. (text : List ℕ) × IsBegun workers budget input text × Appends (W.contents writer.old) (W.contents writer.new) text)) }
+    ensures written { IfOk result (λ status. IfSome (R.remaining reader.old) (λ input. Writes (plain workers budget) input status (W.contents writer.old) (W.contents writer.new))) }
+    ensures begun { OnErr result (IfSome (R.remaining reader.old) (λ input. (text : List ℕ) × IsBegun (plain workers budget) input text × Appends (W.contents writer.old) (W.contents writer.new) text)) }
     ensures settle { IfErr result (λ fault. fault ≡ Settle → 1 < workers) }
 {
     let mut input = Input::new(alloc, reads)?;
-    run_over(threads, alloc, &mut input, reader, writer, workers, budget)
+    let mut unheard: Vec<u8> = Vec::new(alloc);
+    let mut place = Place::first();
+    let mode = Mode {
+        workers,
+        budget,
+        explains: false,
+    };
+    run_over(
+        threads,
+        alloc,
+        &mut input,
+        reader,
+        writer,
+        &mut unheard,
+        &mut place,
+        mode,
+    )
+}
+
+/// Runs a session as `run_session` does that explains itself: it answers questions, too, and writes to `errors` a sentence
+/// for each refusal and fault, with the number of its line: what is wrong, and what would be right. Where `errors` fails,
+/// that is left out.
+pub fn run_explained<R: Read, W: Write, E: Write, T: Threads + Wait + Sync>(
+    threads: &T,
+    alloc: Global,
+    reader: &mut R,
+    writer: &mut W,
+    errors: &mut E,
+    workers: u8,
+    budget: u32,
+) -> Result<Status, Fault>
+    requires { (0 < workers) × (workers ≤ MAX_WORKERS) }
+    ensures written { IfOk result (λ status. IfSome (R.remaining reader.old) (λ input. Writes (explaining workers budget) input status (W.contents writer.old) (W.contents writer.new))) }
+    ensures begun { OnErr result (IfSome (R.remaining reader.old) (λ input. (text : List ℕ) × IsBegun (explaining workers budget) input text × Appends (W.contents writer.old) (W.contents writer.new) text)) }
+    ensures settle { IfErr result (λ fault. fault ≡ Settle → 1 < workers) }
+{
+    let mut input = Input::new(alloc, MAX_READS)?;
+    let mut place = Place::first();
+    let mode = Mode {
+        workers,
+        budget,
+        explains: true,
+    };
+    match run_over(
+        threads, alloc, &mut input, reader, writer, errors, &mut place, mode,
+    ) {
+        Ok(status) => Ok(status),
+        Err(fault) => {
+            explain_fault(alloc, errors, place, fault);
+            Err(fault)
+        }
+    }
 }

@@ -1,27 +1,34 @@
-ghost use Rattle.std.specs.Prelude.{◌≡◌, ◌≢◌, ◌<◌, ◌≤◌, ℕ, List, IfErr, IfOk, IfSome, IsSome, OnErr, OnOk};
+ghost use Rattle.std.specs.Prelude.{◌≡◌, ◌≢◌, ◌<◌, ◌≤◌, ℕ, List, IfErr, IfOk, IfSome, OnErr, OnOk};
 ghost use Rattle.std.specs.Io.KnownBytes.{Appends};
-ghost use Rattle.ic_lines.specs.Left.{left, work};
+ghost use Rattle.ic_lines.specs.Left.{left};
 ghost use Rattle.ic_lines.specs.Faults.{AppendsFront, IsReadFault};
 ghost use Rattle.ic_lines.specs.declared.piece.IoFault.TheVariants as io_fault;
 ghost use Rattle.ic_session.specs.InputLines.{lines};
 ghost use Rattle.ic_desk.specs.Desks.{State};
 ghost use Rattle.ic_desk.specs.Views.{IsDeskAt};
 ghost use Rattle.ic_session.specs.Refusals.{refusal_line};
-ghost use Rattle.ic_session.specs.NextRequest.{TakesRequest};
+ghost use Rattle.ic_answer.specs.Texts.{answer_text};
+ghost use Rattle.ic_desk.specs.Questions.{Told};
+ghost use Rattle.ic_desk.specs.declared.fault.DeskFault.TheVariants as desk_fault;
+ghost use Rattle.ic_session.specs.Modes.{TurnsIn};
 ghost use Rattle.ic_session.specs.Sessions.{AreAnswers, AreBegun, IsAnswered, IsBegun, IsBrokenOff, Writes};
 ghost use Rattle.ic_session.specs.declared.fault.Fault.TheVariants.{Read, Settle};
 ghost use Rattle.ic_session.specs.declared.session.Status.TheVariants.{NetRefused};
 
+use crate::demand::Demand;
 use crate::fault::Fault;
-use crate::listed_events::listed_events;
+use crate::mode::Mode;
 use crate::net_input::{NetInput, read_net_text};
+use crate::next_demand::next_demand;
+use crate::notes::{explain_answer, explain_net};
+use crate::place::Place;
 use crate::refusal::refusal_line;
-use crate::taken_line::take_line;
-use ic_command::{Asked, Command, Request, asked_of};
-use ic_desk::{Desk, MAX_WORKERS};
+use ic_answer::Answer;
+use ic_command::Question;
+use ic_desk::{Desk, DeskFault, MAX_WORKERS};
 use ic_grammar::Refusal;
 use ic_journal::Store;
-use ic_lines::{Input, IoFault, Piece, write_reply};
+use ic_lines::{Input, write_reply};
 use ic_text::{TextFault, read_net};
 use std::alloc::Global;
 use std::io::{Read, Write};
@@ -44,121 +51,152 @@ pub enum Status {
 /// the workers of a sweep say that they did what the history doesn't say. What was written by then is a front of what a
 /// session may write.
 #[tactic(auto, using(crate::proofs::SessionFacts::still_read_fault))]
-pub(crate) fn run_over<R: Read, W: Write, T: Threads + Wait + Sync>(
+pub(crate) fn run_over<R: Read, W: Write, E: Write, T: Threads + Wait + Sync>(
     threads: &T,
     alloc: Global,
     input: &mut Input,
     reader: &mut R,
     writer: &mut W,
-    workers: u8,
-    budget: u32,
+    errors: &mut E,
+    place: &mut Place,
+    mode: Mode,
 ) -> Result<Status, Fault>
-    requires { (0 < workers) × (workers ≤ MAX_WORKERS) }
-    ensures written { IfOk result (λ status. IfSome (left input.old (R.remaining reader.old)) (λ bytes. Writes workers budget bytes status (W.contents writer.old) (W.contents writer.new))) }
-    ensures begun { OnErr result (IfSome (left input.old (R.remaining reader.old)) (λ bytes. (text : List ℕ) × IsBegun workers budget bytes text × Appends (W.contents writer.old) (W.contents writer.new) text)) }
+    requires { (0 < mode.workers) × (mode.workers ≤ MAX_WORKERS) }
+    ensures written { IfOk result (λ status. IfSome (left input.old (R.remaining reader.old)) (λ bytes. Writes mode bytes status (W.contents writer.old) (W.contents writer.new))) }
+    ensures begun { OnErr result (IfSome (left input.old (R.remaining reader.old)) (λ bytes. (text : List ℕ) × IsBegun mode bytes text × Appends (W.contents writer.old) (W.contents writer.new) text)) }
     ensures read { IfErr result (λ fault. fault ≡ Read → IsReadFault input.old.reads input.new.reads io_fault.Read) }
-    ensures settle { IfErr result (λ fault. fault ≡ Settle → 1 < workers) }
+    ensures settle { IfErr result (λ fault. fault ≡ Settle → 1 < mode.workers) }
 {
     let text = match read_net_text(alloc, input, reader)? {
-        NetInput::TooLong => return refuse(alloc, Refusal::TooLong, writer),
+        NetInput::TooLong => return refuse(alloc, Refusal::TooLong, &[], writer, errors, mode),
         NetInput::Whole(text) => text,
     };
     let start = match read_net(alloc, &text) {
         Ok(start) => start,
         Err(TextFault::Memory) => return Err(Fault::Memory),
-        Err(TextFault::Refused(refusal)) => return refuse(alloc, refusal, writer),
+        Err(TextFault::Refused(refusal)) => {
+            return refuse(alloc, refusal, &text, writer, errors, mode);
+        }
     };
+    place.pass_net(&text);
     let desk: Desk<Store> = Desk::over(alloc, start)?;
-    answer_all(threads, alloc, desk, input, reader, writer, workers, budget)?;
+    answer_all(
+        threads, alloc, desk, input, reader, writer, errors, place, mode,
+    )?;
     Ok(Status::Ended)
 }
 
-/// Names the fault of a net text.
-fn refuse<W: Write>(alloc: Global, refusal: Refusal, writer: &mut W) -> Result<Status, Fault>
+/// Names the fault of a net text, and says what is wrong where the session explains itself.
+fn refuse<W: Write, E: Write>(
+    alloc: Global,
+    refusal: Refusal,
+    text: &[u8],
+    writer: &mut W,
+    errors: &mut E,
+    mode: Mode,
+) -> Result<Status, Fault>
     ensures named { IfOk result (λ status. (status ≡ NetRefused) × Appends (W.contents writer.old) (W.contents writer.new) (refusal_line refusal)) }
     ensures front { OnErr result (AppendsFront (W.contents writer.old) (W.contents writer.new) (refusal_line refusal)) }
     ensures fault { IfErr result (λ fault. (fault ≢ Read) × (fault ≢ Settle)) }
 {
     let line = refusal_line(alloc, refusal)?;
     write_reply(writer, &line)?;
+    if mode.explains {
+        explain_net(alloc, errors, text, refusal);
+    }
     Ok(Status::NetRefused)
 }
 
 /// Answers the lines that are left.
-fn answer_all<R: Read, W: Write, T: Threads + Wait + Sync>(
+fn answer_all<R: Read, W: Write, E: Write, T: Threads + Wait + Sync>(
     threads: &T,
     alloc: Global,
     mut desk: Desk<Store>,
     input: &mut Input,
     reader: &mut R,
     writer: &mut W,
-    workers: u8,
-    budget: u32,
+    errors: &mut E,
+    place: &mut Place,
+    mode: Mode,
 ) -> Result<(), Fault>
-    requires { (0 < workers) × (workers ≤ MAX_WORKERS) }
+    requires { (0 < mode.workers) × (mode.workers ≤ MAX_WORKERS) }
     ensures answered { OnOk result (IfSome (left input.old (R.remaining reader.old)) (λ bytes. (st : State) → IsDeskAt desk st →
-        (text : List ℕ) × AreAnswers desk.bench.start workers budget st (lines bytes) text × Appends (W.contents writer.old) (W.contents writer.new) text)) }
+        (text : List ℕ) × AreAnswers desk.bench.start mode st (lines bytes) text × Appends (W.contents writer.old) (W.contents writer.new) text)) }
     ensures begun { OnErr result (IfSome (left input.old (R.remaining reader.old)) (λ bytes. (st : State) → IsDeskAt desk st →
-        (text : List ℕ) × AreBegun desk.bench.start workers budget st (lines bytes) text × Appends (W.contents writer.old) (W.contents writer.new) text)) }
+        (text : List ℕ) × AreBegun desk.bench.start mode st (lines bytes) text × Appends (W.contents writer.old) (W.contents writer.new) text)) }
     ensures fewer { input.new.reads ≤ input.old.reads }
     ensures fault { IfErr result (λ fault. fault ≡ Read → IsReadFault input.old.reads input.new.reads io_fault.Read) }
-    ensures settle { IfErr result (λ fault. fault ≡ Settle → 1 < workers) }
+    ensures settle { IfErr result (λ fault. fault ≡ Settle → 1 < mode.workers) }
 {
     let mut line = Vec::new(alloc);
     loop {
-        match next_request(alloc, input, reader, &mut line)? {
-            Some(request) => {
-                let asked = request.within(budget);
-                desk = answer(threads, alloc, desk, workers, asked, writer)?;
+        match next_demand(alloc, input, reader, &mut line, place, mode)? {
+            Some(demand) => {
+                desk = answer(threads, alloc, desk, demand, writer, errors, *place, mode)?;
             }
             None => return Ok(()),
         }
     }
 }
 
-/// Carries out a request, and writes the answer to it; the desk comes back.
-fn answer<W: Write, T: Threads + Wait + Sync>(
+/// Meets a demand, and writes the answer to it; the desk comes back. Where the session explains itself, it says what is
+/// wrong with what is refused.
+fn answer<W: Write, E: Write, T: Threads + Wait + Sync>(
     threads: &T,
     alloc: Global,
     desk: Desk<Store>,
-    workers: u8,
-    request: Request,
+    demand: Demand,
     writer: &mut W,
+    errors: &mut E,
+    place: Place,
+    mode: Mode,
 ) -> Result<Desk<Store>, Fault>
-    requires { (0 < workers) × (workers ≤ MAX_WORKERS) }
-    ensures answered { IfOk result (λ after. IsAnswered workers desk request after (W.contents writer.old) (W.contents writer.new)) }
-    ensures begun { OnErr result (IsBrokenOff workers desk request (W.contents writer.old) (W.contents writer.new)) }
+    requires { (0 < mode.workers) × (mode.workers ≤ MAX_WORKERS) }
+    ensures answered { IfOk result (λ after. IsAnswered mode desk demand after (W.contents writer.old) (W.contents writer.new)) }
+    ensures begun { OnErr result (IsBrokenOff mode desk demand (W.contents writer.old) (W.contents writer.new)) }
     ensures fault { IfErr result (λ fault. fault ≢ Read) }
-    ensures settle { IfErr result (λ fault. fault ≡ Settle → 1 < workers) }
+    ensures settle { IfErr result (λ fault. fault ≡ Settle → 1 < mode.workers) }
 {
-    let (after, answer) = desk.carry_out_with(threads, alloc, u32::from(workers), request)?;
+    let (after, answer) = meet(threads, alloc, desk, demand, mode)?;
     write_reply(writer, answer.bytes())?;
+    if mode.explains {
+        explain_answer(alloc, errors, place, answer.bytes());
+    }
     Ok(after)
 }
 
-/// What the next line asks for, with the lines behind it that it takes; `None` where the input has ended. `line` is room
-/// for a line.
-fn next_request<R: Read>(
+/// Meets a demand; the desk comes back with the answer.
+fn meet<T: Threads + Wait + Sync>(
+    threads: &T,
     alloc: Global,
-    input: &mut Input,
-    reader: &mut R,
-    line: &mut Vec<u8>,
-) -> Result<Option<Request>, IoFault>
-    ensures taken { IfOk result (λ request. IfSome (left input.old (R.remaining reader.old))
-        (λ bytes. TakesRequest request bytes (left input.new (R.remaining reader.new)))) }
-    ensures less { IfOk result (λ request. IsSome request → work input.new < work input.old) }
-    ensures fewer { input.new.reads ≤ input.old.reads }
-    ensures fault { IfErr result (IsReadFault input.old.reads input.new.reads) }
+    desk: Desk<Store>,
+    demand: Demand,
+    mode: Mode,
+) -> Result<(Desk<Store>, Answer), DeskFault>
+    requires { (0 < mode.workers) × (mode.workers ≤ MAX_WORKERS) }
+    ensures turns { IfOk result (λ r. TurnsIn mode desk demand (answer_text r.1) r.0) }
+    ensures settle { IfErr result (λ fault. fault ≡ desk_fault.Settle → 1 < mode.workers) }
 {
-    match take_line(input, reader, line)? {
-        Piece::Line(_) => match asked_of(alloc, line)? {
-            Asked::Alone(request) => Ok(Some(request)),
-            Asked::Absorb(count) => match listed_events(alloc, input, reader, line, count)? {
-                Some(events) => Ok(Some(Request::Absorb(events))),
-                None => Ok(Some(Request::Bench(Command::Malformed))),
-            },
-        },
-        Piece::TooLong => Ok(Some(Request::Bench(Command::Malformed))),
-        Piece::End => Ok(None),
+    match demand {
+        Demand::Requests(request) => desk.carry_out_with(
+            threads,
+            alloc,
+            u32::from(mode.workers),
+            request.within(mode.budget),
+        ),
+        Demand::Asks(question) => told(alloc, desk, question),
     }
+}
+
+/// Answers a question; the desk comes back with the answer.
+fn told(
+    alloc: Global,
+    mut desk: Desk<Store>,
+    question: Question,
+) -> Result<(Desk<Store>, Answer), DeskFault>
+    ensures turns { IfOk result (λ r. Told desk question (answer_text r.1) r.0) }
+    ensures memory { IfErr result (λ fault. fault ≡ desk_fault.Memory) }
+{
+    let answer = desk.tell(alloc, question)?;
+    Ok((desk, answer))
 }

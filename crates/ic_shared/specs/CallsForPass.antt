@@ -1,12 +1,10 @@
 -- What a call on a shared bench does to the pass of its caller.
-use Rattle.std.specs.Prelude.{◌≡◌, ◌++◌, List, length, Result, Err, IfOk}
+use Rattle.std.specs.Prelude.{◌≡◌, ◌++◌, List, length, Result, Err}
 use Rattle.ic_name.specs.Events.{Event}
 use Rattle.ic_name.specs.declared.ids.EventId.{EventId}
-use Rattle.ic_set.specs.declared.pairs.Fired.{Fired}
-use Rattle.ic_set.specs.Pairs.{Awakes}
-use Rattle.ic_journal.specs.Views.{BenchView, set_of}
+use Rattle.ic_journal.specs.Views.{BenchView}
 use Rattle.ic_journal.specs.Benches.{IsBench}
-use Rattle.ic_journal.specs.Calls.{id_answer, Fires, Undoes}
+use Rattle.ic_journal.specs.Calls.{Fires, Undoes}
 use Rattle.ic_journal.specs.declared.faults.FireFault.{FireFault}
 use Rattle.ic_journal.specs.declared.faults.FireFault.TheVariants as fire
 use Rattle.ic_journal.specs.declared.faults.UndoFault.{UndoFault}
@@ -27,10 +25,3 @@ pub data UndoesForPass (id : EventId) (r : Result (Unit {0}) UndoFault) (old new
   undone : (bench after : BenchView) → IsBench bench → Undoes bench id r after
       → new ≡ old ++ receipts_of (length bench.lines) (undo_lines id r) → UndoesForPass id r old new
   undo_without_memory : r ≡ Err undo.Memory → new ≡ old → UndoesForPass id r old new
-
--- the bench is as a firing of the event with this answer left it, which tells the pairs that became active by it; it may be
--- any where memory was wanting before a bench was asked
-pub data IsLeftByFiring (e : Event) (r : Result Fired FireFault) (after : BenchView) : Type 0 where
-  left : (bench : BenchView) → IsBench bench → Fires bench e (id_answer r) after → IfOk r (λ fired. Awakes (set_of bench) (set_of after) fired.awoken)
-      → IsLeftByFiring e r after
-  left_without_memory : r ≡ Err (fire.Memory e) → IsLeftByFiring e r after

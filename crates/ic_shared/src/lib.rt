@@ -5,6 +5,7 @@
 //! `Shared` has another type, and a call with it doesn't compile.
 #![tactic(auto)]
 
+pub mod chooser;
 pub mod faults;
 mod limits;
 mod locked;
@@ -12,14 +13,17 @@ mod merging;
 pub mod opening;
 pub mod passes;
 pub mod receipts;
+pub mod running;
 pub mod settling;
 pub mod shared;
 
+pub use chooser::Chooser;
 pub use faults::{SettleFault, Settled};
 pub use limits::MAX_PASSES;
 pub use opening::Opening;
 pub use passes::Pass;
 pub use receipts::Receipt;
+pub use running::Ran;
 pub use settling::settle;
 pub use shared::{Shared, share};
 

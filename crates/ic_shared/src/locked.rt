@@ -40,6 +40,7 @@ impl<B: Ledger> Locked<B> {
         ensures receipts { receipts.new.items ≡ receipts.old.items ++ receipts_of (length self.old.bench.lines) (fire_lines proposal (id_answer result)) }
         ensures parts { share.new.parts ≡ share.old.parts }
         ensures amount { share.new.amount ≡ share.old.amount + length (fire_lines proposal (id_answer result)) }
+        ensures room { vec_capacity receipts.new ≡ vec_capacity receipts.old }
     {
         self.bench.lawful();
         let number = self.bench.lines();
@@ -102,6 +103,7 @@ fn note<B: Ledger>(
     ensures parts { share.new.parts ≡ share.old.parts }
     ensures amount { share.new.amount ≡ share.old.amount + length (lines_of call reply) }
     ensures receipts { receipts.new.items ≡ receipts.old.items ++ receipts_of number (lines_of call reply) }
+    ensures room { vec_capacity receipts.new ≡ vec_capacity receipts.old }
 {
     if let Some(reply) = reply {
         book.add(share, 1);

@@ -7,12 +7,22 @@ use crate::passes::Pass;
 use ic_journal::{Bench, Store};
 use std::sync::ledger::Ledger;
 
-/// The pass whose next receipt has this number.
-fn find<B: Ledger>(passes: &[Pass<B>], cursors: &[usize; MAX_PASSES], number: u32) -> Option<usize>
+/// The pass whose next receipt has this number. One pass is looked at before the others.
+fn find<B: Ledger>(
+    passes: &[Pass<B>],
+    cursors: &[usize; MAX_PASSES],
+    number: u32,
+    before_others: usize,
+) -> Option<usize>
     requires { length passes.now ≤ MAX_PASSES }
     ensures some { IfSome result (λ p. (p < length passes.now) × IsNext passes.now cursors.now p number) }
     ensures none { IfNone result ((p : ℕ) → p < length passes.now → ¬ IsNext passes.now cursors.now p number) }
 {
+    if before_others < passes.len()
+        && passes[before_others].has_number(cursors[before_others], number)
+    {
+        return Some(before_others);
+    }
     for p in 0..passes.len() {
         if passes[p].has_number(cursors[p], number) {
             return Some(p);
@@ -36,8 +46,8 @@ fn behind<B: Ledger>(passes: &[Pass<B>], cursors: &[usize; MAX_PASSES], number: 
     None
 }
 
-/// Goes through the lines from `base` on, each of which is to be the next receipt of a pass. The error is a number at which
-/// what the passes say is false.
+/// Goes through the lines from `base` on, each of which is to be the next receipt of a pass: often of the one that has the
+/// line before, which is looked at first. The error is a number at which what the passes say is false.
 pub(crate) fn merge<B: Ledger>(
     bench: &Bench<Store>,
     base: u32,
@@ -49,10 +59,11 @@ pub(crate) fn merge<B: Ledger>(
     ensures err { IfErr result (WrongAt base bench.now.lines passes.now) }
 {
     let mut cursors = [0usize; MAX_PASSES];
+    let mut last = 0;
     let count = bench.lines() - base;
     for j in 0..count {
         let number = base + j;
-        let Some(p) = find(passes, &cursors, number) else {
+        let Some(p) = find(passes, &cursors, number, last) else {
             return match behind(passes, &cursors, number) {
                 Some(lesser) => Err(lesser),
                 None => Err(number),
@@ -62,6 +73,7 @@ pub(crate) fn merge<B: Ledger>(
             return Err(number);
         }
         cursors[p] += 1;
+        last = p;
     }
     for p in 0..passes.len() {
         match passes[p].number_at(cursors[p]) {

@@ -1,18 +1,16 @@
 ghost use Rattle.std.specs.Prelude.{◌≡◌, ◌+◌, ◌<◌, ◌≤◌, [], replicate, vec_len, vec_capacity, IfSome, IfOk, IfErr};
-ghost use Rattle.std.specs.Result.{result_ok};
 ghost use Rattle.std.specs.Fn.{FnOnceReturnsAt};
 ghost use Rattle.ic_journal.specs.Views.{BenchView};
 ghost use Rattle.ic_journal.specs.Benches.{IsBench};
-ghost use Rattle.ic_journal.specs.Calls.{id_answer};
 ghost use Rattle.ic_shared.specs.Openings.{opened};
-ghost use Rattle.ic_shared.specs.CallsForPass.{FiresForPass, UndoesForPass, IsLeftByFiring};
+ghost use Rattle.ic_shared.specs.CallsForPass.{FiresForPass, UndoesForPass};
 
 use crate::limits::MAX_PASSES;
 use crate::locked::Locked;
 use crate::opening::{Count, Opening};
 use crate::passes::Pass;
 use crate::receipts::Receipt;
-use ic_journal::{Bench, FireFault, Fired, Proposal, Store, UndoFault};
+use ic_journal::{Bench, FireFault, Proposal, Store, UndoFault};
 use ic_name::{Event, EventId};
 use std::alloc::Global;
 use std::sync::ledger::{Blank, Ledger};
@@ -21,7 +19,7 @@ use std::sync::{Mutex, Wait};
 /// A bench that threads share by reference. Each call takes the lock of the bench, and so may wait.
 #[derive(Drop)]
 pub struct Shared<B: Ledger> {
-    locked: Mutex<Locked<B>>,
+    pub(crate) locked: Mutex<Locked<B>>,
 }
 
 /// Shares a bench among so many passes, from 1 to `MAX_PASSES` of them, which have no receipts yet. The opening keeps the start and
@@ -78,37 +76,14 @@ impl<B: Ledger> Shared<B> {
     ) -> Result<EventId, FireFault>
         ensures { FiresForPass proposal result pass.old pass.new }
     {
-        let (answer, ()) = self.fire_then(rt, pass, proposal, |_, _| {});
-        match answer {
+        let Pass { share, receipts } = pass;
+        let Some(event) = event_with_room(receipts, &proposal) else {
+            return Err(FireFault::Memory(proposal));
+        };
+        match self.locked.lock(rt).fire(share, receipts, proposal, event) {
             Ok(fired) => Ok(fired.id),
             Err(fault) => Err(fault),
         }
-    }
-
-    /// Fires an event as `fire` does, and then lends the bench for reading to a closure, which is told the id under which the
-    /// event stands, where it was fired, and the pairs that became active by it. No call comes in between, and the closure
-    /// runs whatever the answer is.
-    pub fn fire_then<R: Wait, F: FnOnce(&Bench<Store>, Option<Fired>) -> T, T>(
-        &self,
-        rt: &R,
-        pass: &mut Pass<B>,
-        proposal: Proposal,
-        f: F,
-    ) -> (Result<Fired, FireFault>, T)
-        requires { F.IsAlwaysCallable f }
-        ensures fires { FiresForPass proposal (id_answer result.0) pass.old pass.new }
-        ensures looks { (lent : _) × F.post f lent (result_ok result.0) result.1 × IsBench lent.now × IsLeftByFiring proposal result.0 lent.now }
-    {
-        let Pass { share, receipts } = pass;
-        let event = event_with_room(receipts, &proposal);
-        let mut locked = self.locked.lock(rt);
-        let answer = match event {
-            Some(event) => locked.fire(share, receipts, proposal, event),
-            None => Err(FireFault::Memory(proposal)),
-        };
-        locked.bench.lawful();
-        let told = f(&locked.bench, answer.as_ref().ok().copied());
-        (answer, told)
     }
 
     /// Undoes the firing of an event, whoever fired it, as `Bench::undo` does, and gives the pass a receipt for the line

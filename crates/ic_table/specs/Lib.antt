@@ -7,3 +7,4 @@ pub mod Tables
 pub mod Splices
 pub mod Steps
 pub mod Taking
+pub mod Touched

@@ -8,4 +8,10 @@ mod drips;
 #[cfg(test)]
 mod faults;
 #[cfg(test)]
+mod flushes;
+#[cfg(test)]
 mod laws;
+#[cfg(test)]
+mod refused_growth;
+#[cfg(test)]
+mod repeated_lines;

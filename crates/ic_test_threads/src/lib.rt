@@ -12,8 +12,12 @@ mod missing;
 #[cfg(test)]
 mod random_nets;
 #[cfg(test)]
+mod refused_growth;
+#[cfg(test)]
 mod settling;
 #[cfg(test)]
 mod stress;
 #[cfg(test)]
 mod sweeps;
+#[cfg(test)]
+mod tickets;

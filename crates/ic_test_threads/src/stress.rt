@@ -5,6 +5,8 @@ use ic_journal::{Bench, Proposal, Store};
 use ic_name::{Call, Event, EventId, Line};
 use ic_print::print_net;
 use ic_shared::{Pass, Shared, settle, share};
+use ic_undo::undo_all;
+use ic_work::{End, NoGate, sweep};
 use std::alloc::Global;
 use std::marker::Brand;
 use std::sync::Wait;
@@ -12,7 +14,11 @@ use std::sync::ledger::{Blank, Ledger};
 use std::test::Fail;
 use std::thread::{Threads, for_each_mut};
 
-const CALLS: u32 = 1000;
+/// The turns that each pass makes.
+const TURNS: u32 = 1000;
+
+/// The passes that fire; the others undo.
+const FIRING: usize = 2;
 
 /// The number after this one, of a linear congruence.
 fn next_number(seed: u64) -> u64 {
@@ -41,23 +47,30 @@ fn picked_event(bench: &Bench<Store>, number: u64) -> Option<EventId> {
     events.get((number % count) as usize).copied()
 }
 
-/// Fires an active pair or undoes an event, whichever the number picks. What it picks may have gone by the time of the call.
-fn call<B: Ledger, R: Wait>(rt: &R, shared: &Shared<B>, pass: &mut Pass<B>, number: u64) {
-    if number % 2 == 0 {
-        if let Some(proposal) = shared.look(rt, |bench| picked_pair(bench, number / 2)) {
-            let _ = shared.fire(rt, pass, proposal);
-        }
-    } else if let Some(id) = shared.look(rt, |bench| picked_event(bench, number / 2)) {
+/// Fires the active pair that the number picks. It may have gone by the time of the call.
+fn fire<B: Ledger, R: Wait>(rt: &R, shared: &Shared<B>, pass: &mut Pass<B>, number: u64) {
+    if let Some(proposal) = shared.look(rt, |bench| picked_pair(bench, number)) {
+        let _ = shared.fire(rt, pass, proposal);
+    }
+}
+
+/// Undoes the event that the number picks. It may have gone by the time of the call.
+fn undo<B: Ledger, R: Wait>(rt: &R, shared: &Shared<B>, pass: &mut Pass<B>, number: u64) {
+    if let Some(id) = shared.look(rt, |bench| picked_event(bench, number)) {
         let _ = shared.undo(rt, pass, id);
     }
 }
 
-/// Makes as many calls as `CALLS` says, by random numbers.
-fn call_at_random<B: Ledger, R: Wait>(rt: &R, shared: &Shared<B>, pass: &mut Pass<B>, seed: u64) {
-    let mut number = next_number(seed);
-    for _ in 0..CALLS {
+/// Makes the turns of the pass at this place, by random numbers.
+fn make_turns<B: Ledger, R: Wait>(rt: &R, shared: &Shared<B>, pass: &mut Pass<B>, place: usize) {
+    let mut number = next_number(place as u64);
+    for _ in 0..TURNS {
         number = next_number(number);
-        call(rt, shared, pass, number >> 33);
+        if place < FIRING {
+            fire(rt, shared, pass, number >> 33);
+        } else {
+            undo(rt, shared, pass, number >> 33);
+        }
     }
 }
 
@@ -106,34 +119,55 @@ fn shows_the_same_again(alloc: Global, bench: &Bench<Store>) -> Option<bool> {
     Some(net_of(alloc, bench)?.as_slice() == net_of(alloc, &again)?.as_slice())
 }
 
-/// Whether the history of eight threads that make random calls settles, and gives the same net again.
-fn eight_settle<B: Ledger + Send + Sync, R: Threads + Wait + Sync>(
+/// The bench on which four threads made their turns, settled.
+fn settled_of_four<B: Ledger + Send + Sync, R: Threads + Wait + Sync>(
     rt: &R,
     alloc: Global,
     bench: Bench<Store>,
     blank: Blank,
-) -> Option<bool>
+) -> Option<Bench<Store>>
     requires name { blank.name ≡ B.name }
-    requires parts { (blank.parts ≡ B.parts) × (blank.parts ≡ 9) }
+    requires parts { (blank.parts ≡ B.parts) × (blank.parts ≡ 5) }
 {
-    let (shared, opening, mut passes) = share::<B>(alloc, bench, blank, 8).ok()?;
+    let (shared, opening, mut passes) = share::<B>(alloc, bench, blank, 4).ok()?;
     for_each_mut(
         rt,
         passes.as_mut_slice(),
-        8,
-        &|seed, pass| { call_at_random(rt, &shared, pass, seed as u64) },
+        4,
+        &|place, pass| { make_turns(rt, &shared, pass, place) },
     );
     let settled = settle(opening, passes, shared).ok()?;
-    shows_the_same_again(alloc, &settled.bench)
+    Some(settled.bench)
 }
 
-fn eight_threads<R: Threads + Wait + Sync>(rt: &R, alloc: Global) -> Option<bool> {
+fn four_threads<R: Threads + Wait + Sync>(rt: &R, alloc: Global) -> Option<Bench<Store>> {
     let bench = bench_over(alloc, FOUR_COPIES)?;
-    eight_settle::<Brand, R>(rt, alloc, bench, Blank::new(9))
+    settled_of_four::<Brand, R>(rt, alloc, bench, Blank::new(5))
+}
+
+/// Whether the bench shows the net of the start.
+fn shows_the_start(alloc: Global, bench: &Bench<Store>) -> Option<bool> {
+    let fresh = bench_over(alloc, FOUR_COPIES)?;
+    Some(net_of(alloc, bench)?.as_slice() == net_of(alloc, &fresh)?.as_slice())
+}
+
+/// Whether a sweep by four workers leaves all sixteen events at its normal end, and undoing them shows the start again.
+fn sweeps_and_clears<R: Threads + Wait + Sync>(
+    rt: &R,
+    alloc: Global,
+    bench: Bench<Store>,
+) -> Option<bool> {
+    let swept = sweep(rt, alloc, bench, 4, 1_048_576, &NoGate).ok()?;
+    let normal = swept.end == End::Normal;
+    let mut bench = swept.bench;
+    let undone = undo_all(alloc, &mut bench).ok()?.len();
+    Some(normal && undone == 16 && shows_the_start(alloc, &bench)?)
 }
 
 #[test]
-fn eight_threads_settle_under_stress(rt: HostRuntime) -> Result<(), Fail> {
-    assert_eq!(rt; eight_threads(&rt, rt.alloc()), Some(true));
+fn four_threads_settle_under_stress(rt: HostRuntime) -> Result<(), Fail> {
+    let bench = four_threads(&rt, rt.alloc()).ok_or("four threads")?;
+    assert_eq!(rt; shows_the_same_again(rt.alloc(), &bench), Some(true));
+    assert_eq!(rt; sweeps_and_clears(&rt, rt.alloc(), bench), Some(true));
     Ok(())
 }

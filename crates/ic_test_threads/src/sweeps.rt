@@ -93,7 +93,13 @@ fn ending<R: Threads + Wait + Sync>(
 
 #[test]
 fn no_more_is_fired_than_the_budget(rt: HostRuntime) -> Result<(), Fail> {
-    for (text, budget) in [(ENDLESS, 10), (ENDLESS, 0), (FOUR_COPIES, 7)] {
+    for (text, budget) in [
+        (ENDLESS, 10),
+        (ENDLESS, 1),
+        (ENDLESS, 0),
+        (FOUR_COPIES, 7),
+        (FOUR_COPIES, 1),
+    ] {
         let ended = ending(&rt, rt.alloc(), text, 4, budget);
         assert!(rt; ended == Some((budget, End::Budget)), "budget {budget}");
     }
@@ -113,6 +119,15 @@ fn nothing_is_fired_where_nothing_is_active(rt: HostRuntime) -> Result<(), Fail>
         return Err("a sweep that settles".into());
     };
     assert!(rt; told.fired == 0 && told.end == End::Normal && told.lines == 0);
+    Ok(())
+}
+
+#[test]
+fn one_pair_takes_one_thread_at_most(rt: HostRuntime) -> Result<(), Fail> {
+    let Some(told) = outcome_of(&rt, rt.alloc(), b"E = E;", 64, 1_000) else {
+        return Err("a sweep that settles".into());
+    };
+    assert!(rt; told.fired == 1 && told.end == End::Normal && told.ran <= 2);
     Ok(())
 }
 

@@ -1,5 +1,5 @@
-// Undoing more than one event at once: an event with all that rests on it, and all events; marks, and going back to
-// them.
+//! Undoing more than one event at once: an event with all that rests on it, and all events; marks, and going back to
+//! them.
 #![tactic(auto)]
 
 pub mod absorbing;
@@ -16,7 +16,7 @@ mod missing_among;
 mod outside;
 mod outside_among;
 mod ready;
-mod resting;
+pub mod resting;
 mod turns;
 pub mod unwinding;
 
@@ -26,4 +26,5 @@ pub use going_back::back;
 pub use going_back_since::back_since;
 pub use marking::mark;
 pub use marks::Mark;
+pub use resting::resting_on;
 pub use unwinding::{clear, undo_all, unwind};

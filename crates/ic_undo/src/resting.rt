@@ -16,8 +16,9 @@ use ic_name::EventId;
 use std::alloc::{AllocError, Global};
 use std::collections::BTreeSet;
 
-/// The standing events that rest on the one whose firing is the line of the id, in canonical order.
-pub(crate) fn resting_on<L: LinkStore>(
+/// The standing events that rest on the one whose firing is the line of the id, itself among them, in canonical order: those
+/// that `unwind` takes back.
+pub fn resting_on<L: LinkStore>(
     alloc: Global,
     bench: &Bench<L>,
     id: EventId,

@@ -7,5 +7,6 @@ pub mod FiredByWorkers
 pub mod WorkersFired
 pub mod WholeSweeps
 pub mod Passes
+pub mod Hands
 pub mod Crews
 pub mod Unused

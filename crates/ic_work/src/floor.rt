@@ -13,5 +13,6 @@ pub(crate) struct Floor<'a, B: Ledger, G: Gate> {
     pub gate: &'a G,
     /// The hints of all workers, each of whom steals from the others.
     pub hints: &'a [Stealer<ActivePair>],
-    pub budget: u32,
+    /// How many events a worker fires under one lock, at most.
+    pub most: usize,
 }

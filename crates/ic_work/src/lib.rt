@@ -8,9 +8,13 @@
 
 mod crew;
 mod floor;
+mod hand;
+mod hints;
+mod limits;
 mod preparing;
 pub mod sweeping;
 pub mod swept;
+mod tickets;
 mod worker;
 
 pub use ic_claim::{MAX_BUDGET, MAX_WORKERS};

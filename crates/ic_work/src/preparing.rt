@@ -4,7 +4,7 @@ ghost use Rattle.ic_claim.specs.Views.{new_view};
 use crate::worker::Worker;
 use crossbeam_deque::{Stealer, Worker as Deque};
 use ic_claim::{Claims, MAX_BUDGET, MAX_WORKERS, Seat};
-use ic_journal::{ActivePair, Bench, Store};
+use ic_journal::ActivePair;
 use ic_shared::Pass;
 use std::alloc::{AllocError, Global};
 use std::sync::atomic::AtomicBool;
@@ -30,10 +30,10 @@ pub(crate) struct Prepared<B: Ledger> {
     pub home: Vec<Pass<B>>,
 }
 
-/// What so many workers need. The active pairs of the bench are their first hints, dealt out in blocks.
+/// What so many workers need. These active pairs are their first hints, dealt out in blocks.
 pub(crate) fn prepare<B: Ledger>(
     alloc: Global,
-    bench: &Bench<Store>,
+    pairs: &[ActivePair],
     workers: u32,
     budget: u32,
 ) -> Result<Prepared<B>, AllocError>
@@ -56,7 +56,7 @@ pub(crate) fn prepare<B: Ledger>(
         hints.push_reserved(own);
         off.push_reserved(AtomicBool::new(false));
     }
-    deal(hints.as_mut_slice(), &bench.active()?)?;
+    deal(hints.as_mut_slice(), pairs)?;
     Ok(Prepared {
         claims,
         seat,

@@ -6,6 +6,7 @@ ghost use Rattle.ic_work.specs.Workers.{IsFirst, IsGuest};
 
 use crate::crew::{Crew, run_crew};
 use crate::floor::Floor;
+use crate::limits::MOST;
 use crate::preparing::{Prepared, prepare};
 use crate::swept::{SweepFault, Swept};
 use crate::worker::Worker;
@@ -22,7 +23,7 @@ use std::thread::Threads;
 
 /// Fires active pairs on a bench by so many workers, 1 to `MAX_WORKERS` of them, of which the first one is the caller; at
 /// most as many events as the budget says, which is at most `MAX_BUDGET`. What the workers leave of the budget is fired
-/// in the order of one worker.
+/// in the order of one worker. No more workers run than the caller and one for each pair that is active before that.
 ///
 /// The start stays, and so does all that stood; just the events that are counted are new (Lafont 1997). The end is
 /// `Normal` exactly where no pair is active any more, and then each sound set over the start is a part of what stands,
@@ -31,7 +32,8 @@ use std::thread::Threads;
 /// lead meets a limit, and `Memory` where fewer were fired and memory was wanting.
 ///
 /// `SweepFault::Memory` comes only before anything is fired, and `SweepFault::Settle` where the workers' receipts
-/// aren't what the history says; each hands the bench back. The gate sees each commit; no lock is held then.
+/// aren't what the history says; each hands the bench back. The gate sees each commit; no lock is held then. It may be
+/// asked of tickets that aren't used in the end.
 pub fn sweep<G: Gate, R: Threads + Wait + Sync>(
     rt: &R,
     alloc: Global,
@@ -46,10 +48,15 @@ pub fn sweep<G: Gate, R: Threads + Wait + Sync>(
     ensures ran { IfOk result (λ s. (0 < s.ran) × (s.ran ≤ workers)) }
     ensures fault { IfErr result (λ f. IsGivenBack bench f) }
 {
+    let Ok(pairs) = bench.active() else {
+        return Err(SweepFault::Memory(bench));
+    };
+    let workers = workers.min(useful(pairs.len(), budget));
     sweep_as::<Brand, G, R>(
         rt,
         alloc,
         bench,
+        &pairs,
         Blank::new(u64::from(workers) + 1),
         workers,
         budget,
@@ -57,11 +64,27 @@ pub fn sweep<G: Gate, R: Threads + Wait + Sync>(
     )
 }
 
-/// The sweep over a ledger of its own.
+/// How many workers are of use where so many pairs are active: the caller, and one for each of these that may be fired.
+fn useful(pairs: usize, budget: u32) -> u32
+    requires { budget ≤ MAX_BUDGET }
+    ensures { 0 < result }
+{
+    pairs.min(budget as usize) as u32 + 1
+}
+
+/// How many events each of so many workers fires under one lock, at most: so few that none holds much of the budget.
+fn most_in_a_run(workers: u32, budget: u32) -> usize
+    requires { (0 < workers) × (workers ≤ MAX_WORKERS) }
+{
+    (budget / (4 * workers)).clamp(1, MOST as u32) as usize
+}
+
+/// The sweep over a ledger of its own, where these pairs are active.
 fn sweep_as<B: Ledger + Send + Sync, G: Gate, R: Threads + Wait + Sync>(
     rt: &R,
     alloc: Global,
     bench: Bench<Store>,
+    pairs: &[ActivePair],
     blank: Blank,
     workers: u32,
     budget: u32,
@@ -77,7 +100,7 @@ fn sweep_as<B: Ledger + Send + Sync, G: Gate, R: Threads + Wait + Sync>(
 {
     bench.lawful();
     let stood = bench.standing_count();
-    let Ok(prepared) = prepare::<B>(alloc, &bench, workers, budget) else {
+    let Ok(prepared) = prepare::<B>(alloc, pairs, workers, budget) else {
         return Err(SweepFault::Memory(bench));
     };
     let Prepared {
@@ -105,7 +128,7 @@ fn sweep_as<B: Ledger + Send + Sync, G: Gate, R: Threads + Wait + Sync>(
         claims: &claims,
         gate,
         hints: stealers.as_slice(),
-        budget,
+        most: most_in_a_run(workers, budget),
     };
     let Crew {
         first,

@@ -1,12 +1,16 @@
-ghost use Rattle.std.specs.Prelude.{◌≡◌, None, IfSome, IfNone};
-ghost use Rattle.ic_work.specs.Workers.{Draws, Follows, IsFree, Keeps, MayFireOne, Works, WorksOn};
+ghost use Rattle.std.specs.Prelude.{◌≡◌, ◌≢◌, ◌+◌, ◌≤◌, None};
+ghost use Rattle.ic_work.specs.Workers.{DrawsMore, IsFree, Keeps, MayFire, Works, WorksOn};
 
 use crate::floor::Floor;
-use crossbeam_deque::{Steal, Stealer, Worker as Deque};
-use ic_claim::{CLAIM_WORDS, Seat, Ticket};
-use ic_journal::{ActivePair, Bench, FireFault, Fired, Proposal, Store};
+use crate::hand::{Hand, claim};
+use crate::hints::find_hint;
+use crate::limits::MOST;
+use crate::tickets::Unused;
+use crossbeam_deque::Worker as Deque;
+use ic_claim::Seat;
+use ic_journal::ActivePair;
 use ic_reduce::Gate;
-use ic_shared::Pass;
+use ic_shared::{Pass, Ran};
 use std::sync::Wait;
 use std::sync::ledger::Ledger;
 
@@ -20,34 +24,14 @@ pub(crate) struct Worker<B: Ledger> {
     pub pass: Pass<B>,
 }
 
-/// A pair to be fired next, with its proposal.
-#[derive(Drop)]
-struct Ready {
-    hint: ActivePair,
-    proposal: Proposal,
-}
-
-/// What a worker has in hand between two turns: a ticket that it drew and hasn't used, and a pair to be fired next.
-#[derive(Drop)]
-struct InHand {
-    ticket: Option<Ticket>,
-    ready: Option<Ready>,
-}
-
-/// Whether a worker goes on.
+/// What a worker does after a turn.
 enum Then {
-    /// With this pair next, if one is ready.
-    GoOn(Option<Ready>),
-    /// The bench takes no more firings: a limit is met, or memory is wanting.
-    Stop,
-}
-
-/// What became of a pair that was to be fired.
-enum Followed {
-    /// The bench was asked.
-    Asked(Then),
-    /// Another worker holds its word; the ticket is still to be used.
-    Busy(Ticket),
+    /// It takes the next hint.
+    GoOn,
+    /// Its hint's word was busy: it takes one of another worker's hints, if there is one.
+    TurnToOthers,
+    /// There is no hint or no ticket, or all were asked to stop.
+    GoHome,
 }
 
 impl<B: Ledger> Worker<B> {
@@ -56,196 +40,123 @@ impl<B: Ledger> Worker<B> {
         requires { IsFree floor.now.claims.now.table self.old.seat }
         ensures { Works self.old.seat self.old.pass self.new.seat self.new.pass }
     {
-        let mut in_hand = InHand {
-            ticket: None,
-            ready: None,
-        };
+        let mut unused = Unused::none();
+        let mut others_first = false;
         for _ in rt.forever() {
-            match self.turn(rt, floor, in_hand) {
-                Some(next) => in_hand = next,
-                None => return,
+            match self.turn(rt, floor, &mut unused, others_first) {
+                Then::GoOn => others_first = false,
+                Then::TurnToOthers => others_first = true,
+                Then::GoHome => return,
             }
         }
     }
 
-    /// Fires the pair that is in hand, or else one that a hint names. A ticket whose pair finds its word busy is kept for
-    /// the next one. `None` where there is no hint, no ticket, or all were asked to stop.
+    /// Takes a hint, claims its word, and fires what it and the worker's own hints name. Tickets that aren't used are kept.
     fn turn<G: Gate, R: Wait>(
         &mut self,
         rt: &R,
         floor: &Floor<'_, B, G>,
-        in_hand: InHand,
-    ) -> Option<InHand>
+        unused: &mut Unused,
+        others_first: bool,
+    ) -> Then
         requires { IsFree floor.now.claims.now.table self.old.seat }
-        ensures on { IfSome result (λ next. WorksOn in_hand.ticket self.old.seat self.old.pass next.ticket self.new.seat self.new.pass) }
-        ensures home { IfNone result (WorksOn in_hand.ticket self.old.seat self.old.pass None self.new.seat self.new.pass) }
+        ensures { WorksOn unused.old.count self.old.seat self.old.pass unused.new.count self.new.seat self.new.pass }
     {
         if floor.claims.is_stopped(&mut self.seat) {
-            return None;
+            return Then::GoHome;
         }
-        let ready = self.ready(rt, floor, in_hand.ready, in_hand.ticket.is_some())?;
-        let ticket = self.ticket(floor, in_hand.ticket)?;
-        match self.follow(rt, floor, ticket, ready) {
-            Followed::Busy(ticket) => Some(InHand {
-                ticket: Some(ticket),
-                ready: None,
-            }),
-            Followed::Asked(Then::GoOn(ready)) => Some(InHand {
-                ticket: None,
-                ready,
-            }),
-            Followed::Asked(Then::Stop) => {
-                floor.claims.stop(&mut self.seat);
-                None
-            }
+        let Some(found) = find_hint(rt, &mut self.hints, floor.hints, others_first) else {
+            return Then::GoHome;
+        };
+        match claim(floor.claims, &mut self.seat, &mut self.hints, found) {
+            Some(hint) => self.follow(rt, floor, unused, hint),
+            None => Then::TurnToOthers,
         }
     }
 
-    /// This pair, or else one that a hint names.
-    fn ready<G: Gate, R: Wait>(
-        &mut self,
-        rt: &R,
-        floor: &Floor<'_, B, G>,
-        ready: Option<Ready>,
-        others_first: bool,
-    ) -> Option<Ready>
-        ensures seat { self.new.seat ≡ self.old.seat }
-        ensures pass { self.new.pass ≡ self.old.pass }
-    {
-        match ready {
-            Some(ready) => Some(ready),
-            None => find_ready(rt, floor, &mut self.hints, others_first),
-        }
-    }
-
-    /// This ticket, or else one that is drawn.
-    fn ticket<G: Gate>(&mut self, floor: &Floor<'_, B, G>, kept: Option<Ticket>) -> Option<Ticket>
-        requires { self.old.seat.table ≡ floor.now.claims.now.table }
-        ensures drawn { Draws self.old.seat kept self.new.seat result }
-        ensures pass { self.new.pass ≡ self.old.pass }
-    {
-        match kept {
-            Some(ticket) => Some(ticket),
-            None => floor.claims.draw(&mut self.seat),
-        }
-    }
-
-    /// Claims the word of a pair, and fires it. Where another worker holds the word, the hint goes back among the worker's
-    /// own.
+    /// Draws tickets and fires by them, beginning with a hint whose word the seat holds.
     fn follow<G: Gate, R: Wait>(
         &mut self,
         rt: &R,
         floor: &Floor<'_, B, G>,
-        ticket: Ticket,
-        ready: Ready,
-    ) -> Followed
-        requires { IsFree floor.now.claims.now.table self.old.seat }
-        ensures seat { Keeps self.old.seat self.new.seat }
-        ensures pass { Follows result self.old.pass self.new.pass }
+        unused: &mut Unused,
+        hint: ActivePair,
+    ) -> Then
+        requires table { self.old.seat.table ≡ floor.now.claims.now.table }
+        requires holds { self.old.seat.view.held ≢ None }
+        ensures { WorksOn unused.old.count self.old.seat self.old.pass unused.new.count self.new.seat self.new.pass }
     {
-        let word = u64::from(ready.hint.lead.slot) % CLAIM_WORDS;
-        let Ok(()) = floor.claims.take(&mut self.seat, word) else {
-            let _ = self.hints.push(ready.hint);
-            return Followed::Busy(ticket);
-        };
-        let then = self.fire(rt, floor, ticket, ready.proposal);
-        floor.claims.leave(&mut self.seat);
-        Followed::Asked(then)
+        self.draw(floor, unused);
+        if unused.count == 0 {
+            floor.claims.leave(&mut self.seat);
+            return Then::GoHome;
+        }
+        let ran = self.fire(rt, floor, hint, unused.count);
+        self.use_up(floor, unused, ran.calls);
+        if ran.refused {
+            floor.claims.stop(&mut self.seat);
+            return Then::GoHome;
+        }
+        Then::GoOn
     }
 
-    /// Fires a pair, puts the pairs that become active by it out as new hints, and makes the proposal of the next hint
-    /// under the same lock. Where memory is wanting, hints are dropped.
+    /// Draws tickets one by one, until a run may use no more, and tells the gate of each.
+    fn draw<G: Gate>(&mut self, floor: &Floor<'_, B, G>, unused: &mut Unused)
+        requires { self.old.seat.table ≡ floor.now.claims.now.table }
+        ensures drawn { DrawsMore self.old.seat unused.old.count self.new.seat unused.new.count }
+        ensures pass { self.new.pass ≡ self.old.pass }
+    {
+        while unused.count < floor.most.min(MOST) {
+            let Some(ticket) = floor.claims.draw(&mut self.seat) else {
+                return;
+            };
+            unused.push(ticket);
+            floor.gate.before_commit(self.number, ticket.number);
+        }
+    }
+
+    /// Fires the event of a hint whose word the seat holds, and then what the worker's own hints name, at most so many
+    /// events, under one lock. The seat then holds no word.
     fn fire<G: Gate, R: Wait>(
         &mut self,
         rt: &R,
         floor: &Floor<'_, B, G>,
-        ticket: Ticket,
-        proposal: Proposal,
-    ) -> Then
-        ensures seat { self.new.seat ≡ self.old.seat }
-        ensures pass { MayFireOne self.old.pass self.new.pass }
+        hint: ActivePair,
+        most: usize,
+    ) -> Ran
+        requires table { self.old.seat.table ≡ floor.now.claims.now.table }
+        requires holds { self.old.seat.view.held ≢ None }
+        ensures seat { Keeps self.old.seat self.new.seat }
+        ensures free { self.new.seat.view.held ≡ None }
+        ensures pass { MayFire result.calls self.old.pass self.new.pass }
+        ensures most { result.calls ≤ most }
     {
-        floor.gate.before_commit(self.number, ticket.number);
-        let Worker { hints, pass, .. } = self;
-        let (fired, ready) = floor.shared.fire_then(
-            rt,
+        let Worker {
+            seat,
+            hints,
             pass,
-            proposal,
-            |bench, fired| next_ready(bench, hints, fired),
-        );
-        floor.gate.after_commit(self.number, ticket.number);
-        match fired {
-            Ok(_) | Err(FireFault::NotActive) => Then::GoOn(ready),
-            Err(_) => Then::Stop,
-        }
+            ..
+        } = self;
+        let mut hand = Hand {
+            claims: floor.claims,
+            seat,
+            hints,
+            hint: Some(hint),
+        };
+        let ran = floor.shared.fire_run(rt, pass, &mut hand, most);
+        hand.let_go();
+        ran
     }
-}
 
-/// A hint that names an active pair, with its proposal: the first one of the worker's own, or else one that is stolen. Those
-/// of the others come first where the worker's last hint found its word busy.
-fn find_ready<B: Ledger, G: Gate, R: Wait>(
-    rt: &R,
-    floor: &Floor<'_, B, G>,
-    own: &mut Deque<ActivePair>,
-    others_first: bool,
-) -> Option<Ready> {
-    for _ in rt.forever() {
-        let hint = find_hint(rt, own, floor.hints, others_first)?;
-        let ready = floor.shared.look(rt, |bench| ready_at(bench, hint));
-        if ready.is_some() {
-            return ready;
-        }
-    }
-    None
-}
-
-/// Puts the pairs that became active by a firing out as hints, and makes the next hint ready. Where memory is wanting,
-/// hints are dropped.
-fn next_ready(
-    bench: &Bench<Store>,
-    hints: &mut Deque<ActivePair>,
-    fired: Option<Fired>,
-) -> Option<Ready> {
-    if let Some(fired) = fired {
-        for awoken in fired.awoken {
-            if let Some(pair) = awoken {
-                let _ = hints.push(pair);
+    /// Uses so many tickets up, and tells the gate of each.
+    fn use_up<G: Gate>(&self, floor: &Floor<'_, B, G>, unused: &mut Unused, calls: usize)
+        requires { calls ≤ unused.old.count }
+        ensures { unused.new.count + calls ≡ unused.old.count }
+    {
+        for _made in 0..calls {
+            if let Some(ticket) = unused.pop() {
+                floor.gate.after_commit(self.number, ticket.number);
             }
         }
     }
-    let hint = hints.pop()?;
-    ready_at(bench, hint)
-}
-
-/// The pair of a hint with its proposal; `None` where it isn't active any more, or memory is wanting.
-fn ready_at(bench: &Bench<Store>, hint: ActivePair) -> Option<Ready> {
-    let proposal = bench.propose(hint.lead, hint.other).ok()?;
-    Some(Ready { hint, proposal })
-}
-
-/// A hint of the worker's own, or one that is stolen from another.
-fn find_hint<R: Wait>(
-    rt: &R,
-    own: &mut Deque<ActivePair>,
-    others: &[Stealer<ActivePair>],
-    others_first: bool,
-) -> Option<ActivePair> {
-    if others_first {
-        return steal(rt, others).or_else(|| own.pop());
-    }
-    own.pop().or_else(|| steal(rt, others))
-}
-
-/// A hint that is stolen from one of these.
-fn steal<R: Wait>(rt: &R, others: &[Stealer<ActivePair>]) -> Option<ActivePair> {
-    for other in others {
-        for _ in rt.forever() {
-            match other.steal() {
-                Steal::Success(hint) => return Some(hint),
-                Steal::Empty => break,
-                Steal::Retry => {}
-            }
-        }
-    }
-    None
 }

@@ -1,4 +1,4 @@
-use Rattle.std.proofs.Common.{[], ◌++◌, codes, length, ap, ◌∙◌}
+use Rattle.std.proofs.Common.{[], ◌++◌, codes, length, refl, ap}
 use Rattle.std.specs.Fmt.{decimal}
 use Rattle.std.specs.List.{flat_map}
 use Rattle.ic_name.specs.declared.ids.EventId.{EventId}
@@ -8,19 +8,21 @@ use Rattle.ic_answer.specs.declared.refused.Refused.TheVariants as refused
 use Rattle.ic_answer.specs.Texts.{pair_line, refusal_text}
 use Rattle.ic_answer.proofs.TurnSteps.{told, stays_for_memory}
 use Rattle.ic_answer.proofs.UndoingReplies.{Stands}
-use Rattle.ic_answer.proofs.UnwindingReplies.{fault_known, tells_not_standing, unwinds, unwind_doesnt_fit}
+use Rattle.ic_answer.proofs.UnwindingReplies.{fault_known, tells_not_standing, unwinds, unwind_doesnt_fit, undoes_or_refused}
 use Rattle.ic_answer.proofs.unwinding.undo_with_dependents.Goals as goal
 
 pub returns-in_default-clause-turns : goal.returns-in_default-clause-turns
 returns-in_default-clause-turns g c = told c.args.bench.now (Unwind c.args.event.now) (refusal_text refused.NotStanding) (tells_not_standing c.args.bench.now c.args.event.now c.in_default.ensures.absent)
 
-pub returns-in_ok-unwound_text-in-Ok-clause-turns : goal.returns-in_ok-unwound_text-in-Ok-clause-turns
-returns-in_ok-unwound_text-in-Ok-clause-turns g c =
+pub returns-in-Ok-clause-turns : goal.returns-in-Ok-clause-turns
+returns-in-Ok-clause-turns g c =
     let x = c.in-Some.ensures.found in
     let stands : Stands c.args.bench.now c.in-Some.id c.args.event.now x.0 = record { there = x.1; under = x.2; name = x.3 } in
-    let text = c.in_ok-unwound_text-in-Ok.ensures ∙ ap (λ names. codes "unwound " ++ decimal (length names) ++ codes "\n" ++ flat_map (pair_line []) names) c.deref.ensures.value in
-    unwinds c.args.bench.now c.unwind-unwound.new.bench c.lawful.ensures c.lawful-2.ensures c.in-Some.id c.args.event.now x.0 c.in-Ok.names.items c.in_ok-unwound_text-in-Ok.field-0.items
-    stands c.in-Ok.ensures.unwound text
+    let did = c.in-Ok.ensures.unwound in
+    let known = codes "unwound " ++ decimal (length c.in-Ok.names.items) ++ codes "\n" ++ flat_map (pair_line []) c.in-Ok.names.items in
+    undoes_or_refused c.args.bench.now c.unwind-unwound.new.bench (Unwind c.args.event.now) did.undone known c.unwound_text.result c.text_or_refused.result c.lawful-2.ensures tt did.did
+    (unwinds c.args.bench.now c.unwind-unwound.new.bench c.lawful.ensures c.lawful-2.ensures c.in-Some.id c.args.event.now x.0 c.in-Ok.names.items known stands did refl)
+    (rw c.deref.ensures.value at c.unwound_text.ensures) c.text_or_refused.ensures.text (rw c.lines-lines.ensures at c.text_or_refused.ensures.refused)
 
 pub returns-in-Err-NotStanding-clause-turns : goal.returns-in-Err-NotStanding-clause-turns
 returns-in-Err-NotStanding-clause-turns g c =

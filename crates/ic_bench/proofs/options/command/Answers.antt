@@ -11,4 +11,5 @@ returns-clause-plain c =
     let none : args_of c.after_help.result ≡ [] = search rules in
     let bare : IsPlain c.after_help.result = (subst (All IsPlainArg) (sym none) (All-nil IsPlainArg), search rules) in
     let one = added_plain c.after_help.result c.in_ok-arg.field-0 c.workers_argument.result c.in_ok-arg.ensures bare c.workers_argument.ensures.plain.0 in
-    IfOk-weaker c.arg-2.result _ _ (λ command added. added_plain c.in_ok-arg.field-0 command c.budget_argument.result added one c.budget_argument.ensures.plain.0) c.arg-2.ensures
+    let two = added_plain c.in_ok-arg.field-0 c.in_ok-arg-2.field-0 c.budget_argument.result c.in_ok-arg-2.ensures one c.budget_argument.ensures.plain.0 in
+    IfOk-weaker c.arg-3.result _ _ (λ command added. added_plain c.in_ok-arg-2.field-0 command c.explain_argument.result added two c.explain_argument.ensures.plain.0) c.arg-3.ensures

@@ -1,4 +1,4 @@
-use Rattle.std.proofs.Common.{◌≡◌, ◌+◌, length, refl, sym, ap, ◌∙◌, arith}
+use Rattle.std.proofs.Common.{length, refl, sym, ap, ◌∙◌, arith}
 use Rattle.ic_shared.specs.Agrees.{other_start}
 use Rattle.ic_shared.specs.Settles.{lengths}
 use Rattle.ic_shared.proofs.Agreeing.{agrees, false_at, line_false_at, put_back}

@@ -1,7 +1,7 @@
-use Rattle.std.proofs.Common.{rules, ◌≡◌, ◌+◌, ◌≤◌, List, [], All, Some, length, ap, sym, subst, ◌∙◌, arith}
+use Rattle.std.proofs.Common.{rules, ◌≡◌, List, [], All, Some, length, ap, sym, subst, ◌∙◌, arith}
 use Rattle.std.proofs.lemmas.List.Elements.{All-pop, All-push}
 use Rattle.ic_shared.specs.declared.receipts.Receipt.{Receipt}
-use Rattle.ic_work.specs.Workers.{AreFires, IsFree, IsGuest}
+use Rattle.ic_work.specs.Workers.{IsGuest}
 use Rattle.ic_work.specs.declared.worker.Worker.{Worker}
 use Rattle.ic_work.proofs.Unused.{unused_fires}
 use Rattle.ic_work.proofs.sweeping.split_off_others.Goals as goal

@@ -1,9 +1,16 @@
-use Rattle.std.proofs.Common.{refl}
-use Rattle.ic_work.proofs.Passes.{one_fired}
+use Rattle.std.proofs.Common.{sym}
+use Rattle.ic_work.proofs.Hands.{stays, then_stays}
+use Rattle.ic_work.proofs.Passes.{may_fire}
 use Rattle.ic_work.proofs.worker.Worker.fire.Goals as goal
 
-pub returns-in-Ok-clause-pass : goal.returns-in-Ok-clause-pass
-returns-in-Ok-clause-pass g c = one_fired _ _ _ _ c.fire_then-fired.ensures.fires
+pub shape_of-self : goal.shape_of-self
+shape_of-self g c = sym (then_stays (stays c.fire_run-ran.ensures.run) c.let_go.ensures.stays).same_seat
 
-pub returns : goal.returns
-returns g c = record { seat = refl; pass = one_fired _ _ _ _ c.fire_then-fired.ensures.fires }
+pub shape_of-self-2 : goal.shape_of-self-2
+shape_of-self-2 g c = sym (then_stays (stays c.fire_run-ran.ensures.run) c.let_go.ensures.stays).same_hints
+
+pub returns-clause-seat : goal.returns-clause-seat
+returns-clause-seat g c = (then_stays (stays c.fire_run-ran.ensures.run) c.let_go.ensures.stays).seat
+
+pub returns-clause-pass : goal.returns-clause-pass
+returns-clause-pass g c = may_fire c.fire_run-ran.ensures.run

@@ -1,0 +1,44 @@
+-- The question that words ask, told by the first of them.
+use Rattle.std.proofs.Common.{◌≡◌, ℕ, Bool, true, false, List, [], ◌∷◌, ◌||◌, sym, ap, subst}
+use Rattle.std.specs.Prelude.{codes, Option, Some, None}
+use Rattle.std.specs.Str.{bytes_eq}
+use Rattle.ic_name.specs.Events.{Pair}
+use Rattle.ic_command.specs.declared.question.Question.{Question}
+use Rattle.ic_command.specs.declared.question.Question.TheVariants.{Dependents}
+use Rattle.ic_command.specs.Commands.{AreAgents, IsEventIn}
+use Rattle.ic_command.specs.Questions.{AreQuestionWords, AsksQuestion, agents, history, marks, rules, help, step, dependents}
+
+-- a word that asks a question by itself
+abbrev pub is_plain_question : List ℕ → Bool
+is_plain_question w = (bytes_eq w (codes "agents") || bytes_eq w (codes "history")) || ((bytes_eq w (codes "marks") || bytes_eq w (codes "rules")) || (bytes_eq w (codes "help") || bytes_eq w (codes "step")))
+
+-- a word that begins a question, with what may stand behind it
+data Begins (w : List ℕ) (rest : List (List ℕ)) (q : Question) : Type 0 where
+  plain : is_plain_question w ≡ true → rest ≡ [] → Begins w rest q
+  paired : {e : Pair} → bytes_eq w (codes "dependents") ≡ true → AreAgents rest e → Begins w rest q
+
+-- words that ask a question begin with such a word
+begins : (w : List ℕ) (rest ws : List (List ℕ)) (q : Question) → AsksQuestion ws q → ws ≡ w ∷ rest → Begins w rest q
+begins w rest ws q agents e = let same : codes "agents" ≡ w = cc in plain (sym (ap is_plain_question same)) cc
+begins w rest ws q history e = let same : codes "history" ≡ w = cc in plain (sym (ap is_plain_question same)) cc
+begins w rest ws q marks e = let same : codes "marks" ≡ w = cc in plain (sym (ap is_plain_question same)) cc
+begins w rest ws q rules e = let same : codes "rules" ≡ w = cc in plain (sym (ap is_plain_question same)) cc
+begins w rest ws q help e = let same : codes "help" ≡ w = cc in plain (sym (ap is_plain_question same)) cc
+begins w rest ws q step e = let same : codes "step" ≡ w = cc in plain (sym (ap is_plain_question same)) cc
+begins w rest ws q (dependents {ws = vs} {e = p} a) e =
+    let same : codes "dependents" ≡ w = cc in
+    let behind : vs ≡ rest = cc in
+    paired (sym (ap (λ v. bytes_eq v (codes "dependents")) same)) (subst (λ us. AreAgents us p) behind a)
+
+-- an event's dependents are asked for
+pub asks_dependents : (w : List ℕ) (rest ws : List (List ℕ)) (o : Option Pair) (p : Pair) → ws ≡ w ∷ rest → w ≡ codes "dependents" → IsEventIn rest o → o ≡ Some p → AreQuestionWords ws (Some (Dependents p))
+asks_dependents w rest ws o p e same is some =
+    let whole : codes "dependents" ∷ rest ≡ ws = cc in
+    subst (λ us. AsksQuestion us (Dependents p)) whole (dependents (subst (IsEventIn rest) some is))
+
+-- and where the words name no event, nothing is
+pub asks_no_dependents : (w : List ℕ) (rest ws : List (List ℕ)) (o : Option Pair) → ws ≡ w ∷ rest → w ≡ codes "dependents" → IsEventIn rest o → o ≡ None → AreQuestionWords ws None
+asks_no_dependents w rest ws o e same is none q a =
+    let not_plain : is_plain_question w ≡ false = ap is_plain_question same in
+    let names_none : (p : Pair) → AreAgents rest p → ⊥ = subst (IsEventIn rest) none is in
+    elim (begins w rest ws q a e) [ plain h _ ↦ absurd cc | paired {e = p} _ named ↦ names_none p named ]

@@ -1,0 +1,15 @@
+use Rattle.std.specs.Prelude.{codes}
+use Rattle.ic_command.specs.Words.{words}
+use Rattle.ic_command.proofs.WordsAsked.{is_text}
+use Rattle.ic_command.proofs.WordsQuestioned.{asks_dependents, asks_no_dependents}
+use Rattle.ic_command.proofs.question.question_in.Goals as goal
+
+pub returns-in-Some-2 : goal.returns-in-Some-2
+returns-in-Some-2 c =
+    let word = is_text c.in-Some.word.now c.as_slice.result.now (codes "dependents") c.eq.result c.eq.ensures c.as_slice.ensures c.if-eq.true in
+    asks_dependents c.in-Some.word.now (words c.in-Some.behind.now) (words c.args.body.now) c.in_ok-event.field-0 c.in-Some-2.event c.in-Some.ensures word c.in_ok-event.ensures c.in-Some-2.is
+
+pub returns-in-None : goal.returns-in-None
+returns-in-None c =
+    let word = is_text c.in-Some.word.now c.as_slice.result.now (codes "dependents") c.eq.result c.eq.ensures c.as_slice.ensures c.if-eq.true in
+    asks_no_dependents c.in-Some.word.now (words c.in-Some.behind.now) (words c.args.body.now) c.in_ok-event.field-0 c.in-Some.ensures word c.in_ok-event.ensures c.in-None.is

@@ -1,0 +1,20 @@
+/// What can be asked for in a session that explains itself, a line each.
+pub const HELP: &str = "net: print the net
+agents: tell which printed line is which agent's
+active: list the active pairs
+fire A B: fire the active pair of the agents A and B, such as fire 0 1
+step: fire the active pair with the least lead
+reduce N: fire up to N active pairs
+undo A B: undo the event of A and B, if no other rests on it
+unwind A B: undo the event of A and B and all that rests on it
+undo-all: undo all events
+why A B: tell the rank and the direct causes of an event
+dependents A B: list what unwind would undo
+journal: list the events that stand
+history: list all calls so far, with what was answered
+mark NAME: note which events stand
+marks: list the marks
+back NAME: go back to the events that were noted
+absorb K: fire the events that the next K lines list
+rules: tell what a firing does
+";

@@ -1,0 +1,81 @@
+ghost use Rattle.std.specs.Prelude.{[], ◌∷◌, IfOk};
+ghost use Rattle.ic_command.specs.Questions.{AreQuestionWords, IsQuestionIn};
+ghost use Rattle.ic_command.specs.Words.{words};
+
+use crate::command::{event_in, is_well_formed, without_return};
+use crate::words::next_word;
+use ic_name::EventName;
+use std::alloc::{AllocError, Global};
+
+/// What a line of a session that explains itself may ask beside the requests of any session. But for `Step`, nothing
+/// changes by it.
+#[derive(Drop)]
+pub enum Question {
+    /// Which line of the printed net is which agent's.
+    Agents,
+    /// What rests on an event.
+    Dependents(EventName),
+    /// All calls so far, with what was answered.
+    History,
+    /// The marks, and how many events each has.
+    Marks,
+    /// What a firing does.
+    Rules,
+    /// What can be asked for.
+    Help,
+    /// To fire the active pair with the least lead.
+    Step,
+}
+
+/// The question of a line without its line feed; `None` where it asks none. An error where there is no memory for the
+/// names in it.
+pub fn question_of(alloc: Global, line: &[u8]) -> Result<Option<Question>, AllocError>
+    ensures { IfOk result (λ question. IsQuestionIn line.now question) }
+{
+    let body = without_return(line);
+    if is_well_formed(body) {
+        question_in(alloc, body)
+    } else {
+        Ok(None)
+    }
+}
+
+/// The question that the words of a line ask; `None` where they ask none.
+fn question_in(alloc: Global, body: &[u8]) -> Result<Option<Question>, AllocError>
+    ensures { IfOk result (λ question. AreQuestionWords (words body.now) question) }
+{
+    let Some((word, behind)) = next_word(body) else {
+        return Ok(None);
+    };
+    if word == b"dependents".as_slice() {
+        return match event_in(alloc, behind)? {
+            Some(event) => Ok(Some(Question::Dependents(event))),
+            None => Ok(None),
+        };
+    }
+    if next_word(behind).is_some() {
+        return Ok(None);
+    }
+    Ok(plain_question(word))
+}
+
+/// The question that a word asks alone.
+fn plain_question(word: &[u8]) -> Option<Question>
+    ensures { AreQuestionWords (word.now ∷ []) result }
+{
+    if word == b"agents".as_slice() {
+        Some(Question::Agents)
+    } else if word == b"history".as_slice() {
+        Some(Question::History)
+    } else if word == b"marks".as_slice() {
+        Some(Question::Marks)
+    } else if word == b"rules".as_slice() {
+        Some(Question::Rules)
+    } else if word == b"help".as_slice() {
+        Some(Question::Help)
+    } else if word == b"step".as_slice() {
+        Some(Question::Step)
+    } else {
+        None
+    }
+}

@@ -1,0 +1,69 @@
+ghost use Rattle.std.specs.Prelude.{◌≡◌, ◌++◌, IfOk, OnOk, map};
+ghost use Rattle.ic_answer.specs.Texts.{answer_text};
+ghost use Rattle.ic_command.specs.declared.question.Question.TheVariants.{Step};
+ghost use Rattle.ic_desk.specs.Questions.{Told, mark_line, marks_text};
+ghost use Rattle.ic_desk.specs.Views.{note_of};
+
+use crate::desk::Desk;
+use crate::named_mark::NamedMark;
+use ic_answer::{Answer, RULES, Refused, tell_agents, tell_dependents, tell_history};
+use ic_command::{Command, HELP, Question, Request};
+use ic_journal::LinkStore;
+use std::alloc::{AllocError, Global};
+
+impl<L: LinkStore> Desk<L> {
+    /// Answers a question. Nothing changes by it but for a step, which fires the active pair with the least lead as `fire`
+    /// does. Where there is no memory for it, the answer is a refusal, and then nothing has changed; an error where there is
+    /// no memory for the answer to what has changed the desk.
+    pub fn tell(&mut self, alloc: Global, question: Question) -> Result<Answer, AllocError>
+        ensures { IfOk result (λ answer. Told self.old question (answer_text answer) self.new) }
+    {
+        match question {
+            Question::Agents => Ok(Answer::text_or_memory(tell_agents(alloc, &self.bench))),
+            Question::Dependents(event) => Ok(Answer::answer_or_memory(tell_dependents(
+                alloc,
+                &self.bench,
+                &event,
+            ))),
+            Question::History => Ok(Answer::text_or_memory(tell_history(alloc, &self.bench))),
+            Question::Marks => Ok(Answer::text_or_memory(marks_text(alloc, &self.marks))),
+            Question::Rules => Ok(Answer::text_or_memory(Vec::from_slice(alloc, RULES.as_bytes()))),
+            Question::Help => Ok(Answer::text_or_memory(Vec::from_slice(alloc, HELP.as_bytes()))),
+            Question::Step => self.step(alloc),
+        }
+    }
+
+    /// Fires the active pair with the least lead, as `fire` does with its name.
+    fn step(&mut self, alloc: Global) -> Result<Answer, AllocError>
+        ensures { IfOk result (λ answer. Told self.old Step (answer_text answer) self.new) }
+    {
+        self.bench.lawful();
+        let Some(pair) = self.bench.least_active() else {
+            return Ok(Answer::Refused(Refused::NotActive));
+        };
+        let Ok(event) = self.bench.name_of_pair(pair) else {
+            return Ok(Answer::Refused(Refused::Memory));
+        };
+        self.carry_out(alloc, Request::Bench(Command::Fire(event)))
+    }
+}
+
+/// How many marks there are, and the name of each with the number of its events.
+fn marks_text(alloc: Global, marks: &[NamedMark]) -> Result<Vec<u8>, AllocError>
+    ensures { IfOk result (λ text. text.items ≡ marks_text (map note_of marks.now)) }
+{
+    let mut text = format!(in alloc; "marks {}\n", marks.len())?.into_bytes();
+    for mark in marks {
+        push_mark(alloc, &mut text, mark)?;
+    }
+    Ok(text)
+}
+
+/// Puts the line of a mark at the end.
+fn push_mark(alloc: Global, text: &mut Vec<u8>, named: &NamedMark) -> Result<(), AllocError>
+    ensures { OnOk result (text.new.items ≡ text.old.items ++ mark_line (note_of named.now)) }
+{
+    text.extend_from_slice(named.name().bytes())?;
+    let count = format!(in alloc; " {}\n", named.mark().len())?;
+    text.extend_from_slice(count.as_bytes())
+}

@@ -1,0 +1,10 @@
+use Rattle.std.proofs.Common.{◌≡◌, ◌++◌, map, take}
+use Rattle.std.specs.List.{flat_map}
+use Rattle.ic_print.specs.Lines.{texts}
+use Rattle.ic_print.specs.AgentsText.{named_line}
+use Rattle.ic_print.specs.Sheets.{wires_in}
+use Rattle.ic_net.specs.Views.{shown_agent}
+use Rattle.ic_print.proofs.agents.put_named.Given as goal
+
+abbrev pub invariant-loop-agent : goal.invariant-loop-agent
+invariant-loop-agent l = l.out.items ≡ l.fn.out.items ++ flat_map (named_line (texts l.names) (wires_in l.sheet)) (map shown_agent (take l.agent-index l.sheet.agents.now))

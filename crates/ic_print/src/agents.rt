@@ -1,0 +1,55 @@
+ghost use Rattle.std.specs.Prelude.{◌≡◌, ◌++◌, ◌+◌, map, length, IfOk, OnOk, All};
+ghost use Rattle.std.specs.List.{flat_map};
+ghost use Rattle.ic_name.specs.Kinds.{arity};
+ghost use Rattle.ic_net.specs.Views.{shown_agent};
+ghost use Rattle.ic_print.specs.AgentsText.{agents_text, named_line};
+ghost use Rattle.ic_print.specs.Lines.{texts};
+ghost use Rattle.ic_print.specs.Sheets.{wires_in};
+
+use crate::numbered::NumberedAgents;
+use crate::put::put_line;
+use ic_net::{AgentView, Net};
+use std::alloc::{AllocError, Global};
+
+/// Which line of the printed net is which agent's: how many agents there are, and in order of their names the line of each
+/// behind its name.
+pub fn print_agents(alloc: Global, net: &Net, names: &[Vec<u8>]) -> Result<Vec<u8>, AllocError>
+    ensures { IfOk result (λ text. text.items ≡ agents_text (texts names.now) net.now) }
+{
+    net.lawful();
+    let agents = net.agent_views(alloc)?;
+    let numbered = NumberedAgents::new(alloc, agents.as_slice())?;
+    let mut out = format!(in alloc; "agents {}\n", agents.len())?.into_bytes();
+    put_named(&mut out, &numbered, names)?;
+    Ok(out)
+}
+
+/// Writes the line of each agent behind its name.
+fn put_named(
+    out: &mut Vec<u8>,
+    sheet: &NumberedAgents<'_>,
+    names: &[Vec<u8>],
+) -> Result<(), AllocError>
+    requires { All (λ a. length a.partners ≡ arity a.kind + 1) (map shown_agent sheet.now.agents.now) }
+    ensures { OnOk result (out.new.items ≡ out.old.items ++ flat_map (named_line (texts names.now) (wires_in sheet.now)) (map shown_agent sheet.now.agents.now)) }
+{
+    for agent in sheet.agents() {
+        put_named_line(out, sheet, names, agent)?;
+    }
+    Ok(())
+}
+
+/// Writes an agent's line behind its name.
+fn put_named_line<'a>(
+    out: &mut Vec<u8>,
+    sheet: &NumberedAgents<'a>,
+    names: &[Vec<u8>],
+    agent: &AgentView<'a>,
+) -> Result<(), AllocError>
+    requires { length agent.now.partners.now ≡ arity agent.now.kind + 1 }
+    ensures { OnOk result (out.new.items ≡ out.old.items ++ named_line (texts names.now) (wires_in sheet.now) (shown_agent agent.now)) }
+{
+    agent.name.write_to(out)?;
+    out.push(b' ')?;
+    put_line(out, sheet, names, agent)
+}

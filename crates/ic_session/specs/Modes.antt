@@ -1,0 +1,51 @@
+-- How a session is run, what its lines ask for then, and what is answered.
+use Rattle.std.specs.Prelude.{◌≡◌, ℕ, Bool, true, false, List, ◌∷◌, Option, Some, None, [], IsSomeAnd}
+use Rattle.ic_theory.specs.Starts.{Start}
+use Rattle.ic_command.specs.declared.question.Question.{Question}
+use Rattle.ic_command.specs.declared.request.Request.{Request}
+use Rattle.ic_command.specs.Questions.{IsQuestion}
+use Rattle.ic_command.specs.Requests.{within}
+use Rattle.ic_desk.specs.Desks.{State}
+use Rattle.ic_desk.specs.ManyWorkers.{RepliesWith}
+use Rattle.ic_desk.specs.Questions.{Tells}
+use Rattle.ic_desk.specs.Views.{DeskView, IsDeskAt}
+use Rattle.ic_session.specs.declared.demand.Demand.{Demand}
+use Rattle.ic_session.specs.declared.demand.Demand.TheVariants as demand
+use Rattle.ic_session.specs.declared.mode.Mode.{Mode}
+use Rattle.ic_session.specs.InputLines.{TextLine, lines}
+use Rattle.ic_session.specs.NextRequest.{Takes}
+
+-- a session of so many workers and this budget that only answers
+abbrev pub plain : ℕ → ℕ → Mode
+plain workers budget = record { workers = workers; budget = budget; explains = false }
+
+-- and one that explains itself
+abbrev pub explaining : ℕ → ℕ → Mode
+explaining workers budget = record { workers = workers; budget = budget; explains = true }
+
+-- What the first of these lines asks for, with the lines that it takes behind it, and the lines that are left: a question
+-- where the session explains itself and the line asks one, and else a request.
+pub data TakesDemand (m : Mode) : List TextLine → Demand → List TextLine → Type 0 where
+  asks : {line : TextLine} {ls : List TextLine} {q : Question} → m.explains ≡ true → IsQuestion line.bytes q → TakesDemand m (line ∷ ls) (demand.Asks q) ls
+  requests : {line : TextLine} {ls left : List TextLine} {r : Request} → (m.explains ≡ true → (q : Question) → ¬ (IsQuestion line.bytes q)) → Takes (line ∷ ls) r left
+      → TakesDemand m (line ∷ ls) (demand.Requests r) left
+
+-- the question of a line in such a session, if it asks one
+abbrev pub IsQuestionAt : Mode → List ℕ → Option Question → Type 0
+IsQuestionAt m line (Some q) = (m.explains ≡ true) × IsQuestion line q
+IsQuestionAt m line None = m.explains ≡ true → (q : Question) → ¬ (IsQuestion line q)
+
+-- the next demand was taken, and the lines behind it are left; or nothing was left
+abbrev pub TakesNext : Mode → Option Demand → List ℕ → Option (List ℕ) → Type 0
+TakesNext m (Some d) old new = IsSomeAnd new (λ left. TakesDemand m (lines old) d (lines left))
+TakesNext m None old new = old ≡ []
+
+-- the answer to a demand, and the state after it
+pub data Gives (m : Mode) (s : Start) (st : State) : Demand → List ℕ → State → Type 0 where
+  replied : {r : Request} {text : List ℕ} {next : State} → RepliesWith m.workers s st (within m.budget r) text next → Gives m s st (demand.Requests r) text next
+  told : {q : Question} {text : List ℕ} {next : State} → Tells s st q text next → Gives m s st (demand.Asks q) text next
+
+-- the answer to a demand, and the desk after it
+pub record TurnsIn (m : Mode) (old : DeskView) (d : Demand) (text : List ℕ) (new : DeskView) : Type 0 where
+  pub start : new.bench.start ≡ old.bench.start
+  pub gives : (st : State) → IsDeskAt old st → (next : State) × Gives m old.bench.start st d text next × IsDeskAt new next

@@ -1,0 +1,67 @@
+ghost use Rattle.std.specs.Prelude.{◌≤◌, IfSome};
+
+use crate::topics::Topic;
+
+/// What was wrong with a request that was answered so, and what would be right; `None` where it wasn't refused.
+pub(crate) fn advice(topic: Topic, answer: &[u8]) -> Option<&'static str> {
+    match number_of(answer)? {
+        21 => Some(
+            "the two agents aren't both there with their principal ports joined; active lists the pairs that can fire",
+        ),
+        22 => Some(
+            "the names of the children would have more than 16383 digits; nothing below these agents can be fired",
+        ),
+        23 => Some(
+            "there would be more than 262144 agents, with those that standing events have consumed; undo events first",
+        ),
+        24 => Some(
+            "the history has no room for the calls, of which it holds 1048576; begin the session anew",
+        ),
+        25 => Some("there is no memory for it; what the answer tells is all that was done"),
+        31 => Some("no event of these agents stands; journal lists those that do"),
+        32 => Some(
+            "the event that the answer names rests on it; undo that one first, or unwind this one with all that rests on it",
+        ),
+        40 => Some(expected(topic)),
+        41 => Some("no mark has this name; marks lists those that there are"),
+        42 => Some("there are 256 marks; only the name of one of them can be marked again"),
+        51 => Some(
+            "the event that the answer names can't come to stand with what stands and what is listed",
+        ),
+        _ => None,
+    }
+}
+
+/// What is expected of a line about this.
+fn expected(topic: Topic) -> &'static str {
+    match topic {
+        Topic::Alone => "nothing may stand behind the first word",
+        Topic::Pair =>
+            "expected behind the first word are the names of two different agents, such as 0 and 0.2",
+        Topic::Number =>
+            "expected behind reduce is a number from 0 to 1048576, without leading zeros",
+        Topic::Mark =>
+            "expected behind the first word is a name: a small letter or _, then small letters, digits and _, at most 32 bytes",
+        Topic::List =>
+            "expected behind absorb is a number from 0 to 131072, and then as many lines, each with the names of two agents",
+        Topic::Unknown => "no command begins so; help lists those that there are, in small letters",
+    }
+}
+
+/// The number of a refusal; `None` where the answer is none.
+fn number_of(answer: &[u8]) -> Option<u8> {
+    let rest = answer.strip_prefix(b"refused ")?;
+    let tens = digit_of(*rest.first()?)?;
+    let ones = digit_of(*rest.get(1)?)?;
+    Some(10 * tens + ones)
+}
+
+/// The value of a decimal digit.
+fn digit_of(byte: u8) -> Option<u8>
+    ensures { IfSome result (λ digit. digit ≤ 9) }
+{
+    match byte {
+        b'0'..=b'9' => Some(byte - b'0'),
+        _ => None,
+    }
+}

@@ -1,0 +1,10 @@
+/// How a session is run.
+#[derive(Clone, Copy, Debug, PartialEq, Eq)]
+pub struct Mode {
+    /// The workers of a `reduce`.
+    pub workers: u8,
+    /// The events that a `reduce` fires, at most.
+    pub budget: u32,
+    /// Whether the session answers questions, and says on a second writer what was wrong with what it refused.
+    pub explains: bool,
+}

@@ -1,0 +1,88 @@
+ghost use Rattle.std.specs.Prelude.{◌<◌, ◌≤◌, Bool, IfErr, IfOk, IfSome, IsSome, IsSomeAnd, OnOk, ◌∷◌};
+ghost use Rattle.ic_lines.specs.Left.{left, work};
+ghost use Rattle.ic_lines.specs.Faults.{IsReadFault};
+ghost use Rattle.ic_session.specs.InputLines.{lines};
+ghost use Rattle.ic_session.specs.Modes.{IsQuestionAt, TakesNext};
+ghost use Rattle.ic_session.specs.NextRequest.{Takes};
+
+use crate::demand::Demand;
+use crate::listed_events::listed_events;
+use crate::mode::Mode;
+use crate::place::Place;
+use crate::taken_line::take_line;
+use ic_command::{Asked, Command, Question, Request, asked_of, question_of};
+use ic_lines::{Input, IoFault, Piece};
+use std::alloc::{AllocError, Global};
+use std::io::Read;
+
+/// What the next line asks for, with the lines behind it that it takes; `None` where the input has ended. `line` is room
+/// for a line, and `place` goes along.
+pub(crate) fn next_demand<R: Read>(
+    alloc: Global,
+    input: &mut Input,
+    reader: &mut R,
+    line: &mut Vec<u8>,
+    place: &mut Place,
+    mode: Mode,
+) -> Result<Option<Demand>, IoFault>
+    ensures taken { IfOk result (λ demand. IfSome (left input.old (R.remaining reader.old))
+        (λ bytes. TakesNext mode demand bytes (left input.new (R.remaining reader.new)))) }
+    ensures less { IfOk result (λ demand. IsSome demand → work input.new < work input.old) }
+    ensures fewer { input.new.reads ≤ input.old.reads }
+    ensures fault { IfErr result (IsReadFault input.old.reads input.new.reads) }
+{
+    match take_line(input, reader, line)? {
+        Piece::Line(_) => {
+            place.enter(line);
+            match question_at(alloc, line, mode)? {
+                Some(question) => Ok(Some(Demand::Asks(question))),
+                None => {
+                    let request = request_at(alloc, input, reader, line, place)?;
+                    Ok(Some(Demand::Requests(request)))
+                }
+            }
+        }
+        Piece::TooLong => {
+            place.enter(&[]);
+            Ok(Some(Demand::Requests(Request::Bench(Command::Malformed))))
+        }
+        Piece::End => Ok(None),
+    }
+}
+
+/// The question of a line, if it asks one in a session of this mode.
+fn question_at(alloc: Global, line: &[u8], mode: Mode) -> Result<Option<Question>, AllocError>
+    ensures { IfOk result (λ question. IsQuestionAt mode line.now question) }
+{
+    if mode.explains {
+        question_of(alloc, line)
+    } else {
+        Ok(None)
+    }
+}
+
+/// The request of a line that was taken, with the lines behind it that it takes.
+fn request_at<R: Read>(
+    alloc: Global,
+    input: &mut Input,
+    reader: &mut R,
+    line: &mut Vec<u8>,
+    place: &mut Place,
+) -> Result<Request, IoFault>
+    ensures taken { IfOk result (λ request. IfSome (left input.old (R.remaining reader.old))
+        (λ bytes. IsSomeAnd (left input.new (R.remaining reader.new)) (λ rest. (ended : Bool) → Takes (record { bytes = line.old.items; ended = ended } ∷ lines bytes) request (lines rest)))) }
+    ensures less { OnOk result (work input.new ≤ work input.old) }
+    ensures fewer { input.new.reads ≤ input.old.reads }
+    ensures fault { IfErr result (IsReadFault input.old.reads input.new.reads) }
+{
+    match asked_of(alloc, line)? {
+        Asked::Alone(request) => Ok(request),
+        Asked::Absorb(count) => {
+            place.pass(count);
+            match listed_events(alloc, input, reader, line, count)? {
+                Some(events) => Ok(Request::Absorb(events)),
+                None => Ok(Request::Bench(Command::Malformed)),
+            }
+        }
+    }
+}

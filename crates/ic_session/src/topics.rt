@@ -1,0 +1,54 @@
+use ic_command::words::next_word;
+
+/// What a line is about, by its first word.
+#[derive(Clone, Copy, Debug, PartialEq, Eq)]
+pub(crate) enum Topic {
+    /// What stands alone.
+    Alone,
+    /// What has the names of two agents behind it.
+    Pair,
+    /// What has a number behind it.
+    Number,
+    /// What has the name of a mark behind it.
+    Mark,
+    /// What has the number of lines behind it, and these lines.
+    List,
+    /// No word that anything begins with.
+    Unknown,
+}
+
+/// The words that stand alone.
+const ALONE: [&str; 10] = [
+    "net", "active", "journal", "undo-all", "agents", "history", "marks", "rules", "help", "step",
+];
+
+/// The words that have the names of two agents behind them.
+const PAIRED: [&str; 5] = ["fire", "undo", "why", "unwind", "dependents"];
+
+/// The words that have the name of a mark behind them.
+const MARKED: [&str; 2] = ["mark", "back"];
+
+/// What a line is about.
+pub(crate) fn topic_of(line: &[u8]) -> Topic {
+    let Some((word, _)) = next_word(line) else {
+        return Topic::Unknown;
+    };
+    if is_among(word, &ALONE) {
+        Topic::Alone
+    } else if is_among(word, &PAIRED) {
+        Topic::Pair
+    } else if is_among(word, &MARKED) {
+        Topic::Mark
+    } else if word == b"reduce".as_slice() {
+        Topic::Number
+    } else if word == b"absorb".as_slice() {
+        Topic::List
+    } else {
+        Topic::Unknown
+    }
+}
+
+/// Whether a word is one of these.
+fn is_among(word: &[u8], words: &[&str]) -> bool {
+    words.iter().any(|other| word == other.as_bytes())
+}

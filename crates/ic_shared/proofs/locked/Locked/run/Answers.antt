@@ -1,0 +1,33 @@
+use Rattle.std.proofs.Common.{Bool, ◌+◌, refl, sym, ◌∙◌, subst, arith}
+use Rattle.ic_shared.specs.Runs.{Runs, begins, fires, chooses_none}
+use Rattle.ic_shared.proofs.locked.Locked.run.Goals as goal
+
+pub loop-calls-init : goal.loop-calls-init
+loop-calls-init g c = (let room = c.requires.room in record { holds = c.requires.holds; run = begins; parts = refl; amount = refl; room = omega arith })
+
+pub returns-in_default-clause-run : goal.returns-in_default-clause-run
+returns-in_default-clause-run g c = chooses_none c.loop-calls.invariant.run c.in_default.ensures.chosen
+
+pub returns-then-is_end-clause-run : goal.returns-then-is_end-clause-run
+returns-then-is_end-clause-run g c =
+    subst (λ (b : Bool). Runs g.C.Chooser.chooses g.C.Chooser.hears c.args.self.now.bench c.args.chooser.now c.args.receipts.now.items c.fire_copied-answer.new.self.bench c.hear.new.self c.fire_copied-answer.new.receipts.items (c.loop-calls.calls + 1) b)
+    (sym c.is_end.ensures ∙ c.if-is_end.true)
+    (fires c.loop-calls.invariant.run c.in-Some.ensures.chosen c.fire_copied-answer.ensures.fires c.hear.ensures.heard)
+
+pub loop-calls-preserved : goal.loop-calls-preserved
+loop-calls-preserved g c =
+    let i = c.loop-calls.invariant in
+    let room = i.room in
+    let one = c.fire_copied-answer.ensures.one in
+    let capacity = c.fire_copied-answer.ensures.room in
+    let amount = i.amount in
+    let more = c.fire_copied-answer.ensures.amount in record {
+      holds = c.hear.ensures.kept;
+      run =
+          subst (λ (b : Bool). Runs g.C.Chooser.chooses g.C.Chooser.hears c.args.self.now.bench c.args.chooser.now c.args.receipts.now.items c.fire_copied-answer.new.self.bench c.hear.new.self c.fire_copied-answer.new.receipts.items (c.loop-calls.calls + 1) b)
+          (sym c.is_end.ensures ∙ c.if-is_end.false)
+          (fires i.run c.in-Some.ensures.chosen c.fire_copied-answer.ensures.fires c.hear.ensures.heard);
+      parts = c.fire_copied-answer.ensures.parts ∙ i.parts;
+      amount = omega arith;
+      room = omega arith;
+    }

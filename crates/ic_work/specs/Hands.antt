@@ -1,0 +1,11 @@
+-- What a worker has in hand.
+use Rattle.std.specs.Prelude.{◌≡◌}
+use Rattle.ic_work.specs.declared.hand.Hand.{Hand}
+use Rattle.ic_work.specs.Workers.{Keeps}
+
+-- the hand is of the same worker, at the same claims, and the seat has its tickets still
+pub record Stays (old new : Hand) : Type 0 where
+  pub claims : new.claims.now ≡ old.claims.now
+  pub same_seat : new.seat.ghost_name ≡ old.seat.ghost_name
+  pub same_hints : new.hints.ghost_name ≡ old.hints.ghost_name
+  pub seat : Keeps old.seat.now new.seat.now

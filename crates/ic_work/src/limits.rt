@@ -1,0 +1,2 @@
+/// How many events a worker fires under one lock, at most.
+pub(crate) const MOST: usize = 64;
