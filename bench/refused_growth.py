@@ -16,10 +16,10 @@ import sys
 CRATES = pathlib.Path(__file__).resolve().parent.parent / "crates"
 
 # The modules whose tests pass whichever allocation is refused, by crate: links of the fast store; calls of desks over both
-# stores, and sessions of one and two workers; firings of a shared bench.
+# stores, sessions of one and two workers, and undos with room; firings of a shared bench.
 MODULES = {
     "ic_test_nets": ["growth"],
-    "ic_test_sessions": ["refused_growth", "repeated_lines"],
+    "ic_test_sessions": ["refused_growth", "repeated_lines", "undos_with_room"],
     "ic_test_threads": ["refused_growth"],
 }
 

@@ -15,7 +15,7 @@ use crate::named_mark::NamedMark;
 use ic_answer::{Answer, Refused, carry_out, end_text, text_or_refused};
 use ic_command::{Command, Request};
 use ic_journal::{Bench, LinkStore, Store};
-use ic_reduce::NoGate;
+use ic_reduce::Gate;
 use ic_start::Start;
 use ic_work::{MAX_BUDGET, MAX_WORKERS, SweepFault, sweep};
 use std::alloc::{AllocError, Global};
@@ -78,17 +78,18 @@ impl<L: LinkStore> Desk<L> {
 }
 
 impl Desk<Store> {
-    /// Answers a request as `carry_out` does, but that a `reduce` by two workers or more, of 64 at most, is a sweep; the
-    /// desk comes back with the answer.
+    /// Answers a request as `carry_out` does, but that a `reduce` by two workers or more, of 64 at most, is a sweep, each
+    /// commit of which the gate sees; the desk comes back with the answer.
     ///
     /// `DeskFault::Memory` where the history has grown and there is no memory for the answer, and `DeskFault::Settle` where
     /// the workers' receipts aren't what the history says, which takes two workers or more; the desk is gone then.
-    pub fn carry_out_with<T: Threads + Wait + Sync>(
+    pub fn carry_out_with<T: Threads + Wait + Sync, G: Gate>(
         mut self,
         threads: &T,
         alloc: Global,
         workers: u32,
         request: Request,
+        gate: &G,
     ) -> Result<(Desk<Store>, Answer), DeskFault>
         requires { (0 < workers) × (workers ≤ MAX_WORKERS) }
         ensures turns { IfOk result (λ r. TurnsWith workers self request (answer_text r.1) r.0) }
@@ -97,7 +98,7 @@ impl Desk<Store> {
         match request {
             Request::Bench(Command::Reduce(most))
                 if 1 < workers && 0 < most && most <= MAX_BUDGET => {
-                self.sweep(threads, alloc, workers, most)
+                self.sweep(threads, alloc, workers, most, gate)
             }
             other => {
                 let answer = self.carry_out(alloc, other)?;
@@ -107,16 +108,17 @@ impl Desk<Store> {
     }
 
     /// Reduces the net by a sweep of so many workers, 2 to 64 of them, of at most so many events, 1 to 1,048,576; the marks
-    /// stay. Where there is no memory for a sweep, the answer says so, and nothing has changed.
+    /// stay. Where there is no memory for a sweep, the answer says so, and nothing has changed. The gate sees each commit.
     ///
     /// `DeskFault::Memory` where the history has grown and there is no memory to tell how many events were fired, and
     /// `DeskFault::Settle` where the workers' receipts aren't what the history says.
-    pub fn sweep<T: Threads + Wait + Sync>(
+    pub fn sweep<T: Threads + Wait + Sync, G: Gate>(
         self,
         threads: &T,
         alloc: Global,
         workers: u32,
         most: u32,
+        gate: &G,
     ) -> Result<(Desk<Store>, Answer), DeskFault>
         requires workers { (1 < workers) × (workers ≤ MAX_WORKERS) }
         requires most { (0 < most) × (most ≤ MAX_BUDGET) }
@@ -124,7 +126,7 @@ impl Desk<Store> {
     {
         let Desk { bench, marks } = self;
         let lines = bench.lines();
-        match sweep(threads, alloc, bench, workers, most, &NoGate) {
+        match sweep(threads, alloc, bench, workers, most, gate) {
             Ok(swept) => {
                 let text = end_text(alloc, swept.fired, swept.end);
                 let bench = swept.bench;

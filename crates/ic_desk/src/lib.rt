@@ -12,4 +12,4 @@ mod texts;
 
 pub use desk::{Desk, MAX_MARKS};
 pub use fault::DeskFault;
-pub use ic_work::{MAX_BUDGET, MAX_WORKERS};
+pub use ic_work::{Gate, MAX_BUDGET, MAX_WORKERS, NoGate};

@@ -25,7 +25,7 @@ use crate::place::Place;
 use crate::refusal::refusal_line;
 use ic_answer::Answer;
 use ic_command::Question;
-use ic_desk::{Desk, DeskFault, MAX_WORKERS};
+use ic_desk::{Desk, DeskFault, MAX_WORKERS, NoGate};
 use ic_grammar::Refusal;
 use ic_journal::Store;
 use ic_lines::{Input, write_reply};
@@ -183,6 +183,7 @@ fn meet<T: Threads + Wait + Sync>(
             alloc,
             u32::from(mode.workers),
             request.within(mode.budget),
+            &NoGate,
         ),
         Demand::Asks(question) => told(alloc, desk, question),
     }

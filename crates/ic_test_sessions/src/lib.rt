@@ -1,4 +1,4 @@
-// Tests of public calls: commands, desks with marks, the faults of a session, and laws.
+//! Tests of public calls: commands, desks with marks, the faults of a session, and laws.
 #![tactic(auto)]
 
 #[cfg(test)]
@@ -10,8 +10,12 @@ mod faults;
 #[cfg(test)]
 mod flushes;
 #[cfg(test)]
+mod gates;
+#[cfg(test)]
 mod laws;
 #[cfg(test)]
 mod refused_growth;
 #[cfg(test)]
 mod repeated_lines;
+#[cfg(test)]
+mod undos_with_room;

@@ -1,0 +1,54 @@
+// A desk whose reductions are sweeps.
+ghost use Rattle.std.specs.Prelude.{◌<◌, ◌≤◌};
+
+use ic_command::{Command, Request};
+use ic_desk::{Desk, Gate};
+use ic_journal::Store;
+use ic_text::read_net;
+use std::alloc::Global;
+use std::sync::Wait;
+use std::sync::atomic::{AtomicU64, Ordering};
+use std::test::Fail;
+use std::thread::Threads;
+
+/// Counts the commits that were made.
+#[derive(Drop)]
+struct Counter {
+    commits: AtomicU64,
+}
+
+impl Gate for Counter {
+    fn before_commit(&self, _worker: usize, _ticket: u64) {}
+
+    fn after_commit(&self, _worker: usize, _ticket: u64) {
+        self.commits.fetch_add(1, Ordering::SeqCst);
+    }
+}
+
+/// How many commits the gate of a desk saw, by so many workers, in a reduction to the normal end, which takes four events;
+/// `None` where it is answered otherwise.
+fn commits<T: Threads + Wait + Sync>(threads: &T, alloc: Global, workers: u32) -> Option<u64>
+    requires { (0 < workers) × (workers ≤ 64) }
+{
+    let gate = Counter {
+        commits: AtomicU64::new(0),
+    };
+    let start = read_net(alloc, b"G(E,a) = D(b,E);\n").ok()?;
+    let desk: Desk<Store> = Desk::over(alloc, start).ok()?;
+    let reduce = Request::Bench(Command::Reduce(100));
+    let (_, answer) = desk
+        .carry_out_with(threads, alloc, workers, reduce, &gate)
+        .ok()?;
+    if answer.bytes() == b"reduced 4 normal\n".as_slice() {
+        Some(gate.commits.load(Ordering::SeqCst))
+    } else {
+        None
+    }
+}
+
+#[test]
+fn many_workers_sweep_and_one_does_not(rt: HostRuntime) -> Result<(), Fail> {
+    assert_eq!(rt; commits(&rt, rt.alloc(), 1), Some(0));
+    assert_eq!(rt; commits(&rt, rt.alloc(), 2), Some(4));
+    Ok(())
+}
