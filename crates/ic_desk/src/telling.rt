@@ -1,4 +1,5 @@
-ghost use Rattle.std.specs.Prelude.{◌≡◌, ◌++◌, IfOk, OnOk, map};
+ghost use Rattle.std.specs.Prelude.{◌≡◌, ◌++◌, IfOk, OnErr, OnOk, map};
+ghost use Rattle.ic_answer.specs.Longer.{HasGrown};
 ghost use Rattle.ic_answer.specs.Texts.{answer_text};
 ghost use Rattle.ic_command.specs.declared.question.Question.TheVariants.{Step};
 ghost use Rattle.ic_desk.specs.Questions.{Told, mark_line, marks_text};
@@ -13,10 +14,11 @@ use std::alloc::{AllocError, Global};
 
 impl<L: LinkStore> Desk<L> {
     /// Answers a question. Nothing changes by it but for a step, which fires the active pair with the least lead as `fire`
-    /// does. Where there is no memory for it, the answer is a refusal, and then nothing has changed; an error where there is
-    /// no memory for the answer to what has changed the desk.
+    /// does. Where there is no memory for it, the answer is a refusal, and then nothing has changed; an error only where the
+    /// history has grown and there is no memory for the answer.
     pub fn tell(&mut self, alloc: Global, question: Question) -> Result<Answer, AllocError>
-        ensures { IfOk result (λ answer. Told self.old question (answer_text answer) self.new) }
+        ensures told { IfOk result (λ answer. Told self.old question (answer_text answer) self.new) }
+        ensures grown { OnErr result (HasGrown self.old.bench self.new.bench) }
     {
         match question {
             Question::Agents => Ok(Answer::text_or_memory(tell_agents(alloc, &self.bench))),
@@ -35,7 +37,8 @@ impl<L: LinkStore> Desk<L> {
 
     /// Fires the active pair with the least lead, as `fire` does with its name.
     fn step(&mut self, alloc: Global) -> Result<Answer, AllocError>
-        ensures { IfOk result (λ answer. Told self.old Step (answer_text answer) self.new) }
+        ensures told { IfOk result (λ answer. Told self.old Step (answer_text answer) self.new) }
+        ensures grown { OnErr result (HasGrown self.old.bench self.new.bench) }
     {
         self.bench.lawful();
         let Some(pair) = self.bench.least_active() else {

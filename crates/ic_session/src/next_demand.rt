@@ -33,7 +33,7 @@ pub(crate) fn next_demand<R: Read>(
 {
     match take_line(input, reader, line)? {
         Piece::Line(_) => {
-            place.enter(line);
+            place.enter(line, mode);
             match question_at(alloc, line, mode)? {
                 Some(question) => Ok(Some(Demand::Asks(question))),
                 None => {
@@ -43,7 +43,7 @@ pub(crate) fn next_demand<R: Read>(
             }
         }
         Piece::TooLong => {
-            place.enter(&[]);
+            place.enter(&[], mode);
             Ok(Some(Demand::Requests(Request::Bench(Command::Malformed))))
         }
         Piece::End => Ok(None),

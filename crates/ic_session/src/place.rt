@@ -1,3 +1,4 @@
+use crate::mode::Mode;
 use crate::topics::{Topic, topic_of};
 
 /// How far a session is in its input: the number of the line that asks for something, counted from 1, what that is about,
@@ -26,11 +27,13 @@ impl Place {
         self.line = self.taken;
     }
 
-    /// At this line.
-    pub(crate) fn enter(&mut self, line: &[u8]) {
+    /// At this line; what it is about is looked for where the session explains itself.
+    pub(crate) fn enter(&mut self, line: &[u8], mode: Mode) {
         self.taken = self.taken.saturating_add(1);
         self.line = self.taken;
-        self.topic = topic_of(line);
+        if mode.explains {
+            self.topic = topic_of(line);
+        }
     }
 
     /// Behind so many lines that belong to the one before them.

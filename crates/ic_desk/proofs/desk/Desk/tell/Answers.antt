@@ -6,20 +6,20 @@ use Rattle.ic_desk.specs.Views.{DeskView}
 use Rattle.ic_desk.proofs.DeskTellings.{bench_text, bench_answer, marks_told, rules_told, help_told}
 use Rattle.ic_desk.proofs.desk.Desk.tell.Goals as goal
 
-pub returns-in-Agents : goal.returns-in-Agents
-returns-in-Agents g c = bench_text c.args.self.now c.self.inside.bench c.args.question Agents _ c.tell_agents.result (ap (λ (d : DeskView). d.bench) c.self.view_is) c.in-Agents.is c.tell_agents.ensures c.text_or_memory.ensures.text c.text_or_memory.ensures.memory
+pub returns-in-Agents-clause-told : goal.returns-in-Agents-clause-told
+returns-in-Agents-clause-told g c = bench_text c.args.self.now c.self.inside.bench c.args.question Agents _ c.tell_agents.result (ap (λ (d : DeskView). d.bench) c.self.view_is) c.in-Agents.is c.tell_agents.ensures c.text_or_memory.ensures.text c.text_or_memory.ensures.memory
 
-pub returns-in-Dependents : goal.returns-in-Dependents
-returns-in-Dependents g c = bench_answer c.args.self.now c.self-in-Dependents.inside.bench c.args.question (Dependents c.in-Dependents.event) _ c.tell_dependents.result (ap (λ (d : DeskView). d.bench) c.self-in-Dependents.view_is) c.in-Dependents.is c.tell_dependents.ensures c.answer_or_memory.ensures.answer c.answer_or_memory.ensures.memory
+pub returns-in-Dependents-clause-told : goal.returns-in-Dependents-clause-told
+returns-in-Dependents-clause-told g c = bench_answer c.args.self.now c.self-in-Dependents.inside.bench c.args.question (Dependents c.in-Dependents.event) _ c.tell_dependents.result (ap (λ (d : DeskView). d.bench) c.self-in-Dependents.view_is) c.in-Dependents.is c.tell_dependents.ensures c.answer_or_memory.ensures.answer c.answer_or_memory.ensures.memory
 
-pub returns-in-History : goal.returns-in-History
-returns-in-History g c = bench_text c.args.self.now c.self-in-History.inside.bench c.args.question History _ c.tell_history.result (ap (λ (d : DeskView). d.bench) c.self-in-History.view_is) c.in-History.is c.tell_history.ensures c.text_or_memory-in-History.ensures.text c.text_or_memory-in-History.ensures.memory
+pub returns-in-History-clause-told : goal.returns-in-History-clause-told
+returns-in-History-clause-told g c = bench_text c.args.self.now c.self-in-History.inside.bench c.args.question History _ c.tell_history.result (ap (λ (d : DeskView). d.bench) c.self-in-History.view_is) c.in-History.is c.tell_history.ensures c.text_or_memory-in-History.ensures.text c.text_or_memory-in-History.ensures.memory
 
-pub returns-in-Marks : goal.returns-in-Marks
-returns-in-Marks g c = marks_told c.args.self.now c.deref.result.now c.args.question _ c.marks_text.result (c.deref.ensures.value ∙ ap (λ (d : DeskView). d.marks) c.self-in-Marks.view_is) c.in-Marks.is c.marks_text.ensures c.text_or_memory-in-Marks.ensures.text c.text_or_memory-in-Marks.ensures.memory
+pub returns-in-Marks-clause-told : goal.returns-in-Marks-clause-told
+returns-in-Marks-clause-told g c = marks_told c.args.self.now c.deref.result.now c.args.question _ c.marks_text.result (c.deref.ensures.value ∙ ap (λ (d : DeskView). d.marks) c.self-in-Marks.view_is) c.in-Marks.is c.marks_text.ensures c.text_or_memory-in-Marks.ensures.text c.text_or_memory-in-Marks.ensures.memory
 
-pub returns-in-Rules : goal.returns-in-Rules
-returns-in-Rules g c = rules_told c.args.self.now c.args.question _ c.from_slice.result c.in-Rules.is (IfOk-weaker c.from_slice.result _ _ (λ t e. e ∙ c.as_bytes.ensures.value) c.from_slice.ensures.items) c.text_or_memory-in-Rules.ensures.text c.text_or_memory-in-Rules.ensures.memory
+pub returns-in-Rules-clause-told : goal.returns-in-Rules-clause-told
+returns-in-Rules-clause-told g c = rules_told c.args.self.now c.args.question _ c.from_slice.result c.in-Rules.is (IfOk-weaker c.from_slice.result _ _ (λ t e. e ∙ c.as_bytes.ensures.value) c.from_slice.ensures.items) c.text_or_memory-in-Rules.ensures.text c.text_or_memory-in-Rules.ensures.memory
 
-pub returns-in-Help : goal.returns-in-Help
-returns-in-Help g c = help_told c.args.self.now c.args.question _ c.from_slice-in-Help.result c.in-Help.is (IfOk-weaker c.from_slice-in-Help.result _ _ (λ t e. e ∙ c.as_bytes-in-Help.ensures.value) c.from_slice-in-Help.ensures.items) c.text_or_memory-in-Help.ensures.text c.text_or_memory-in-Help.ensures.memory
+pub returns-in-Help-clause-told : goal.returns-in-Help-clause-told
+returns-in-Help-clause-told g c = help_told c.args.self.now c.args.question _ c.from_slice-in-Help.result c.in-Help.is (IfOk-weaker c.from_slice-in-Help.result _ _ (λ t e. e ∙ c.as_bytes-in-Help.ensures.value) c.from_slice-in-Help.ensures.items) c.text_or_memory-in-Help.ensures.text c.text_or_memory-in-Help.ensures.memory
