@@ -31,7 +31,7 @@ use Rattle.ic_command.specs.declared.command.Command.TheVariants.{Fire}
 use Rattle.ic_answer.specs.declared.refused.Refused.TheVariants as refused
 use Rattle.ic_answer.specs.Replies.{IsPresent, fire_unknown, fire_history_full, fired, fire_not_active, fire_deep, fire_full}
 use Rattle.ic_answer.specs.Texts.{pair_line, refusal_text}
-use Rattle.ic_answer.specs.Turns.{Tells, Turns}
+use Rattle.ic_answer.specs.Turns.{Tells, TurnsByCommand}
 use Rattle.ic_answer.proofs.TurnSteps.{stepped}
 
 -- the agents of a bench are those of the machine
@@ -98,19 +98,19 @@ proposed_found v p e a b n m k l bench less first second i j h = proposed v p e 
     h
 
 -- an event that is fired
-pub fires : (old new : BenchView) (p : Pair) (e : Event) → IsProposed old p e → IsBench new → Steps old (call.Fire e) reply.Fired new → Turns old (Fire p) (pair_line (codes "fired ") p) new
+pub fires : (old new : BenchView) (p : Pair) (e : Event) → IsProposed old p e → IsBench new → Steps old (call.Fire e) reply.Fired new → TurnsByCommand old (Fire p) (pair_line (codes "fired ") p) new
 fires old new p e is bench steps = stepped old new (Fire p) _ (call.Fire e) reply.Fired bench steps (λ st next at few answers. fired (is st at) few answers)
 
 -- one that isn't active
-pub fires_not_active : (old new : BenchView) (p : Pair) (e : Event) → IsProposed old p e → IsBench new → Steps old (call.Fire e) reply.NotActive new → Turns old (Fire p) (refusal_text refused.NotActive) new
+pub fires_not_active : (old new : BenchView) (p : Pair) (e : Event) → IsProposed old p e → IsBench new → Steps old (call.Fire e) reply.NotActive new → TurnsByCommand old (Fire p) (refusal_text refused.NotActive) new
 fires_not_active old new p e is bench steps = stepped old new (Fire p) _ (call.Fire e) reply.NotActive bench steps (λ st next at few answers. fire_not_active (is st at) few answers)
 
 -- one whose children's names would be too long
-pub fires_deep : (old new : BenchView) (p : Pair) (e : Event) → IsProposed old p e → IsBench new → Steps old (call.Fire e) reply.Deep new → Turns old (Fire p) (refusal_text refused.Deep) new
+pub fires_deep : (old new : BenchView) (p : Pair) (e : Event) → IsProposed old p e → IsBench new → Steps old (call.Fire e) reply.Deep new → TurnsByCommand old (Fire p) (refusal_text refused.Deep) new
 fires_deep old new p e is bench steps = stepped old new (Fire p) _ (call.Fire e) reply.Deep bench steps (λ st next at few answers. fire_deep (is st at) few answers)
 
 -- one with which there would be too many agents
-pub fires_full : (old new : BenchView) (p : Pair) (e : Event) → IsProposed old p e → IsBench new → Steps old (call.Fire e) reply.Full new → Turns old (Fire p) (refusal_text refused.Full) new
+pub fires_full : (old new : BenchView) (p : Pair) (e : Event) → IsProposed old p e → IsBench new → Steps old (call.Fire e) reply.Full new → TurnsByCommand old (Fire p) (refusal_text refused.Full) new
 fires_full old new p e is bench steps = stepped old new (Fire p) _ (call.Fire e) reply.Full bench steps (λ st next at few answers. fire_full (is st at) few answers)
 
 -- and one for which the history has no line

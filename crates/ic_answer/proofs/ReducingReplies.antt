@@ -16,9 +16,9 @@ use Rattle.ic_reduce.specs.Reducing.{AreFiredInTurn}
 use Rattle.ic_answer.specs.declared.answer.Answer.{Answer}
 use Rattle.ic_answer.specs.declared.refused.Refused.TheVariants.{MemoryBeforeReduce}
 use Rattle.ic_answer.specs.Ends.{end_text}
-use Rattle.ic_answer.specs.Replies.{Replies, reduced_normal, reduced_budget, reduced_limit, reduced_memory, reduce_memory}
+use Rattle.ic_answer.specs.Replies.{RepliesToCommand, reduced_normal, reduced_budget, reduced_limit, reduced_memory, reduce_memory}
 use Rattle.ic_answer.specs.Texts.{answer_text, reduced_text, refusal_text, wanting_after}
-use Rattle.ic_answer.specs.Turns.{Tells, Turns}
+use Rattle.ic_answer.specs.Turns.{Tells, TurnsByCommand}
 use Rattle.ic_answer.proofs.UntoldTurns.{untold, told_or_refused}
 
 -- the parts of the text in another grouping
@@ -28,25 +28,25 @@ reduced_parts n end = simp append_assoc
 
 -- what is told of it
 told_reduced : (s : Start) (st next : State) (most n : ℕ) (end : End) → IsReduced s st most n end next
-    → Replies s st (Reduce most) (end_text n end) next
+    → RepliesToCommand s st (Reduce most) (end_text n end) next
 told_reduced s st next most n Normal h = reduced_normal h.0 h.1 h.2
 told_reduced s st next most n Budget h = rw h.1 (reduced_budget (subst (λ m. AreFiredInTurn s m st next) h.1 h.0) h.2.1)
 told_reduced s st next most n Limit h = reduced_limit h.1 h.2 h.3
 told_reduced s st next most n Memory h = reduced_memory h.0 h.1
 
 pub reduces : (old new : BenchView) (most n : ℕ) (end : End) (text : List ℕ) → text ≡ end_text n end
-    → Reduces old most n end new → Turns old (Reduce most) text new
+    → Reduces old most n end new → TurnsByCommand old (Reduce most) text new
 reduces old new most n end text is h = record {
   start = h.start;
   replies = λ st at. (
       let r = h.reduced st at in
-      (r.0, subst (λ t. Replies old.start st (Reduce most) t r.0) (sym is) (told_reduced old.start st r.0 most n end r.1), r.2)
+      (r.0, subst (λ t. RepliesToCommand old.start st (Reduce most) t r.0) (sym is) (told_reduced old.start st r.0 most n end r.1), r.2)
       );
 }
 
 -- memory may be wanting before anything is fired
 pub reduce_wants : (v : BenchView) (most : ℕ) → Tells v (Reduce most) (refusal_text MemoryBeforeReduce)
-reduce_wants v most = λ st at. subst (λ t. Replies v.start st (Reduce most) t st) before_firing reduce_memory
+reduce_wants v most = λ st at. subst (λ t. RepliesToCommand v.start st (Reduce most) t st) before_firing reduce_memory
   where
     before_firing : wanting_after 0 ≡ refusal_text MemoryBeforeReduce
     before_firing = rw (decimal_digit 0 (omega arith)) refl
@@ -56,9 +56,9 @@ pub reduces_or_refused : (old new : BenchView) (most n : ℕ) (end : End) (text 
     → IsBench new → Reduces old most n end new → IfOk text (λ t. t.items ≡ end_text n end)
     → IfOk text (λ t. IfOk result (λ a. answer_text a ≡ t.items))
     → OnErr text (IfOk result (λ a. (answer_text a ≡ refusal_text MemoryBeforeReduce) × (length new.lines ≤ length old.lines)))
-    → MatchResult result (λ a. Turns old (Reduce most) (answer_text a) new) (λ _. new.start ≡ old.start)
+    → MatchResult result (λ a. TurnsByCommand old (Reduce most) (answer_text a) new) (λ _. new.start ≡ old.start)
 reduces_or_refused old new most n end text result lawful h is told instead =
-    told_or_refused (λ t. Turns old (Reduce most) t new) (new.start ≡ old.start) (length new.lines ≤ length old.lines) (end_text n end) text result MemoryBeforeReduce
+    told_or_refused (λ t. TurnsByCommand old (Reduce most) t new) (new.start ≡ old.start) (length new.lines ≤ length old.lines) (end_text n end) text result MemoryBeforeReduce
     (reduces old new most n end (end_text n end) refl h)
     (untold old new (Reduce most) (refusal_text MemoryBeforeReduce) lawful h.start (record { more = h.continues.added; lines = h.continues.lines }) (reduce_wants old most))
     h.start is told instead

@@ -25,7 +25,7 @@ use Rattle.ic_journal.specs.Benches.{IsAt, IsBench}
 use Rattle.ic_journal.specs.Reads.{IsNameOf}
 use Rattle.ic_journal.proofs.MachineSteps.{events_at}
 use Rattle.ic_answer.specs.Standing.{AreActive}
-use Rattle.ic_answer.specs.Replies.{Replies, active}
+use Rattle.ic_answer.specs.Replies.{RepliesToCommand, active}
 use Rattle.ic_answer.specs.Texts.{active_text, event_line, pair_text}
 use Rattle.ic_answer.specs.Turns.{Tells}
 use Rattle.ic_command.specs.declared.command.Command.TheVariants.{Active}
@@ -70,7 +70,7 @@ active_at v {st} b at pairs a = record {
 -- the text of the active pairs
 pub tells_active : (v : BenchView) → IsBench v → (pairs : List ActivePair) → (a : AreActivePairs (set_of v) pairs)
     → Tells v Active ((codes "active " ++ decimal (length pairs) ++ codes "\n") ++ flat_map (λ (x : Event × ActivePair). event_line x.0) a.order)
-tells_active v b pairs a st at = subst (λ t. Replies v.start st Active t st) text (active (active_at v b at pairs a))
+tells_active v b pairs a st at = subst (λ t. RepliesToCommand v.start st Active t st) text (active (active_at v b at pairs a))
   where
     es : List Event
     es = map (λ (x : Event × ActivePair). x.0) a.order

@@ -11,7 +11,7 @@ use Rattle.ic_path.proofs.Alikes.{alike_back, alike_pick, alike_then, alike_more
 use Rattle.ic_shown.proofs.Elements.{map_cases}
 use Rattle.ic_theory.specs.Causes.{IsDependent}
 use Rattle.ic_theory.specs.Future.{Includes}
-use Rattle.ic_theory.specs.Machine.{Standing, State, events, Answers, undone, IsHistory, goes_on}
+use Rattle.ic_theory.specs.Machine.{Standing, State, events, MachineStep, undone, IsHistory, goes_on}
 use Rattle.ic_theory.proofs.Ranks.{cause_included}
 use Rattle.ic_roster.specs.Rosters.{Stander, HaveOwnLines}
 use Rattle.ic_set.specs.Views.{standing, events_of}
@@ -76,7 +76,7 @@ module _ (v : BenchView) (own : HaveOwnLines v.events) (order : List Stander) (f
   undone_all ls done [] left st history h few = record { next = st; did = none; history = subst (λ ks. IsHistory v.start ks st) (sym (append-nil ls)) history; there = h.there }
   undone_all ls done (x ∷ xs) left st history h few =
       let picked = alike_pick h.there here in
-      let answers : Answers v.start st (Undo x.id.line) Undone (record { standing = picked.0; lines = st.lines + 1 }) = undone picked.1 refl (none_on done xs left x st h) in
+      let answers : MachineStep v.start st (Undo x.id.line) Undone (record { standing = picked.0; lines = st.lines + 1 }) = undone picked.1 refl (none_on done xs left x st h) in
       let further = undone_all (ls ++ undoing x ∷ []) (x ∷ done) xs left (record { standing = picked.0; lines = st.lines + 1 }) (goes_on history answers) (next_split done xs left x st picked.0 h picked.2) (omega (arith, few)) in
       record {
         next = further.next;

@@ -14,7 +14,7 @@ use Rattle.ic_answer.specs.declared.answer.Answer.{Answer}
 use Rattle.ic_answer.specs.declared.refused.Refused.{Refused}
 use Rattle.ic_answer.specs.Longer.{IsLonger}
 use Rattle.ic_answer.specs.Texts.{answer_text, refusal_text}
-use Rattle.ic_answer.specs.Turns.{Tells, Turns}
+use Rattle.ic_answer.specs.Turns.{Tells, TurnsByCommand}
 
 -- no line was added where the history isn't longer
 pub no_more : (old new : BenchView) → IsLonger old new → length new.lines ≤ length old.lines → new.lines ≡ old.lines
@@ -37,7 +37,7 @@ still_there old new lawful start longer few st at = record {
 
 -- and what may be told of a bench that stays is the answer
 pub untold : (old new : BenchView) (c : Command) (text : List ℕ) → IsBench new → new.start ≡ old.start → IsLonger old new
-    → Tells old c text → length new.lines ≤ length old.lines → Turns old c text new
+    → Tells old c text → length new.lines ≤ length old.lines → TurnsByCommand old c text new
 untold old new c text lawful start longer tells few = record {
   start = start;
   replies = λ st at. (st, tells st at, still_there old new lawful start longer few st at);

@@ -31,9 +31,9 @@ use Rattle.ic_command.specs.declared.command.Command.{Command}
 use Rattle.ic_command.specs.declared.command.Command.TheVariants.{Unwind, UndoAll}
 use Rattle.ic_answer.specs.declared.answer.Answer.{Answer}
 use Rattle.ic_answer.specs.declared.refused.Refused.TheVariants as refused
-use Rattle.ic_answer.specs.Replies.{Replies, MayWant, unwind_not_standing, unwind_history_full, unwound, undo_all_history_full, undone_all}
+use Rattle.ic_answer.specs.Replies.{RepliesToCommand, MayWant, unwind_not_standing, unwind_history_full, unwound, undo_all_history_full, undone_all}
 use Rattle.ic_answer.specs.Texts.{answer_text, event_line, pair_line, unwound_text, undone_all_text, refusal_text}
-use Rattle.ic_answer.specs.Turns.{Tells, Turns}
+use Rattle.ic_answer.specs.Turns.{Tells, TurnsByCommand}
 use Rattle.ic_answer.specs.Unwinding.{RestsOn, AreUndoneInTurn, events_of}
 use Rattle.ic_answer.proofs.StandingCauses.{named_event, none_named}
 use Rattle.ic_answer.proofs.TurnSteps.{tells_memory}
@@ -103,21 +103,21 @@ module _ (old new : BenchView) (ok : IsBench old) (lawful : IsBench new) where
   -- an event is undone with all that rests on it
   pub unwinds : (d : EventId) (p : Pair) (x : Stander) (names : List Pair) (text : List ℕ) → Stands old d p x
       → bench.IsUnwound old (bench.RestsOn old d.line) names new
-      → text ≡ codes "unwound " ++ decimal (length names) ++ codes "\n" ++ flat_map (pair_line []) names → Turns old (Unwind p) text new
+      → text ≡ codes "unwound " ++ decimal (length names) ++ codes "\n" ++ flat_map (pair_line []) names → TurnsByCommand old (Unwind p) text new
   unwinds d p x names text h u e = record { start = u.did.start; replies = replies }
     where
       own : bench.IsUnwound old (bench.RestsOn old x.id.line) names new
       own = subst (λ (c : EventId). bench.IsUnwound old (bench.RestsOn old c.line) names new) (sym h.under) u
 
-      replies : (st : State) → IsAt old st → (next : State) × Replies old.start st (Unwind p) text next × IsAt new next
+      replies : (st : State) → IsAt old st → (next : State) × RepliesToCommand old.start st (Unwind p) text next × IsAt new next
       replies st at =
           let did = undone_so old new (bench.RestsOn old x.id.line) names ok lawful (resting_with_dependents old x.id.line) own st at in
           let last_first = last_first_at old ok at (bench.RestsOn old x.id.line) (RestsOn old.start (events st) x.event) (resting_same old ok at x h.there) own.undone own.which in
           let text_is = e ∙ named_text old new (bench.RestsOn old x.id.line) names own in
-          (did.next, subst (λ t. Replies old.start st (Unwind p) t did.next) (sym text_is) (unwound (named_event old p at x h.there h.name) last_first did.did), did.at)
+          (did.next, subst (λ t. RepliesToCommand old.start st (Unwind p) t did.next) (sym text_is) (unwound (named_event old p at x h.there h.name) last_first did.did), did.at)
 
   -- all events are undone
-  pub undoes_all : (n : ℕ) (text : List ℕ) → bench.IsCleared old n new → text ≡ undone_all_text n → Turns old UndoAll text new
+  pub undoes_all : (n : ℕ) (text : List ℕ) → bench.IsCleared old n new → text ≡ undone_all_text n → TurnsByCommand old UndoAll text new
   undoes_all n text c e = record { start = c.did.start; replies = replies }
     where
       unwound_so : bench.IsUnwound old IsAny (map (λ x. pair x.event) c.undone) new
@@ -126,17 +126,17 @@ module _ (old new : BenchView) (ok : IsBench old) (lawful : IsBench new) where
       count : n ≡ length (map fired_in c.undone)
       count = c.counted ∙ sym (length-map c.undone fired_in)
 
-      replies : (st : State) → IsAt old st → (next : State) × Replies old.start st UndoAll text next × IsAt new next
+      replies : (st : State) → IsAt old st → (next : State) × RepliesToCommand old.start st UndoAll text next × IsAt new next
       replies st at =
           let did = undone_so old new IsAny (map (λ x. pair x.event) c.undone) ok lawful (all_with_dependents old) unwound_so st at in
           let last_first = last_first_at old ok at IsAny (λ f. Unit {0}) (any_same old ok at) c.undone c.which in
           let text_is = e ∙ ap undone_all_text count in
-          (did.next, subst (λ t. Replies old.start st UndoAll t did.next) (sym text_is) (undone_all last_first did.did), did.at)
+          (did.next, subst (λ t. RepliesToCommand old.start st UndoAll t did.next) (sym text_is) (undone_all last_first did.did), did.at)
 
   -- a line for each of the events that rest on one doesn't fit
   pub unwind_doesnt_fit : (d : EventId) (p : Pair) (x : Stander) → Stands old d p x
       → bench_faults.DontFit old (bench.RestsOn old d.line) → new ≡ old
-      → Turns old (Unwind p) (refusal_text refused.HistoryFull) new
+      → TurnsByCommand old (Unwind p) (refusal_text refused.HistoryFull) new
   unwind_doesnt_fit d p x h full same = record {
     start = ap (λ (v : BenchView). v.start) same;
     replies = λ st at. (
@@ -148,7 +148,7 @@ module _ (old new : BenchView) (ok : IsBench old) (lawful : IsBench new) where
 
   -- nor one for each event
   pub undo_all_doesnt_fit : bench_faults.DontFit old IsAny → new ≡ old
-      → Turns old UndoAll (refusal_text refused.HistoryFull) new
+      → TurnsByCommand old UndoAll (refusal_text refused.HistoryFull) new
   undo_all_doesnt_fit full same = record {
     start = ap (λ (v : BenchView). v.start) same;
     replies = λ st at. (
@@ -187,10 +187,10 @@ lines_more head text next names i none name few before is more =
 
 -- what is told of undoing, or a refusal where no line was added
 pub undoes_or_refused : (old new : BenchView) (c : Command) (undone : List Stander) (known : List ℕ) (text : Result (Vec ℕ Global) AllocError) (result : Result Answer AllocError)
-    → IsBench new → MayWant c → bench.AreUndone old undone new → Turns old c known new → IfOk text (λ t. t.items ≡ known)
+    → IsBench new → MayWant c → bench.AreUndone old undone new → TurnsByCommand old c known new → IfOk text (λ t. t.items ≡ known)
     → IfOk text (λ t. IfOk result (λ a. answer_text a ≡ t.items))
     → OnErr text (IfOk result (λ a. (answer_text a ≡ refusal_text refused.Memory) × (length new.lines ≤ length old.lines)))
-    → MatchResult result (λ a. Turns old c (answer_text a) new) (λ _. new.start ≡ old.start)
+    → MatchResult result (λ a. TurnsByCommand old c (answer_text a) new) (λ _. new.start ≡ old.start)
 undoes_or_refused old new c undone known text result lawful want did turns is told instead =
-    told_or_refused (λ t. Turns old c t new) (new.start ≡ old.start) (length new.lines ≤ length old.lines) known text result refused.Memory turns
+    told_or_refused (λ t. TurnsByCommand old c t new) (new.start ≡ old.start) (length new.lines ≤ length old.lines) known text result refused.Memory turns
     (untold old new c (refusal_text refused.Memory) lawful did.start (record { more = map bench.undoing undone; lines = did.lines }) (tells_memory old c want)) did.start is told instead

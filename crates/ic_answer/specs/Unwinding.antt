@@ -8,7 +8,7 @@ use Rattle.ic_path.specs.Orders.{IsIn}
 use Rattle.ic_path.specs.Rings.{HasEachOnce}
 use Rattle.ic_theory.specs.Starts.{Start}
 use Rattle.ic_theory.specs.Causes.{IsCause}
-use Rattle.ic_theory.specs.Machine.{Standing, State, Answers}
+use Rattle.ic_theory.specs.Machine.{Standing, State, MachineStep}
 use Rattle.ic_cause.specs.Journals.{AreCanonical}
 
 -- an event rests on another one: it is that one, or a direct cause of it rests on that one
@@ -36,5 +36,5 @@ events_of xs = map (λ x. x.event) xs
 -- standing events are undone in turn, each of them in a line of its own
 pub data AreUndoneInTurn (s : Start) : State → List Standing → State → Type 0 where
   none : {st : State} → AreUndoneInTurn s st [] st
-  more : {st mid next : State} {x : Standing} {xs : List Standing} → IsIn x st.standing → st.lines < MAX_LINES → Answers s st (Undo x.line) Undone mid
+  more : {st mid next : State} {x : Standing} {xs : List Standing} → IsIn x st.standing → st.lines < MAX_LINES → MachineStep s st (Undo x.line) Undone mid
       → AreUndoneInTurn s mid xs next → AreUndoneInTurn s st (x ∷ xs) next

@@ -2,7 +2,7 @@ ghost use Rattle.std.specs.Prelude.{◌≡◌, IfOk, MatchResult, OnErr};
 ghost use Rattle.ic_answer.specs.declared.refused.Refused.TheVariants.{Memory};
 ghost use Rattle.ic_answer.specs.Texts.{answer_text, refusal_text};
 ghost use Rattle.ic_answer.specs.Longer.{HasGrown, IsLonger};
-ghost use Rattle.ic_answer.specs.Turns.{Turns};
+ghost use Rattle.ic_answer.specs.Turns.{TurnsByCommand};
 
 use crate::changing::{fire, undo};
 use crate::reading;
@@ -12,6 +12,7 @@ use crate::unwinding::{undo_everything, undo_with_dependents};
 use crate::why::why;
 use ic_command::command::Command;
 use ic_journal::{Bench, LinkStore};
+use ic_reduce::Gate;
 use std::alloc::{AllocError, Global};
 
 /// What is written in answer to a command.
@@ -59,13 +60,15 @@ impl Answer {
 
 /// Carries out a command over a bench. Where there is no memory for it, the answer is a refusal, and then neither net nor
 /// standing set have changed, but for what a `reduce` says that it has fired. An error only where the history has grown and
-/// there is no memory for the answer. The start stays the same in each case, and the history only grows.
-pub fn carry_out<L: LinkStore>(
+/// there is no memory for the answer. The start stays the same in each case, and the history only grows. The gate sees each
+/// commit of a `reduce`.
+pub fn carry_out<L: LinkStore, G: Gate>(
     alloc: Global,
     bench: &mut Bench<L>,
     command: Command,
+    gate: &G,
 ) -> Result<Answer, AllocError>
-    ensures turns { MatchResult result (λ answer. Turns bench.old command (answer_text answer) bench.new) (λ _. bench.new.start ≡ bench.old.start) }
+    ensures turns { MatchResult result (λ answer. TurnsByCommand bench.old command (answer_text answer) bench.new) (λ _. bench.new.start ≡ bench.old.start) }
     ensures lines { IsLonger bench.old bench.new }
     ensures grown { OnErr result (HasGrown bench.old bench.new) }
 {
@@ -80,6 +83,6 @@ pub fn carry_out<L: LinkStore>(
         Command::Undo(event) => Ok(undo(alloc, bench, &event)),
         Command::Unwind(event) => undo_with_dependents(alloc, bench, &event),
         Command::UndoAll => undo_everything(alloc, bench),
-        Command::Reduce(most) => reduce(alloc, bench, most),
+        Command::Reduce(most) => reduce(alloc, bench, most, gate),
     }
 }

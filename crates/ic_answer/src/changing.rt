@@ -6,7 +6,7 @@ ghost use Rattle.ic_answer.specs.declared.refused.Refused.TheVariants.{Memory};
 ghost use Rattle.ic_command.specs.declared.command.Command.TheVariants.{Fire, Undo};
 ghost use Rattle.ic_answer.specs.Texts.{answer_text, pair_line, refusal_text};
 ghost use Rattle.ic_answer.specs.Longer.{IsLonger};
-ghost use Rattle.ic_answer.specs.Turns.{Turns};
+ghost use Rattle.ic_answer.specs.Turns.{TurnsByCommand};
 
 use crate::answer::Answer;
 use crate::named::{event_line, name_line};
@@ -17,7 +17,7 @@ use std::alloc::Global;
 
 /// Fires an event. Its answer is made before it is fired.
 pub(crate) fn fire<L: LinkStore>(alloc: Global, bench: &mut Bench<L>, event: &EventName) -> Answer
-    ensures turns { Turns bench.old (Fire event.now) (answer_text result) bench.new }
+    ensures turns { TurnsByCommand bench.old (Fire event.now) (answer_text result) bench.new }
     ensures lines { IsLonger bench.old bench.new }
 {
     bench.lawful();
@@ -48,7 +48,7 @@ pub(crate) fn fire<L: LinkStore>(alloc: Global, bench: &mut Bench<L>, event: &Ev
 
 /// Undoes the firing of an event. Its answer is made before.
 pub(crate) fn undo<L: LinkStore>(alloc: Global, bench: &mut Bench<L>, event: &EventName) -> Answer
-    ensures turns { Turns bench.old (Undo event.now) (answer_text result) bench.new }
+    ensures turns { TurnsByCommand bench.old (Undo event.now) (answer_text result) bench.new }
     ensures lines { IsLonger bench.old bench.new }
 {
     let Some(id) = bench.event(event) else {

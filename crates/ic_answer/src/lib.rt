@@ -20,6 +20,7 @@ pub use agents::tell_agents;
 pub use answer::{Answer, carry_out};
 pub use dependents::tell_dependents;
 pub use histories::tell_history;
+pub use ic_reduce::{Gate, NoGate};
 pub use reducing::end_text;
 pub use refused::Refused;
 pub use rules::RULES;

@@ -2,30 +2,31 @@ ghost use Rattle.std.specs.Prelude.{◌≡◌, IfOk, MatchResult, OnErr};
 ghost use Rattle.ic_command.specs.declared.command.Command.TheVariants.{Reduce};
 ghost use Rattle.ic_answer.specs.Texts.{answer_text};
 ghost use Rattle.ic_answer.specs.Longer.{HasGrown, IsLonger};
-ghost use Rattle.ic_answer.specs.Turns.{Turns};
+ghost use Rattle.ic_answer.specs.Turns.{TurnsByCommand};
 ghost use Rattle.ic_answer.specs.Ends.{end_text};
 
 use crate::answer::Answer;
 use crate::refused::Refused;
 use crate::untold::text_or_refused;
 use ic_journal::{Bench, LinkStore};
-use ic_reduce::{End, NoGate, fire_least};
+use ic_reduce::{End, Gate, fire_least};
 use std::alloc::{AllocError, Global};
 
 /// Fires the active pair with the least lead again and again, at most so often. An error where lines were added and there
 /// is no memory to tell how many were fired.
-pub(crate) fn reduce<L: LinkStore>(
+pub(crate) fn reduce<L: LinkStore, G: Gate>(
     alloc: Global,
     bench: &mut Bench<L>,
     most: u32,
+    gate: &G,
 ) -> Result<Answer, AllocError>
-    ensures turns { MatchResult result (λ answer. Turns bench.old (Reduce most) (answer_text answer) bench.new) (λ _. bench.new.start ≡ bench.old.start) }
+    ensures turns { MatchResult result (λ answer. TurnsByCommand bench.old (Reduce most) (answer_text answer) bench.new) (λ _. bench.new.start ≡ bench.old.start) }
     ensures lines { IsLonger bench.old bench.new }
     ensures grown { OnErr result (HasGrown bench.old bench.new) }
 {
     bench.lawful();
     let lines = bench.lines();
-    let (fired, end) = fire_least(bench, most, &NoGate, 0);
+    let (fired, end) = fire_least(bench, most, gate, 0);
     bench.lawful();
     let text = end_text(alloc, fired, end);
     text_or_refused(text, bench, lines, Refused::MemoryBeforeReduce)

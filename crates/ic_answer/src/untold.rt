@@ -1,4 +1,4 @@
-ghost use Rattle.std.specs.Prelude.{◌≡◌, ◌<◌, ◌≤◌, length, IfOk, OnErr};
+ghost use Rattle.std.specs.Prelude.{◌≡◌, ◌<◌, ◌≤◌, length, IfOk, IsOk, OnErr};
 ghost use Rattle.ic_answer.specs.Texts.{answer_text, refusal_text};
 
 use crate::answer::Answer;
@@ -14,6 +14,7 @@ pub fn text_or_refused<L: LinkStore>(
     lines: u32,
     refused: Refused,
 ) -> Result<Answer, AllocError>
+    ensures answered { IsOk text → IsOk result }
     ensures text { IfOk text (λ t. IfOk result (λ answer. answer_text answer ≡ t.items)) }
     ensures refused { OnErr text (IfOk result (λ answer. (answer_text answer ≡ refusal_text refused) × (length bench.now.lines ≤ lines))) }
     ensures error { OnErr result (lines < length bench.now.lines) }

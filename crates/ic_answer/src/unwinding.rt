@@ -4,7 +4,7 @@ ghost use Rattle.std.specs.List.{flat_map};
 ghost use Rattle.ic_command.specs.declared.command.Command.TheVariants.{UndoAll, Unwind};
 ghost use Rattle.ic_answer.specs.Texts.{answer_text, pair_line, undone_all_text};
 ghost use Rattle.ic_answer.specs.Longer.{HasGrown, IsLonger};
-ghost use Rattle.ic_answer.specs.Turns.{Turns};
+ghost use Rattle.ic_answer.specs.Turns.{TurnsByCommand};
 
 use crate::answer::Answer;
 use crate::named::push_name;
@@ -22,7 +22,7 @@ pub(crate) fn undo_with_dependents<L: LinkStore>(
     bench: &mut Bench<L>,
     event: &EventName,
 ) -> Result<Answer, AllocError>
-    ensures turns { MatchResult result (λ answer. Turns bench.old (Unwind event.now) (answer_text answer) bench.new) (λ _. bench.new.start ≡ bench.old.start) }
+    ensures turns { MatchResult result (λ answer. TurnsByCommand bench.old (Unwind event.now) (answer_text answer) bench.new) (λ _. bench.new.start ≡ bench.old.start) }
     ensures lines { IsLonger bench.old bench.new }
     ensures grown { OnErr result (HasGrown bench.old bench.new) }
 {
@@ -46,7 +46,7 @@ pub(crate) fn undo_everything<L: LinkStore>(
     alloc: Global,
     bench: &mut Bench<L>,
 ) -> Result<Answer, AllocError>
-    ensures turns { MatchResult result (λ answer. Turns bench.old UndoAll (answer_text answer) bench.new) (λ _. bench.new.start ≡ bench.old.start) }
+    ensures turns { MatchResult result (λ answer. TurnsByCommand bench.old UndoAll (answer_text answer) bench.new) (λ _. bench.new.start ≡ bench.old.start) }
     ensures lines { IsLonger bench.old bench.new }
     ensures grown { OnErr result (HasGrown bench.old bench.new) }
 {

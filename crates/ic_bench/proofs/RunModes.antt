@@ -1,8 +1,8 @@
 -- What a session wrote, by the mode that it was run in.
-use Rattle.std.proofs.Common.{◌≡◌, ℕ, Bool, true, false, List, IfOk, IfSome, OnErr, ap}
+use Rattle.std.proofs.Common.{◌≡◌, ℕ, Bool, false, List, IfOk, IfSome, OnErr, ap}
 use Rattle.std.specs.Prelude.{Option, Result}
 use Rattle.std.specs.Io.KnownBytes.{Appends}
-use Rattle.ic_session.specs.Modes.{explaining, plain}
+use Rattle.ic_session.specs.Modes.{plain}
 use Rattle.ic_session.specs.Sessions.{IsBegun, Writes}
 use Rattle.ic_session.specs.declared.fault.Fault.{Fault}
 use Rattle.ic_session.specs.declared.mode.Mode.{Mode}
@@ -21,10 +21,6 @@ Began m input output ran = OnErr ran (IfSome input (λ bytes. (text : List ℕ) 
 abbrev flagged : Options → Bool → Mode
 flagged options on = record { workers = options.workers; budget = options.budget; explains = on }
 
--- with the flag, it explains itself
-pub mode_explaining : (options : Options) → options.explains ≡ true → mode_of options ≡ explaining options.workers options.budget
-mode_explaining options on = ap (flagged options) on
-
--- and without it, it only answers
+-- without the flag, a session only answers
 pub mode_plain : (options : Options) → options.explains ≡ false → mode_of options ≡ plain options.workers options.budget
 mode_plain options off = ap (flagged options) off

@@ -1,14 +1,16 @@
-// The program icbench: a session over standard input and output.
+//! The program icbench: a session over standard input and output.
 #![tactic(auto)]
 
 mod help;
 mod options;
 mod program;
+mod progress;
 mod statuses;
 #[cfg(test)]
 mod tests;
 
 use crate::program::{refuse_words, run_program};
+use crate::progress::Progress;
 use std::process::ExitCode;
 use std::{env, io};
 
@@ -22,6 +24,7 @@ fn main(rt: HostRuntime) -> ExitCode {
             run_program(
                 &rt,
                 rt.alloc(),
+                &Progress { rt: &rt },
                 words.as_slice(),
                 &mut reader,
                 &mut writer,

@@ -15,7 +15,7 @@ use crate::statuses::{
 use clap::Error;
 use clap::error::ErrorKind;
 use ic_lines::write_reply;
-use ic_session::{Fault, MAX_WORKERS, run_explained, run_session};
+use ic_session::{Fault, Gate, MAX_WORKERS, Mode, Setting, run_in, run_session};
 use std::alloc::Global;
 use std::convert::AsStr;
 use std::io;
@@ -24,10 +24,11 @@ use std::sync::Wait;
 use std::thread::Threads;
 
 /// Runs the program on the words of a command line, and answers its exit status. What is said of a fault goes to
-/// `errors`; where that fails too, the status stays.
-pub fn run_program<S: AsStr, R: Read, W: Write, E: Write, T: Threads + Wait + Sync>(
+/// `errors`; where that fails too, the status stays. The gate sees each commit of a session that explains itself.
+pub fn run_program<S: AsStr, R: Read, W: Write, E: Write, T: Threads + Wait + Sync, G: Gate>(
     threads: &T,
     alloc: Global,
+    gate: &G,
     words: &[S],
     reader: &mut R,
     writer: &mut W,
@@ -38,15 +39,16 @@ pub fn run_program<S: AsStr, R: Read, W: Write, E: Write, T: Threads + Wait + Sy
     ensures unwritten { result ≡ USAGE → W.contents writer.new ≡ W.contents writer.old }
 {
     match read_options(alloc, words) {
-        Ok(options) => run(threads, alloc, options, reader, writer, errors),
+        Ok(options) => run(threads, alloc, gate, options, reader, writer, errors),
         Err(error) => explain(alloc, error, writer, errors),
     }
 }
 
 /// Runs a session.
-fn run<R: Read, W: Write, E: Write, T: Threads + Wait + Sync>(
+fn run<R: Read, W: Write, E: Write, T: Threads + Wait + Sync, G: Gate>(
     threads: &T,
     alloc: Global,
+    gate: &G,
     options: Options,
     reader: &mut R,
     writer: &mut W,
@@ -61,7 +63,17 @@ fn run<R: Read, W: Write, E: Write, T: Threads + Wait + Sync>(
         explains,
     } = options;
     let ran = if explains {
-        run_explained(threads, alloc, reader, writer, errors, workers, budget)
+        let setting = Setting {
+            threads,
+            alloc,
+            gate,
+            mode: Mode {
+                workers,
+                budget,
+                explains,
+            },
+        };
+        run_in(&setting, reader, writer, errors)
     } else {
         run_session(threads, alloc, reader, writer, workers, budget)
     };

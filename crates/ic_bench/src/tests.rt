@@ -1,4 +1,5 @@
 use crate::program::{refuse_words, run_program};
+use ic_session::NoGate;
 use std::alloc::Global;
 use std::io::{ErrorKind, Read, Write};
 use std::sync::Wait;
@@ -44,7 +45,15 @@ fn runs<T: Threads + Wait + Sync>(
     let mut reader = input;
     let mut written = Vec::new(alloc);
     let mut said = Vec::new(alloc);
-    let ended = run_program(threads, alloc, words, &mut reader, &mut written, &mut said);
+    let ended = run_program(
+        threads,
+        alloc,
+        &NoGate,
+        words,
+        &mut reader,
+        &mut written,
+        &mut said,
+    );
     ended == status && written.as_slice() == output && said.as_slice() == errors
 }
 
@@ -131,7 +140,15 @@ fn a_net_that_is_refused_is_explained(rt: HostRuntime) {
     let mut output = Vec::new(rt.alloc());
     let mut said = Vec::new(rt.alloc());
     let words = ["icbench", "--explain"];
-    let status = run_program(&rt, rt.alloc(), &words, &mut reader, &mut output, &mut said);
+    let status = run_program(
+        &rt,
+        rt.alloc(),
+        &NoGate,
+        &words,
+        &mut reader,
+        &mut output,
+        &mut said,
+    );
     assert!(rt; status == 2 && output.as_slice() == b"refused 2 at 22\n".as_slice());
     assert!(rt;
         said.as_slice().starts_with(
@@ -187,7 +204,15 @@ fn the_help_names_each_command(rt: HostRuntime) -> Result<(), Fail> {
     let mut help = Vec::new(rt.alloc());
     let mut said = Vec::new(rt.alloc());
     let words = ["icbench", "--help"];
-    let status = run_program(&rt, rt.alloc(), &words, &mut reader, &mut help, &mut said);
+    let status = run_program(
+        &rt,
+        rt.alloc(),
+        &NoGate,
+        &words,
+        &mut reader,
+        &mut help,
+        &mut said,
+    );
     assert!(rt; status == 0 && said.is_empty());
     let text = str::from_utf8(help.as_slice())?;
     let names = [
@@ -224,11 +249,31 @@ fn readers_and_writers_that_fail(rt: HostRuntime) {
     let mut output = Vec::new(rt.alloc());
     let mut said = Vec::new(rt.alloc());
     let words = ["icbench"];
-    assert!(rt; run_program(&rt, rt.alloc(), &words, &mut Broken, &mut output, &mut said) == 1);
+    assert!(rt;
+        run_program(
+            &rt,
+            rt.alloc(),
+            &NoGate,
+            &words,
+            &mut Broken,
+            &mut output,
+            &mut said
+        ) == 1
+    );
     assert!(rt; output.is_empty() && said.as_slice() == b"icbench: read failed\n".as_slice());
     said.clear();
     let mut reader = b"---\nnet\n".as_slice();
-    assert!(rt; run_program(&rt, rt.alloc(), &words, &mut reader, &mut Full, &mut said) == 1);
+    assert!(rt;
+        run_program(
+            &rt,
+            rt.alloc(),
+            &NoGate,
+            &words,
+            &mut reader,
+            &mut Full,
+            &mut said
+        ) == 1
+    );
     assert!(rt; said.as_slice() == b"icbench: write failed\n".as_slice());
 }
 
@@ -236,10 +281,30 @@ fn readers_and_writers_that_fail(rt: HostRuntime) {
 fn a_standard_error_that_fails_changes_no_status(rt: HostRuntime) {
     let mut reader = b"---\nnet\n".as_slice();
     let words = ["icbench", "--help"];
-    assert!(rt; run_program(&rt, rt.alloc(), &words, &mut reader, &mut Full, &mut Full) == 1);
+    assert!(rt;
+        run_program(
+            &rt,
+            rt.alloc(),
+            &NoGate,
+            &words,
+            &mut reader,
+            &mut Full,
+            &mut Full
+        ) == 1
+    );
     let mut output = Vec::new(rt.alloc());
     let wrong = ["icbench", "--workers"];
-    assert!(rt; run_program(&rt, rt.alloc(), &wrong, &mut reader, &mut output, &mut Full) == 64);
+    assert!(rt;
+        run_program(
+            &rt,
+            rt.alloc(),
+            &NoGate,
+            &wrong,
+            &mut reader,
+            &mut output,
+            &mut Full
+        ) == 64
+    );
 }
 
 #[test]

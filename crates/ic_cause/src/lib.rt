@@ -1,5 +1,5 @@
-// Causes of events: the makers of paths, ranks, the canonical order, the text of a journal, and standing events with
-// their dependents.
+//! Causes of events: the makers of paths, ranks, the canonical order, the text of a journal, and standing events with
+//! their dependents.
 #![tactic(auto)]
 
 pub mod dependents;

@@ -14,7 +14,7 @@ pub fn one_holder()
 {}
 
 /// No ticket is in two views or twice in one, and there are as many as the lesser of the ticket word and the budget.
-pub fn tickets()
+pub fn each_ticket_is_drawn_once()
     ensures distinct { (budget : ℕ) (words : List ℕ) (views : List AView) (x : ℕ)
         → Agree budget words views → total (λ v. times x v.tickets) views ≤ 1 }
     ensures counted { (budget : ℕ) (words : List ℕ) (views : List AView)
@@ -22,7 +22,7 @@ pub fn tickets()
 {}
 
 /// The ticket word is at most the budget and 64 more, so that it never wraps.
-pub fn ticket_word()
+pub fn ticket_word_never_wraps()
     ensures { (budget : ℕ) (words : List ℕ) (views : List AView)
         → Agree budget words views → word_of_tickets words ≤ budget + 64 }
 {}

@@ -11,7 +11,7 @@ mod seat;
 mod view;
 
 pub use claims::{Busy, Claims, Ticket};
-pub use laws::{one_holder, ticket_word, tickets};
+pub use laws::{each_ticket_is_drawn_once, one_holder, ticket_word_never_wraps};
 pub use limits::{CLAIM_WORDS, MAX_BUDGET, MAX_SEATS, MAX_WORKERS};
 pub use rule::ClaimRule;
 pub use seat::Seat;

@@ -10,7 +10,7 @@ use Rattle.ic_name.specs.declared.lines.Reply.TheVariants as reply
 use Rattle.ic_path.specs.Orders.{IsIn, Alike}
 use Rattle.ic_path.proofs.Alikes.{alike_back, alike_then, alike-in}
 use Rattle.ic_theory.specs.Starts.{Start}
-use Rattle.ic_theory.specs.Machine.{State, events, Answers, deep, full}
+use Rattle.ic_theory.specs.Machine.{State, events, MachineStep, deep, full}
 use Rattle.ic_theory.proofs.Machines.{IsKept, history_kept, history_length}
 use Rattle.ic_theory.proofs.Normal.{active-alike}
 use Rattle.ic_roster.specs.Rosters.{Stander}
@@ -48,10 +48,10 @@ pub record Stays (st next : State) : Type 0 where
   pub standing : next.standing ≡ st.standing
   pub lines : next.lines ≡ st.lines + 1
 
-pub stays_deep : {s : Start} {e : Event} (st next : State) → Answers s st (Fire e) reply.Deep next → Stays st next
+pub stays_deep : {s : Start} {e : Event} (st next : State) → MachineStep s st (Fire e) reply.Deep next → Stays st next
 stays_deep st next (deep a d) = record { standing = refl; lines = refl }
 
-pub stays_full : {s : Start} {e : Event} (st next : State) → Answers s st (Fire e) reply.Full next → Stays st next
+pub stays_full : {s : Start} {e : Event} (st next : State) → MachineStep s st (Fire e) reply.Full next → Stays st next
 stays_full st next (full a d n) = record { standing = refl; lines = refl }
 
 module _ (old new : BenchView) (ok : IsBench old) (lawful : IsBench new) (names : List Pair) (st : State) (at : IsAt old st) where
@@ -159,7 +159,7 @@ module _ (old new : BenchView) (ok : IsBench old) (lawful : IsBench new) (names 
     nothing_said silent = takes_back c.mid refl (let none = ap length silent in omega (arith, none)) (subst (λ ls. AreAnswered old.start (ls ++ map undoing gone) c.mid c.next) silent c.others)
 
     -- the next one was refused
-    pub refused_so : (e : Event) (r : Reply) → said ≡ refusing e r ∷ [] → ((x y : State) → Answers old.start x (Fire e) r y → Stays x y) → IsNextListed old names came e
+    pub refused_so : (e : Event) (r : Reply) → said ≡ refusing e r ∷ [] → ((x y : State) → MachineStep old.start x (Fire e) r y → Stays x y) → IsNextListed old names came e
         → (after : State) × IsRefused old.start names c.mid r after × TakesBack old.start after came c.next
     refused_so e r told stays turn = by (subst (λ ls. AreAnswered old.start (ls ++ map undoing gone) c.mid c.next) told c.others)
       where

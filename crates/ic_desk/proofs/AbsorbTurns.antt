@@ -18,8 +18,8 @@ use Rattle.ic_answer.specs.Texts.{answer_text, refusal_text}
 use Rattle.ic_answer.specs.Unwinding as undone
 use Rattle.ic_answer.proofs.UntoldTurns.{still_there, told_or_refused}
 use Rattle.ic_desk.specs.Absorbs as runs
-use Rattle.ic_desk.specs.Replies.{Replies, absorbed_text, never_text, absorbed, never_active, absorb_deep, absorb_full, absorb_history_full, absorb_memory}
-use Rattle.ic_desk.specs.Views.{NamedView, Turns}
+use Rattle.ic_desk.specs.Replies.{RepliesToRequest, absorbed_text, never_text, absorbed, never_active, absorb_deep, absorb_full, absorb_history_full, absorb_memory}
+use Rattle.ic_desk.specs.Views.{NamedView, TurnsByRequest}
 use Rattle.ic_desk.proofs.AbsorbReplies.{fits, fits_not, absorbed_at, comes_and_goes, nothing_said, refused_so, never_at, stays_deep, stays_full}
 use Rattle.ic_desk.proofs.DeskTurns.{desk_of}
 
@@ -31,29 +31,29 @@ absorb_fault_known {X} old names new result f known is same h = subst (λ (r : R
 module _ (old new : BenchView) (ok : IsBench old) (lawful : IsBench new) (marks : List NamedView) (names : Vec Pair) where
   -- all listed events stand
   pub absorbed_turns : (count : ℕ) (text : List ℕ) → bench.Absorbs old names.items count new → text ≡ absorbed_text count
-      → Turns (desk_of old marks) (Absorb names) text (desk_of new marks)
+      → TurnsByRequest (desk_of old marks) (Absorb names) text (desk_of new marks)
   absorbed_turns count text h told = record {
     start = h.fired.start;
     replies = λ st at. (
         let r = absorbed_at old new ok lawful names.items st.bench at.bench count h in
-        (record st { bench = r.1 }, subst (λ t. Replies old.start st (Absorb names) t (record st { bench = r.1 })) (sym (told ∙ ap absorbed_text r.4)) (absorbed r.2 r.3), record { bench = r.5; marks = at.marks })
+        (record st { bench = r.1 }, subst (λ t. RepliesToRequest old.start st (Absorb names) t (record st { bench = r.1 })) (sym (told ∙ ap absorbed_text r.4)) (absorbed r.2 r.3), record { bench = r.5; marks = at.marks })
         );
   }
 
   -- one of them can't come to stand
   pub never_turns : (p : Pair) (text : List ℕ) → bench.AbsorbsNone old names.items (fault.NeverActive p) new → text ≡ never_text p
-      → Turns (desk_of old marks) (Absorb names) text (desk_of new marks)
+      → TurnsByRequest (desk_of old marks) (Absorb names) text (desk_of new marks)
   never_turns p text (least, (came, none, t)) told = record {
     start = t.same.start;
     replies = λ st at. (
         let c = comes_and_goes old new ok lawful names.items st.bench at.bench came [] t in
         let n = never_at old new ok lawful names.items st.bench at.bench came [] _ c p refl none least in
-        (record st { bench = c.next }, subst (λ x. Replies old.start st (Absorb names) x (record st { bench = c.next })) (sym told) (never_active c.absorbs n.0 n.1 n.2), record { bench = c.at_next; marks = at.marks })
+        (record st { bench = c.next }, subst (λ x. RepliesToRequest old.start st (Absorb names) x (record st { bench = c.next })) (sym told) (never_active c.absorbs n.0 n.1 n.2), record { bench = c.at_next; marks = at.marks })
         );
   }
 
   -- a child's name would be too long
-  pub deep_turns : bench.AbsorbsNone old names.items fault.Deep new → Turns (desk_of old marks) (Absorb names) (refusal_text Deep) (desk_of new marks)
+  pub deep_turns : bench.AbsorbsNone old names.items fault.Deep new → TurnsByRequest (desk_of old marks) (Absorb names) (refusal_text Deep) (desk_of new marks)
   deep_turns (came, e, turn, d, t) = record {
     start = t.same.start;
     replies = λ st at. (
@@ -64,7 +64,7 @@ module _ (old new : BenchView) (ok : IsBench old) (lawful : IsBench new) (marks 
   }
 
   -- there would be too many agents
-  pub full_turns : bench.AbsorbsNone old names.items fault.Full new → Turns (desk_of old marks) (Absorb names) (refusal_text Full) (desk_of new marks)
+  pub full_turns : bench.AbsorbsNone old names.items fault.Full new → TurnsByRequest (desk_of old marks) (Absorb names) (refusal_text Full) (desk_of new marks)
   full_turns (came, e, turn, shallow, f, t) = record {
     start = t.same.start;
     replies = λ st at. (
@@ -75,14 +75,14 @@ module _ (old new : BenchView) (ok : IsBench old) (lawful : IsBench new) (marks 
   }
 
   -- the history would be too long
-  pub too_long_turns : bench.AbsorbsNone old names.items fault.HistoryFull new → Turns (desk_of old marks) (Absorb names) (refusal_text HistoryFull) (desk_of new marks)
-  too_long_turns (long, same) = subst (λ v. Turns (desk_of old marks) (Absorb names) (refusal_text HistoryFull) (desk_of v marks)) (sym same) (record {
+  pub too_long_turns : bench.AbsorbsNone old names.items fault.HistoryFull new → TurnsByRequest (desk_of old marks) (Absorb names) (refusal_text HistoryFull) (desk_of new marks)
+  too_long_turns (long, same) = subst (λ v. TurnsByRequest (desk_of old marks) (Absorb names) (refusal_text HistoryFull) (desk_of v marks)) (sym same) (record {
     start = refl;
     replies = λ st at. (st, absorb_history_full (fits_not old old ok ok names.items st.bench at.bench long), at);
   })
 
   -- memory is wanting
-  pub absorb_wants : bench.AbsorbsNone old names.items fault.Memory new → Turns (desk_of old marks) (Absorb names) (refusal_text Memory) (desk_of new marks)
+  pub absorb_wants : bench.AbsorbsNone old names.items fault.Memory new → TurnsByRequest (desk_of old marks) (Absorb names) (refusal_text Memory) (desk_of new marks)
   absorb_wants (came, t) = record {
     start = t.same.start;
     replies = λ st at. (
@@ -93,15 +93,15 @@ module _ (old new : BenchView) (ok : IsBench old) (lawful : IsBench new) (marks 
 
   -- what is told of it, or a refusal where no line was added
   pub absorbs_or_refused : (known : List ℕ) (text : Result (Vec ℕ) AllocError) (result : Result Answer AllocError) → bench.Fits old names.items
-      → new.start ≡ old.start → IsLonger old new → Turns (desk_of old marks) (Absorb names) known (desk_of new marks) → IfOk text (λ t. t.items ≡ known)
+      → new.start ≡ old.start → IsLonger old new → TurnsByRequest (desk_of old marks) (Absorb names) known (desk_of new marks) → IfOk text (λ t. t.items ≡ known)
       → IfOk text (λ t. IfOk result (λ a. answer_text a ≡ t.items))
       → OnErr text (IfOk result (λ a. (answer_text a ≡ refusal_text Memory) × (length new.lines ≤ length old.lines)))
-      → MatchResult result (λ a. Turns (desk_of old marks) (Absorb names) (answer_text a) (desk_of new marks)) (λ _. new.start ≡ old.start)
+      → MatchResult result (λ a. TurnsByRequest (desk_of old marks) (Absorb names) (answer_text a) (desk_of new marks)) (λ _. new.start ≡ old.start)
   absorbs_or_refused known text result room start longer turns is told instead =
-      told_or_refused (λ t. Turns (desk_of old marks) (Absorb names) t (desk_of new marks)) (new.start ≡ old.start) (length new.lines ≤ length old.lines) known text result Memory
+      told_or_refused (λ t. TurnsByRequest (desk_of old marks) (Absorb names) t (desk_of new marks)) (new.start ≡ old.start) (length new.lines ≤ length old.lines) known text result Memory
       turns refused start is told instead
     where
-      refused : length new.lines ≤ length old.lines → Turns (desk_of old marks) (Absorb names) (refusal_text Memory) (desk_of new marks)
+      refused : length new.lines ≤ length old.lines → TurnsByRequest (desk_of old marks) (Absorb names) (refusal_text Memory) (desk_of new marks)
       refused few = record {
         start = start;
         replies = λ st at. (

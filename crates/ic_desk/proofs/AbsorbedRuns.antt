@@ -9,7 +9,7 @@ use Rattle.ic_path.specs.Orders.{IsIn, Alike}
 use Rattle.ic_path.proofs.Picks.{in_first, in_more, in_picked}
 use Rattle.ic_path.proofs.Alikes.{alike_back, alike_then, alike-cons}
 use Rattle.ic_theory.specs.Starts.{Start}
-use Rattle.ic_theory.specs.Machine.{Standing, State, events, Answers, fired, undone}
+use Rattle.ic_theory.specs.Machine.{Standing, State, events, MachineStep, fired, undone}
 use Rattle.ic_theory.proofs.Machines.{IsKept}
 use Rattle.ic_theory.proofs.Normal.{active-alike}
 use Rattle.ic_theory.proofs.Replies.{one_line}
@@ -47,10 +47,10 @@ listed-alike s alike h = record {
 }
 
 -- what stands after a firing
-fired_after : {s : Start} {st next : State} {e : Event} → Answers s st (Fire e) Fired next → events next ≡ e ∷ events st
+fired_after : {s : Start} {st next : State} {e : Event} → MachineStep s st (Fire e) Fired next → events next ≡ e ∷ events st
 fired_after (fired a d n) = refl
 
-line_after : {s : Start} {st next : State} {e : Event} → Answers s st (Fire e) Fired next → next.lines ≡ st.lines + 1
+line_after : {s : Start} {st next : State} {e : Event} → MachineStep s st (Fire e) Fired next → next.lines ≡ st.lines + 1
 line_after (fired a d n) = refl
 
 -- listed events are fired in turn, and lines are left
@@ -84,7 +84,7 @@ record TakesOne (st next : State) (l : ℕ) : Type 0 where
   stood : (y : Standing) → IsIn y next.standing → IsIn y st.standing
   lines : next.lines ≡ st.lines + 1
 
-takes_one : {s : Start} {st next : State} {l : ℕ} → Answers s st (Undo l) Undone next → TakesOne st next l
+takes_one : {s : Start} {st next : State} {l : ℕ} → MachineStep s st (Undo l) Undone next → TakesOne st next l
 takes_one (undone {x = x} {rest = rest} p e n) = record { gone = x; there = (rest, p); line = e; stood = λ y i. in_picked p i; lines = refl }
 
 module _ (s : Start) (mid : State) (kept : IsKept s mid) where

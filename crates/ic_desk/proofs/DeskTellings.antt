@@ -21,8 +21,8 @@ use Rattle.ic_answer.specs.declared.answer.Answer.{Answer}
 use Rattle.ic_answer.specs.declared.refused.Refused.TheVariants.{NotActive, Memory}
 use Rattle.ic_answer.specs.declared.rules.TheConstants.{RULES}
 use Rattle.ic_desk.specs.Questions.{Told, marks_text, of_bench, marks, help, stepped, nothing_active, memory}
-use Rattle.ic_desk.specs.Replies.{Replies}
-use Rattle.ic_desk.specs.Views.{DeskView, NamedView, Turns, note_of}
+use Rattle.ic_desk.specs.Replies.{RepliesToRequest}
+use Rattle.ic_desk.specs.Views.{DeskView, NamedView, TurnsByRequest, note_of}
 
 -- memory is wanting
 pub memory_told : (d : DeskView) (q : Question) → Told d q (refusal_text Memory) d
@@ -79,11 +79,11 @@ nothing_told d none = record {
 
 -- the active pair with the least lead is fired
 pub step_told : (old new : DeskView) (e : Event) (p : Pair) (text : List ℕ) → ((st : State) → IsAt old.bench st → IsLeastActive old.bench.start (events st) e) → p ≡ pair e
-    → Turns old (Bench (Fire p)) text new → Told old Step text new
+    → TurnsByRequest old (Bench (Fire p)) text new → Told old Step text new
 step_told old new e p text least is t = record {
   start = t.start;
   tells = λ st at. (
       let r = t.replies st at in
-      (r.0, stepped (least st.bench at.bench) (subst (λ n. Replies old.bench.start st (Bench (Fire n)) text r.0) is r.1), r.2)
+      (r.0, stepped (least st.bench at.bench) (subst (λ n. RepliesToRequest old.bench.start st (Bench (Fire n)) text r.0) is r.1), r.2)
       );
 }

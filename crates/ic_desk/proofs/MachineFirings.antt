@@ -8,7 +8,7 @@ use Rattle.ic_name.specs.declared.lines.Reply.TheVariants.{Fired}
 use Rattle.ic_path.specs.Orders.{Alike}
 use Rattle.ic_path.proofs.Alikes.{alike_back, alike-cons}
 use Rattle.ic_theory.specs.Starts.{Start}
-use Rattle.ic_theory.specs.Machine.{State, events, Answers, fired, IsHistory, goes_on}
+use Rattle.ic_theory.specs.Machine.{State, events, MachineStep, fired, IsHistory, goes_on}
 use Rattle.ic_theory.proofs.Normal.{active-alike}
 use Rattle.ic_journal.proofs.SameSets.{full-alike}
 use Rattle.ic_undo.specs.GoingBack.{AreFirable, firing}
@@ -25,7 +25,7 @@ pub fires_in_turn : (s : Start) (ls : List Line) (es base : List Event) (st : St
     → AreFirable s base es → st.lines + length es ≤ MAX_LINES → FiresSo s ls es st
 fires_in_turn s ls [] base st history alike fit few = record { next = st; did = none; history = subst (λ ks. IsHistory s ks st) (sym (append-nil ls)) history }
 fires_in_turn s ls (e ∷ es) base st history alike (active, shallow, small, later) few =
-    let answers : Answers s st (Fire e) Fired (record { standing = record { event = e; line = st.lines } ∷ st.standing; lines = st.lines + 1 }) =
+    let answers : MachineStep s st (Fire e) Fired (record { standing = record { event = e; line = st.lines } ∷ st.standing; lines = st.lines + 1 }) =
     fired (active-alike s alike active) shallow (λ f. small (full-alike s e (alike_back alike) f)) in
     let further = fires_in_turn s (ls ++ firing e ∷ []) es (e ∷ base) (record { standing = record { event = e; line = st.lines } ∷ st.standing; lines = st.lines + 1 })
     (goes_on history answers) (alike-cons e alike) later (omega (arith, few)) in

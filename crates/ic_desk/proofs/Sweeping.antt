@@ -16,11 +16,11 @@ use Rattle.ic_answer.proofs.ReducingReplies.{reduce_wants}
 use Rattle.ic_answer.proofs.TurnSteps.{told_same}
 use Rattle.ic_answer.proofs.UntoldTurns.{untold, told_or_refused}
 use Rattle.ic_desk.specs.ManyWorkers.{TurnsWith, as_one, swept}
-use Rattle.ic_desk.specs.Views.{NamedView, DeskView, Turns}
+use Rattle.ic_desk.specs.Views.{NamedView, DeskView, TurnsByRequest}
 use Rattle.ic_desk.proofs.DeskTurns.{desk_of, bench_turns}
 
 -- what one worker answers, any number of workers may
-pub as_with_one : (workers : ℕ) (old new : DeskView) (r : Request) (text : List ℕ) → Turns old r text new → TurnsWith workers old r text new
+pub as_with_one : (workers : ℕ) (old new : DeskView) (r : Request) (text : List ℕ) → TurnsByRequest old r text new → TurnsWith workers old r text new
 as_with_one workers old new r text t = record {
   start = t.start;
   replies = λ st at. (let a = t.replies st at in (a.0, as_one a.1, a.2));

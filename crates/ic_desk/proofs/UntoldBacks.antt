@@ -22,8 +22,8 @@ use Rattle.ic_answer.specs.Texts.{answer_text, refusal_text}
 use Rattle.ic_answer.specs.Unwinding.{events_of}
 use Rattle.ic_answer.proofs.UntoldTurns.{told_or_refused}
 use Rattle.ic_desk.specs.Backs.{AreOutside, AreMissing, GoesBack, GoesPartWay}
-use Rattle.ic_desk.specs.Replies.{Replies, back_memory, back_text, wanting_text}
-use Rattle.ic_desk.specs.Views.{NamedView, Turns}
+use Rattle.ic_desk.specs.Replies.{RepliesToRequest, back_memory, back_text, wanting_text}
+use Rattle.ic_desk.specs.Views.{NamedView, TurnsByRequest}
 use Rattle.ic_desk.proofs.BackReplies.{goes_back}
 use Rattle.ic_desk.proofs.DeskTurns.{desk_of, back_turns, part_way_turns}
 use Rattle.ic_desk.proofs.Marks.{noted}
@@ -77,16 +77,16 @@ module _ (old new : BenchView) (ok : IsBench old) (lawful : IsBench new) (marks 
       → IfOk text (λ t. t.items ≡ back_text name counts.undone counts.fired)
       → IfOk text (λ t. IfOk result (λ a. answer_text a ≡ t.items))
       → OnErr text (IfOk result (λ a. (answer_text a ≡ refusal_text MemoryBeforeBack) × (length new.lines ≤ length old.lines)))
-      → MatchResult result (λ a. Turns (desk_of old marks) (Back name) (answer_text a) (desk_of new marks)) (λ _. new.start ≡ old.start)
+      → MatchResult result (λ a. TurnsByRequest (desk_of old marks) (Back name) (answer_text a) (desk_of new marks)) (λ _. new.start ≡ old.start)
   back_or_refused counts text result b is told instead =
-      told_or_refused (λ t. Turns (desk_of old marks) (Back name) t (desk_of new marks)) (new.start ≡ old.start) (length new.lines ≤ length old.lines)
+      told_or_refused (λ t. TurnsByRequest (desk_of old marks) (Back name) t (desk_of new marks)) (new.start ≡ old.start) (length new.lines ≤ length old.lines)
       (back_text name counts.undone counts.fired) text result MemoryBeforeBack
       (back_turns old new ok lawful marks name x there named same k counts (back_text name counts.undone counts.fired) b refl) refused start is told instead
     where
       start : new.start ≡ old.start
       start = b.did.fired.start ∙ b.did.undone.start
 
-      refused : length new.lines ≤ length old.lines → Turns (desk_of old marks) (Back name) (refusal_text MemoryBeforeBack) (desk_of new marks)
+      refused : length new.lines ≤ length old.lines → TurnsByRequest (desk_of old marks) (Back name) (refusal_text MemoryBeforeBack) (desk_of new marks)
       refused few = record {
         start = start;
         replies = λ st at. (
@@ -95,7 +95,7 @@ module _ (old new : BenchView) (ok : IsBench old) (lawful : IsBench new) (marks 
             let over = subst (λ s. IsMark (record { start = s; events = x.mark.events })) same k in
             let r = goes_back old ok x.mark.events over st.bench at.bench new lawful counts own in
             let next = record st { bench = r.0 } in
-            (next, subst (λ t. Replies old.start st (Back name) t next) before_back (back_memory (noted marks at.marks name x there named) (goes_nowhere r.1 none.0 none.1)), record { bench = r.2; marks = at.marks })
+            (next, subst (λ t. RepliesToRequest old.start st (Back name) t next) before_back (back_memory (noted marks at.marks name x there named) (goes_nowhere r.1 none.0 none.1)), record { bench = r.2; marks = at.marks })
             );
       }
 
@@ -104,12 +104,12 @@ module _ (old new : BenchView) (ok : IsBench old) (lawful : IsBench new) (marks 
       → IfOk text (λ t. t.items ≡ wanting_text counts.undone counts.fired)
       → IfOk text (λ t. IfOk result (λ a. answer_text a ≡ t.items))
       → OnErr text (IfOk result (λ a. (answer_text a ≡ refusal_text MemoryBeforeBack) × (length new.lines ≤ length old.lines)))
-      → MatchResult result (λ a. Turns (desk_of old marks) (Back name) (answer_text a) (desk_of new marks)) (λ _. new.start ≡ old.start)
+      → MatchResult result (λ a. TurnsByRequest (desk_of old marks) (Back name) (answer_text a) (desk_of new marks)) (λ _. new.start ≡ old.start)
   part_way_or_refused counts text result b is told instead =
-      told_or_refused (λ t. Turns (desk_of old marks) (Back name) t (desk_of new marks)) (new.start ≡ old.start) (length new.lines ≤ length old.lines)
+      told_or_refused (λ t. TurnsByRequest (desk_of old marks) (Back name) t (desk_of new marks)) (new.start ≡ old.start) (length new.lines ≤ length old.lines)
       (wanting_text counts.undone counts.fired) text result MemoryBeforeBack (on_way (wanting_text counts.undone counts.fired) refl)
       (λ few. let none = nothing_done b.did few in on_way (refusal_text MemoryBeforeBack) (sym before_back ∙ ap₂ wanting_text (sym none.0) (sym none.1)))
       (b.did.fired.start ∙ b.did.undone.start) is told instead
     where
-      on_way : (t : List ℕ) → t ≡ wanting_text counts.undone counts.fired → Turns (desk_of old marks) (Back name) t (desk_of new marks)
+      on_way : (t : List ℕ) → t ≡ wanting_text counts.undone counts.fired → TurnsByRequest (desk_of old marks) (Back name) t (desk_of new marks)
       on_way t same_text = part_way_turns old new ok lawful marks name x there named same k counts t b same_text

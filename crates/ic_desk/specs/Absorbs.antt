@@ -8,7 +8,7 @@ use Rattle.ic_name.specs.declared.lines.Reply.TheVariants.{Fired}
 use Rattle.ic_path.specs.Orders.{IsIn}
 use Rattle.ic_theory.specs.Starts.{Start}
 use Rattle.ic_theory.specs.Active.{IsActive}
-use Rattle.ic_theory.specs.Machine.{Standing, State, events, Answers}
+use Rattle.ic_theory.specs.Machine.{Standing, State, events, MachineStep}
 use Rattle.ic_undo.specs.Absorbing.{IsLeastListed}
 use Rattle.ic_answer.specs.Unwinding.{AreUndoneInTurn, events_of}
 
@@ -19,7 +19,7 @@ Fits st names = st.lines + 2 * length names ≤ MAX_LINES
 -- listed events are fired in turn: of those that are active the one with the least lead, in a line of its own
 pub data AreAbsorbed (s : Start) (names : List Pair) : State → List Event → State → Type 0 where
   none : {st : State} → AreAbsorbed s names st [] st
-  more : {st mid next : State} {e : Event} {es : List Event} → IsLeastListed s (events st) names e → st.lines < MAX_LINES → Answers s st (Fire e) Fired mid
+  more : {st mid next : State} {e : Event} {es : List Event} → IsLeastListed s (events st) names e → st.lines < MAX_LINES → MachineStep s st (Fire e) Fired mid
       → AreAbsorbed s names mid es next → AreAbsorbed s names st (e ∷ es) next
 
 -- a history that fits, and what was fired of the list
@@ -40,7 +40,7 @@ pub record IsRefused (s : Start) (names : List Pair) (st : State) (reply : Reply
   pub event : Event
   pub turn : IsLeastListed s (events st) names event
   pub room : st.lines < MAX_LINES
-  pub answer : Answers s st (Fire event) reply next
+  pub answer : MachineStep s st (Fire event) reply next
 
 -- what came is undone, the last first
 pub record TakesBack (s : Start) (st : State) (came : List Event) (next : State) : Type 0 where

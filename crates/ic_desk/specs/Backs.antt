@@ -7,7 +7,7 @@ use Rattle.ic_name.specs.declared.lines.Reply.TheVariants.{Fired}
 use Rattle.ic_path.specs.Orders.{IsIn}
 use Rattle.ic_path.specs.Rings.{HasEachOnce}
 use Rattle.ic_theory.specs.Starts.{Start}
-use Rattle.ic_theory.specs.Machine.{Standing, State, events, Answers}
+use Rattle.ic_theory.specs.Machine.{Standing, State, events, MachineStep}
 use Rattle.ic_cause.specs.Journals.{AreCanonical}
 use Rattle.ic_answer.specs.Unwinding.{AreLastFirst, AreUndoneInTurn, events_of}
 
@@ -23,7 +23,7 @@ pub record AreMissing (s : Start) (st : State) (marked came : List Event) : Type
 -- these events are fired in turn, each in a line of its own
 pub data AreFired (s : Start) : State → List Event → State → Type 0 where
   none : {st : State} → AreFired s st [] st
-  more : {st mid next : State} {e : Event} {es : List Event} → st.lines < MAX_LINES → Answers s st (Fire e) Fired mid
+  more : {st mid next : State} {e : Event} {es : List Event} → st.lines < MAX_LINES → MachineStep s st (Fire e) Fired mid
       → AreFired s mid es next → AreFired s st (e ∷ es) next
 
 -- a history that has a line for each of these events, too, would be too long

@@ -16,7 +16,7 @@ use Rattle.ic_answer.specs.Questions.{Informs}
 use Rattle.ic_answer.specs.Texts.{refusal_text}
 use Rattle.ic_answer.specs.declared.refused.Refused.TheVariants.{NotActive, Memory}
 use Rattle.ic_desk.specs.Desks.{Noted, State}
-use Rattle.ic_desk.specs.Replies.{Replies}
+use Rattle.ic_desk.specs.Replies.{RepliesToRequest}
 use Rattle.ic_desk.specs.Views.{DeskView, IsDeskAt}
 
 -- the name of a mark, and how many events it has
@@ -33,7 +33,7 @@ pub data Tells (s : Start) (st : State) : Question → List ℕ → State → Ty
   of_bench : {q : Question} {text : List ℕ} → Informs s st.bench q text → Tells s st q text st
   marks : {xs : List Noted} → Alike xs st.marks → Tells s st Marks (marks_text xs) st
   help : Tells s st Help HELP.now st
-  stepped : {e : Event} {text : List ℕ} {next : State} → IsLeastActive s (events st.bench) e → Replies s st (Bench (Fire (pair e))) text next → Tells s st Step text next
+  stepped : {e : Event} {text : List ℕ} {next : State} → IsLeastActive s (events st.bench) e → RepliesToRequest s st (Bench (Fire (pair e))) text next → Tells s st Step text next
   nothing_active : IsNormal s (events st.bench) → Tells s st Step (refusal_text NotActive) st
   memory : {q : Question} → Tells s st q (refusal_text Memory) st
 

@@ -40,27 +40,27 @@ abbrev pub never_text : Pair → List ℕ
 never_text p = pair_line (codes "refused 51 ") p
 
 -- the answer to what a line asks for, and the state after it
-pub data Replies (s : Start) (st : State) : Request → List ℕ → State → Type 0 where
-  of_bench : {c : Command} {text : List ℕ} {next : machine.State} → bench.Replies s st.bench c text next → Replies s st (Bench c) text (record st { bench = next })
+pub data RepliesToRequest (s : Start) (st : State) : Request → List ℕ → State → Type 0 where
+  of_bench : {c : Command} {text : List ℕ} {next : machine.State} → bench.RepliesToCommand s st.bench c text next → RepliesToRequest s st (Bench c) text (record st { bench = next })
   marked : {name : List ℕ} {es : List Event} {marks : List Noted} → Alike (machine.events st.bench) es → Puts st.marks (record { name = name; events = es }) marks
-      → Replies s st (Mark name) (marked_text name (length es)) (record st { marks = marks })
-  too_many : {name : List ℕ} → NoneNoted st.marks name → MAX_MARKS ≤ length st.marks → Replies s st (Mark name) (refusal_text TooManyMarks) st
-  mark_memory : {name : List ℕ} → Replies s st (Mark name) (refusal_text Memory) st
-  no_mark : {name : List ℕ} → NoneNoted st.marks name → Replies s st (Back name) (refusal_text NoMark) st
+      → RepliesToRequest s st (Mark name) (marked_text name (length es)) (record st { marks = marks })
+  too_many : {name : List ℕ} → NoneNoted st.marks name → MAX_MARKS ≤ length st.marks → RepliesToRequest s st (Mark name) (refusal_text TooManyMarks) st
+  mark_memory : {name : List ℕ} → RepliesToRequest s st (Mark name) (refusal_text Memory) st
+  no_mark : {name : List ℕ} → NoneNoted st.marks name → RepliesToRequest s st (Back name) (refusal_text NoMark) st
   back_history_full : {name : List ℕ} {x : Noted} {gone came : List Event} → IsNoted st.marks name x → AreOutside s st.bench x.events gone → AreMissing s st.bench x.events came
-      → DontFit st.bench gone came → Replies s st (Back name) (refusal_text HistoryFull) st
+      → DontFit st.bench gone came → RepliesToRequest s st (Back name) (refusal_text HistoryFull) st
   back : {name : List ℕ} {x : Noted} {undone fired : ℕ} {next : machine.State} → IsNoted st.marks name x → GoesBack s st.bench x.events undone fired next
-      → Replies s st (Back name) (back_text name undone fired) (record st { bench = next })
+      → RepliesToRequest s st (Back name) (back_text name undone fired) (record st { bench = next })
   back_memory : {name : List ℕ} {x : Noted} {undone fired : ℕ} {next : machine.State} → IsNoted st.marks name x → GoesPartWay s st.bench x.events undone fired next
-      → Replies s st (Back name) (wanting_text undone fired) (record st { bench = next })
+      → RepliesToRequest s st (Back name) (wanting_text undone fired) (record st { bench = next })
   absorbed : {names : Vec Pair} {came : List Event} {next : machine.State} → Absorbs s names.items st.bench came next → AllStand next names.items
-      → Replies s st (Absorb names) (absorbed_text (length came)) (record st { bench = next })
+      → RepliesToRequest s st (Absorb names) (absorbed_text (length came)) (record st { bench = next })
   never_active : {names : Vec Pair} {p : Pair} {came : List Event} {mid next : machine.State} → Absorbs s names.items st.bench came mid → NoneIsActive s mid names.items
-      → IsLeastNever s (machine.events st.bench) names.items p → TakesBack s mid came next → Replies s st (Absorb names) (never_text p) (record st { bench = next })
+      → IsLeastNever s (machine.events st.bench) names.items p → TakesBack s mid came next → RepliesToRequest s st (Absorb names) (never_text p) (record st { bench = next })
   absorb_deep : {names : Vec Pair} {came : List Event} {mid after next : machine.State} → Absorbs s names.items st.bench came mid → IsRefused s names.items mid reply.Deep after
-      → TakesBack s after came next → Replies s st (Absorb names) (refusal_text Deep) (record st { bench = next })
+      → TakesBack s after came next → RepliesToRequest s st (Absorb names) (refusal_text Deep) (record st { bench = next })
   absorb_full : {names : Vec Pair} {came : List Event} {mid after next : machine.State} → Absorbs s names.items st.bench came mid → IsRefused s names.items mid reply.Full after
-      → TakesBack s after came next → Replies s st (Absorb names) (refusal_text Full) (record st { bench = next })
-  absorb_history_full : {names : Vec Pair} → ¬ (Fits st.bench names.items) → Replies s st (Absorb names) (refusal_text HistoryFull) st
+      → TakesBack s after came next → RepliesToRequest s st (Absorb names) (refusal_text Full) (record st { bench = next })
+  absorb_history_full : {names : Vec Pair} → ¬ (Fits st.bench names.items) → RepliesToRequest s st (Absorb names) (refusal_text HistoryFull) st
   absorb_memory : {names : Vec Pair} {came : List Event} {mid next : machine.State} → Absorbs s names.items st.bench came mid → TakesBack s mid came next
-      → Replies s st (Absorb names) (refusal_text Memory) (record st { bench = next })
+      → RepliesToRequest s st (Absorb names) (refusal_text Memory) (record st { bench = next })

@@ -8,7 +8,7 @@ use Rattle.ic_undo.specs.Marks.{MarkView}
 use Rattle.ic_undo.specs.Stood.{StoodAt}
 use Rattle.ic_command.specs.declared.request.Request.{Request}
 use Rattle.ic_desk.specs.Desks.{Noted, State}
-use Rattle.ic_desk.specs.Replies.{Replies}
+use Rattle.ic_desk.specs.Replies.{RepliesToRequest}
 
 -- a mark under its name, and after how many lines of the history just its events last stood
 pub record NamedView : Type 0 where
@@ -45,6 +45,6 @@ pub record IsOver (s : Start) (v : DeskView) : Type 0 where
   pub marks : v.marks ≡ []
 
 -- the answer to what a line asks for, and the desk after it
-pub record Turns (old : DeskView) (r : Request) (text : List ℕ) (new : DeskView) : Type 0 where
+pub record TurnsByRequest (old : DeskView) (r : Request) (text : List ℕ) (new : DeskView) : Type 0 where
   pub start : new.bench.start ≡ old.bench.start
-  pub replies : (st : State) → IsDeskAt old st → (next : State) × Replies old.bench.start st r text next × IsDeskAt new next
+  pub replies : (st : State) → IsDeskAt old st → (next : State) × RepliesToRequest old.bench.start st r text next × IsDeskAt new next

@@ -2,7 +2,7 @@ ghost use Rattle.std.specs.Prelude.{◌≡◌, MatchResult, OnErr};
 ghost use Rattle.ic_answer.specs.Longer.{HasGrown, IsLonger};
 ghost use Rattle.ic_answer.specs.Texts.{answer_text};
 ghost use Rattle.ic_command.specs.declared.request.Request.TheVariants.{Absorb};
-ghost use Rattle.ic_desk.specs.Views.{IsDesk, Turns};
+ghost use Rattle.ic_desk.specs.Views.{IsDesk, TurnsByRequest};
 
 use crate::named_mark::NamedMark;
 use crate::texts::{absorbed_text, never_text};
@@ -19,7 +19,7 @@ pub(crate) fn absorb_events<L: LinkStore>(
     marks: &[NamedMark],
     names: &Vec<EventName>,
 ) -> Result<Answer, AllocError>
-    ensures turns { MatchResult result (λ answer. Turns (record { bench = bench.old; marks = marks.now }) (Absorb names.now) (answer_text answer) (record { bench = bench.new; marks = marks.now })) (λ _. bench.new.start ≡ bench.old.start) }
+    ensures turns { MatchResult result (λ answer. TurnsByRequest (record { bench = bench.old; marks = marks.now }) (Absorb names.now) (answer_text answer) (record { bench = bench.new; marks = marks.now })) (λ _. bench.new.start ≡ bench.old.start) }
     ensures lines { IsLonger bench.old bench.new }
     ensures grown { OnErr result (HasGrown bench.old bench.new) }
 {

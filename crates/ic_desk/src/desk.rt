@@ -5,17 +5,16 @@ ghost use Rattle.ic_command.specs.declared.command.Command.TheVariants.{Reduce};
 ghost use Rattle.ic_command.specs.declared.request.Request.TheVariants as request;
 ghost use Rattle.ic_desk.specs.declared.fault.DeskFault.TheVariants.{Settle};
 ghost use Rattle.ic_desk.specs.ManyWorkers.{TurnsWith};
-ghost use Rattle.ic_desk.specs.Views.{IsOver, Turns};
+ghost use Rattle.ic_desk.specs.Views.{IsOver, TurnsByRequest};
 
 use crate::absorbing::absorb_events;
 use crate::fault::DeskFault;
 use crate::going_back::go_back;
 use crate::marking::mark_under;
 use crate::named_mark::NamedMark;
-use ic_answer::{Answer, Refused, carry_out, end_text, text_or_refused};
+use ic_answer::{Answer, Gate, Refused, carry_out, end_text, text_or_refused};
 use ic_command::{Command, Request};
 use ic_journal::{Bench, LinkStore, Store};
-use ic_reduce::Gate;
 use ic_start::Start;
 use ic_work::{MAX_BUDGET, MAX_WORKERS, SweepFault, sweep};
 use std::alloc::{AllocError, Global};
@@ -58,9 +57,14 @@ impl<L: LinkStore> Desk<L> {
 
     /// Answers a request. Where there is no memory for it, the answer is a refusal, and then neither net, standing set nor
     /// marks have changed, but for what the answer says. An error only where the history has grown and there is no memory for
-    /// the answer.
-    pub fn carry_out(&mut self, alloc: Global, request: Request) -> Result<Answer, AllocError>
-        ensures turns { IfOk result (λ answer. Turns self.old request (answer_text answer) self.new) }
+    /// the answer. The gate sees each commit of a `reduce`.
+    pub fn carry_out<G: Gate>(
+        &mut self,
+        alloc: Global,
+        request: Request,
+        gate: &G,
+    ) -> Result<Answer, AllocError>
+        ensures turns { IfOk result (λ answer. TurnsByRequest self.old request (answer_text answer) self.new) }
         ensures grown { OnErr result (HasGrown self.old.bench self.new.bench) }
     {
         match request {
@@ -69,6 +73,7 @@ impl<L: LinkStore> Desk<L> {
                 &mut self.bench,
                 &self.marks,
                 command,
+                gate,
             ),
             Request::Mark(name) => Ok(mark_under(alloc, &self.bench, &mut self.marks, name)),
             Request::Back(name) => go_back(alloc, &mut self.bench, &mut self.marks, &name),
@@ -78,8 +83,8 @@ impl<L: LinkStore> Desk<L> {
 }
 
 impl Desk<Store> {
-    /// Answers a request as `carry_out` does, but that a `reduce` by two workers or more, of 64 at most, is a sweep, each
-    /// commit of which the gate sees; the desk comes back with the answer.
+    /// Answers a request as `carry_out` does, but that a `reduce` by two workers or more, of 64 at most, is a sweep;
+    /// the desk comes back with the answer.
     ///
     /// `DeskFault::Memory` where the history has grown and there is no memory for the answer, and `DeskFault::Settle` where
     /// the workers' receipts aren't what the history says, which takes two workers or more; the desk is gone then.
@@ -101,7 +106,7 @@ impl Desk<Store> {
                 self.sweep(threads, alloc, workers, most, gate)
             }
             other => {
-                let answer = self.carry_out(alloc, other)?;
+                let answer = self.carry_out(alloc, other, gate)?;
                 Ok((self, answer))
             }
         }
@@ -144,15 +149,16 @@ impl Desk<Store> {
 }
 
 /// Carries out a command of the bench; the marks stay.
-fn carry_out_command<L: LinkStore>(
+fn carry_out_command<L: LinkStore, G: Gate>(
     alloc: Global,
     bench: &mut Bench<L>,
     marks: &[NamedMark],
     command: Command,
+    gate: &G,
 ) -> Result<Answer, AllocError>
-    ensures turns { MatchResult result (λ answer. Turns (record { bench = bench.old; marks = marks.now }) (request.Bench command) (answer_text answer) (record { bench = bench.new; marks = marks.now })) (λ _. bench.new.start ≡ bench.old.start) }
+    ensures turns { MatchResult result (λ answer. TurnsByRequest (record { bench = bench.old; marks = marks.now }) (request.Bench command) (answer_text answer) (record { bench = bench.new; marks = marks.now })) (λ _. bench.new.start ≡ bench.old.start) }
     ensures lines { IsLonger bench.old bench.new }
     ensures grown { OnErr result (HasGrown bench.old bench.new) }
 {
-    carry_out(alloc, bench, command)
+    carry_out(alloc, bench, command, gate)
 }

@@ -2,7 +2,7 @@ ghost use Rattle.std.specs.Prelude.{◌≡◌, MatchResult, OnErr};
 ghost use Rattle.ic_answer.specs.Longer.{HasGrown};
 ghost use Rattle.ic_answer.specs.Texts.{answer_text};
 ghost use Rattle.ic_command.specs.declared.request.Request.TheVariants.{Back};
-ghost use Rattle.ic_desk.specs.Views.{IsDesk, Turns};
+ghost use Rattle.ic_desk.specs.Views.{IsDesk, TurnsByRequest};
 
 use crate::named_mark::{NamedMark, place_of};
 use crate::texts::{back_text, wanting_text};
@@ -21,7 +21,7 @@ pub(crate) fn go_back<L: LinkStore>(
     name: &MarkName,
 ) -> Result<Answer, AllocError>
     requires { IsDesk (record { bench = bench.old; marks = marks.old }) }
-    ensures turns { MatchResult result (λ answer. Turns (record { bench = bench.old; marks = marks.old }) (Back name.now) (answer_text answer) (record { bench = bench.new; marks = marks.new })) (λ _. bench.new.start ≡ bench.old.start) }
+    ensures turns { MatchResult result (λ answer. TurnsByRequest (record { bench = bench.old; marks = marks.old }) (Back name.now) (answer_text answer) (record { bench = bench.new; marks = marks.new })) (λ _. bench.new.start ≡ bench.old.start) }
     ensures desk { IsDesk (record { bench = bench.new; marks = marks.new }) }
     ensures grown { OnErr result (HasGrown bench.old bench.new) }
 {

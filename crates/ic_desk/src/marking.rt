@@ -2,7 +2,7 @@ ghost use Rattle.std.specs.Prelude.{◌≡◌, MatchResult, OnErr, OnOk};
 ghost use Rattle.ic_answer.specs.Texts.{answer_text};
 ghost use Rattle.ic_command.specs.declared.request.Request.TheVariants.{Mark};
 ghost use Rattle.ic_desk.specs.Places.{IsPlaceIn, PutsAt};
-ghost use Rattle.ic_desk.specs.Views.{IsDesk, Turns};
+ghost use Rattle.ic_desk.specs.Views.{IsDesk, TurnsByRequest};
 
 use crate::desk::MAX_MARKS;
 use crate::named_mark::{NamedMark, place_of};
@@ -22,7 +22,7 @@ pub(crate) fn mark_under<L: LinkStore>(
     name: MarkName,
 ) -> Answer
     requires { IsDesk (record { bench = bench.now; marks = marks.old.items }) }
-    ensures turns { Turns (record { bench = bench.now; marks = marks.old.items }) (Mark name) (answer_text result) (record { bench = bench.now; marks = marks.new.items }) }
+    ensures turns { TurnsByRequest (record { bench = bench.now; marks = marks.old.items }) (Mark name) (answer_text result) (record { bench = bench.now; marks = marks.new.items }) }
     ensures desk { IsDesk (record { bench = bench.now; marks = marks.new.items }) }
 {
     match marked(alloc, bench, marks, name) {
@@ -39,7 +39,7 @@ fn marked<L: LinkStore>(
     name: MarkName,
 ) -> Result<Answer, AllocError>
     requires { IsDesk (record { bench = bench.now; marks = marks.old.items }) }
-    ensures turns { MatchResult result (λ answer. Turns (record { bench = bench.now; marks = marks.old.items }) (Mark name) (answer_text answer) (record { bench = bench.now; marks = marks.new.items })) (λ _. marks.new.items ≡ marks.old.items) }
+    ensures turns { MatchResult result (λ answer. TurnsByRequest (record { bench = bench.now; marks = marks.old.items }) (Mark name) (answer_text answer) (record { bench = bench.now; marks = marks.new.items })) (λ _. marks.new.items ≡ marks.old.items) }
     ensures desk { IsDesk (record { bench = bench.now; marks = marks.new.items }) }
 {
     let place = place_of(marks, &name);

@@ -7,7 +7,7 @@ ghost use Rattle.ic_desk.specs.Views.{note_of};
 
 use crate::desk::Desk;
 use crate::named_mark::NamedMark;
-use ic_answer::{Answer, RULES, Refused, tell_agents, tell_dependents, tell_history};
+use ic_answer::{Answer, NoGate, RULES, Refused, tell_agents, tell_dependents, tell_history};
 use ic_command::{Command, HELP, Question, Request};
 use ic_journal::LinkStore;
 use std::alloc::{AllocError, Global};
@@ -47,7 +47,8 @@ impl<L: LinkStore> Desk<L> {
         let Ok(event) = self.bench.name_of_pair(pair) else {
             return Ok(Answer::Refused(Refused::Memory));
         };
-        self.carry_out(alloc, Request::Bench(Command::Fire(event)))
+        let fire = Request::Bench(Command::Fire(event));
+        self.carry_out(alloc, fire, &NoGate)
     }
 }
 

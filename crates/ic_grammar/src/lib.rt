@@ -1,4 +1,4 @@
-// The text of a net: its tokens, its grammar, the start that it denotes, and what can be wrong with it.
+//! The text of a net: its tokens, its grammar, the start that it denotes, and what can be wrong with it.
 #![tactic(auto)]
 
 pub mod bytes;

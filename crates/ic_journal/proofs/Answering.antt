@@ -17,7 +17,7 @@ use Rattle.ic_path.proofs.Picks.{none_in, length-pick, in_more, in-cons_cases, p
 use Rattle.ic_theory.specs.Rules.{born_kinds}
 use Rattle.ic_theory.specs.Born.{named, born_agents}
 use Rattle.ic_theory.specs.Starts.{Start, IsProper}
-use Rattle.ic_theory.specs.Machine.{State, initial, noted, Answers, not_active, deep, full, fired, not_standing, held, undone, IsHistory, begins, goes_on}
+use Rattle.ic_theory.specs.Machine.{State, initial, noted, MachineStep, not_active, deep, full, fired, not_standing, held, undone, IsHistory, begins, goes_on}
 use Rattle.ic_theory.proofs.Machines.{history_kept, history_length}
 use Rattle.ic_shown.proofs.Elements.{in_behind, in-append_cases, map_cases}
 use Rattle.ic_roster.specs.Rosters.{Member, Stander}
@@ -97,12 +97,12 @@ same_set v = record { start = refl; agents = alike_self v.agents; events = alike
 
 -- a step that is refused changes nothing that stands
 pub refused : (old new : BenchView) (call : Call) (answer : Reply) → set_of new ≡ set_of old → new.lines ≡ old.lines ++ record { call = call; reply = answer } ∷ [] → old.room ≤ new.room + 1
-    → ((st : State) → IsAt old st → Answers old.start st call answer (noted st)) → Refuses old call answer new
+    → ((st : State) → IsAt old st → MachineStep old.start st call answer (noted st)) → Refuses old call answer new
 refused old new call answer same lines room answers = (noted_step old new call answer same lines room answers, rw same (same_set (set_of old)))
 
 -- and what a bench keeps is kept
 pub refused_running : (old new : BenchView) (call : Call) (answer : Reply) → IsRunning old → set_of new ≡ set_of old → new.lines ≡ old.lines ++ record { call = call; reply = answer } ∷ []
-    → length new.lines + new.room ≤ MAX_LINES → ((st : State) → IsAt old st → Answers old.start st call answer (noted st)) → IsRunning new
+    → length new.lines + new.room ≤ MAX_LINES → ((st : State) → IsAt old st → MachineStep old.start st call answer (noted st)) → IsRunning new
 refused_running old new call answer r same lines short answers =
     let next = answers r.state r.at in
     record {
@@ -134,7 +134,7 @@ few_standing : {s : Start} {lines : List Line} {st : State} → IsHistory s line
 few_standing begins = omega arith
 few_standing (goes_on h a) = few_answered a (few_standing h)
   where
-    few_answered : {s : Start} {st next : State} {call : Call} {reply : Reply} → Answers s st call reply next → length st.standing ≤ st.lines → length next.standing ≤ next.lines
+    few_answered : {s : Start} {st next : State} {call : Call} {reply : Reply} → MachineStep s st call reply next → length st.standing ≤ st.lines → length next.standing ≤ next.lines
     few_answered (not_active n) few = omega arith
     few_answered (deep a d) few = omega arith
     few_answered (full a n f) few = omega arith

@@ -7,11 +7,10 @@ use Rattle.ic_name.specs.declared.ids.EventId.{EventId}
 use Rattle.ic_name.specs.declared.limits.TheConstants.{MAX_LINES}
 use Rattle.ic_name.specs.declared.lines.Call.{Call}
 use Rattle.ic_name.specs.declared.lines.Call.TheVariants.{Fire, Undo}
-use Rattle.ic_name.specs.declared.lines.Line.{Line}
 use Rattle.ic_name.specs.declared.lines.Reply.{Reply}
 use Rattle.ic_name.specs.declared.lines.Reply.TheVariants as reply
 use Rattle.ic_theory.specs.Active.{IsActive}
-use Rattle.ic_theory.specs.Machine.{State, noted, Answers, IsDeep, IsFull}
+use Rattle.ic_theory.specs.Machine.{State, noted, MachineStep, IsDeep, IsFull}
 use Rattle.ic_roster.specs.declared.interaction.Interaction.{Interaction}
 use Rattle.ic_roster.specs.Rosters.{event_in, IsNamed}
 use Rattle.ic_set.specs.Changes.{IsSame, Admits, TakesOut}
@@ -57,7 +56,7 @@ module _ (s t : NamedView) (h k : HistoryView) (is : IsKept s h) (same : IsSame 
 
 -- where a refused call is noted
 module _ (s : NamedView) (h k : HistoryView) (is : IsKept s h) (l : KeptLine) (call : Call) (answer : Reply) (more : k.lines ≡ h.lines ++ l ∷ []) (named : IsCallNamed s.names l.call)
-    (line : line_in s.names l ≡ record { call = call; reply = answer }) (answers : (st : State) → IsAt (view_of s h) st → Answers s.set.start st call answer (noted st)) where
+    (line : line_in s.names l ≡ record { call = call; reply = answer }) (answers : (st : State) → IsAt (view_of s h) st → MachineStep s.set.start st call answer (noted st)) where
   -- its line is there
   noted_line : (view_of s k).lines ≡ (view_of s h).lines ++ record { call = call; reply = answer } ∷ []
   noted_line = more_lines s.names s.names (keeps_self s.names) h.lines k.lines l _ is.named more line

@@ -1,5 +1,5 @@
 -- One step of the machine, on what a bench shows.
-use Rattle.std.proofs.Common.{◌≡◌, ◌≢◌, ℕ, ◌+◌, ◌≤◌, List, [], ◌∷◌, ◌++◌, length, map, Err, refl, sym, ap, subst, ◌∙◌}
+use Rattle.std.proofs.Common.{◌≡◌, ◌≢◌, ℕ, ◌+◌, ◌≤◌, List, [], ◌∷◌, ◌++◌, length, map, Result, Err, refl, sym, ap, subst, ◌∙◌}
 use Rattle.ic_name.specs.Events.{Event}
 use Rattle.ic_name.specs.declared.ids.EventId.{EventId}
 use Rattle.ic_name.specs.declared.lines.Call.{Call}
@@ -10,12 +10,13 @@ use Rattle.ic_path.specs.Orders.{Pick, here, IsIn, Alike}
 use Rattle.ic_path.proofs.Picks.{pick-map}
 use Rattle.ic_path.proofs.Alikes.{alike_back, alike_pick, alike_then, alike-cons, alike-map, alike-in}
 use Rattle.ic_shown.proofs.Elements.{map_cases}
-use Rattle.ic_theory.specs.Machine.{Standing, State, events, noted, IsDeep, IsFull, Answers, not_active, deep, full, fired, not_standing, held, undone, goes_on}
+use Rattle.ic_theory.specs.Machine.{Standing, State, events, noted, IsDeep, IsFull, MachineStep, not_active, deep, full, fired, not_standing, held, undone, goes_on}
 use Rattle.ic_theory.specs.Active.{IsActive}
 use Rattle.ic_theory.proofs.Machines.{history_length}
 use Rattle.ic_theory.proofs.Normal.{active-alike}
 use Rattle.ic_roster.specs.Rosters.{Stander}
-use Rattle.ic_set.specs.Views.{events_of, standing}
+use Rattle.ic_set.specs.Views.{NamedView, events_of, standing}
+use Rattle.ic_set.specs.declared.pairs.ActivePair.{ActivePair}
 use Rattle.ic_set.specs.Changes.{Admits, TakesOut}
 use Rattle.ic_set.specs.Removal.{IsFree, IsLeast}
 use Rattle.ic_journal.specs.declared.verdict.Refusal.{Refusal}
@@ -37,7 +38,7 @@ events_at v {st} at = subst (λ es. Alike es (events st)) (fired_events v.events
 
 -- a call, on which a line is noted and nothing else changes
 pub noted_step : (old new : BenchView) (call : Call) (answer : Reply) → set_of new ≡ set_of old → new.lines ≡ old.lines ++ record { call = call; reply = answer } ∷ [] → old.room ≤ new.room + 1
-    → ((st : State) → IsAt old st → Answers old.start st call answer (noted st)) → Steps old call answer new
+    → ((st : State) → IsAt old st → MachineStep old.start st call answer (noted st)) → Steps old call answer new
 noted_step old new call answer same lines room answers = record {
   start = ap (λ s. s.start) same;
   lines = lines;
@@ -52,8 +53,12 @@ noted_step old new call answer same lines room answers = record {
   );
 }
 
+-- what is judged of an event over a set is judged of the same event over the same set
+pub judged_same : {v w : NamedView} {e f : Event} (verdict : Result ActivePair Refusal) → v ≡ w → e ≡ f → Judges v.set e verdict → Judges w.set f verdict
+judged_same {v} {w} {e} {f} verdict same its j = subst (λ (x : NamedView). Judges x.set f verdict) same (subst (λ g. Judges v.set g verdict) its j)
+
 -- why an event is refused is why the machine refuses it
-pub refusal_answer : (old : BenchView) (e : Event) (why : Refusal) → Judges (set_of old) e (Err why) → (st : State) → IsAt old st → Answers old.start st (Fire e) (reply_of why) (noted st)
+pub refusal_answer : (old : BenchView) (e : Event) (why : Refusal) → Judges (set_of old) e (Err why) → (st : State) → IsAt old st → MachineStep old.start st (Fire e) (reply_of why) (noted st)
 refusal_answer old e NotActive j st at = not_active (λ a. j (active-alike old.start (alike_back (events_at old at)) a))
 refusal_answer old e Deep j st at = deep (active-alike old.start (events_at old at) j.0) j.1
 refusal_answer old e Full j st at = full (active-alike old.start (events_at old at) j.0) j.1 (full-alike old.start e (events_at old at) j.2)
@@ -79,7 +84,7 @@ fired_step old new e id t lines room active shallow few = record {
     after : State → State
     after st = record { standing = record { event = e; line = st.lines } ∷ st.standing; lines = st.lines + 1 }
 
-    answer : (st : State) → IsAt old st → Answers old.start st (Fire e) reply.Fired (after st)
+    answer : (st : State) → IsAt old st → MachineStep old.start st (Fire e) reply.Fired (after st)
     answer st at = fired (active-alike old.start (events_at old at) active) shallow (λ f. few (full-alike old.start e (alike_back (events_at old at)) f))
 
     entered : (st : State) → IsAt old st → fired_in t.entry ≡ record { event = e; line = st.lines }
@@ -88,13 +93,13 @@ fired_step old new e id t lines room active shallow few = record {
         λ i. record { event = t.event i; line = line i }
 
 -- a line in which nothing that stands was fired
-pub absent_answer : (old : BenchView) (line : ℕ) → ((x : Stander) → IsIn x old.events → x.id.line ≢ line) → (st : State) → IsAt old st → Answers old.start st (Undo line) reply.NotStanding (noted st)
+pub absent_answer : (old : BenchView) (line : ℕ) → ((x : Stander) → IsIn x old.events → x.id.line ≢ line) → (st : State) → IsAt old st → MachineStep old.start st (Undo line) reply.NotStanding (noted st)
 absent_answer old line none st at = not_standing (λ x i. let m = map_cases fired_in old.events (alike-in (alike_back at.standing) i) in λ e. none m.0 m.1 (ap (λ (y : Standing). y.line) m.2 ∙ e))
 
 -- an event on which another depends is held by the least of these
-pub held_answer : (old : BenchView) (d h : EventId) → IsLeast (set_of old) d h → (st : State) → IsAt old st → Answers old.start st (Undo d.line) (reply.Held h.line) (noted st)
+pub held_answer : (old : BenchView) (d h : EventId) → IsLeast (set_of old) d h → (st : State) → IsAt old st → MachineStep old.start st (Undo d.line) (reply.Held h.line) (noted st)
 held_answer old d h l st at =
-    subst (λ (k : EventId). Answers old.start st (Undo d.line) (reply.Held k.line) (noted st)) l.holder_id
+    subst (λ (k : EventId). MachineStep old.start st (Undo d.line) (reply.Held k.line) (noted st)) l.holder_id
     (held (stood l.held l.held_there) (ap (λ (k : EventId). k.line) l.held_id) (stood l.holder l.holder_there) (least-alike old.start (events_at old at) l.least))
   where
     stood : (x : Stander) → IsIn x old.events → IsIn (fired_in x) st.standing
@@ -126,5 +131,5 @@ undone_step old new d t free lines room = record {
     there : IsIn t.entry old.events
     there = alike-in (alike_back t.events) (new.events, here)
 
-    answer : (st : State) → (at : IsAt old st) → Answers old.start st (Undo d.line) reply.Undone (after st at)
+    answer : (st : State) → (at : IsAt old st) → MachineStep old.start st (Undo d.line) reply.Undone (after st at)
     answer st at = undone (picked st at).1 (ap (λ (k : EventId). k.line) t.under) (λ f n. free t.entry there t.under f (dependent-alike old.start (alike_back (events_at old at)) n))

@@ -8,7 +8,7 @@ use Rattle.ic_name.specs.declared.lines.Call.TheVariants.{Fire, Undo}
 use Rattle.ic_name.specs.declared.lines.Reply.{Reply}
 use Rattle.ic_name.specs.declared.lines.Reply.TheVariants as reply
 use Rattle.ic_path.specs.Orders.{IsIn}
-use Rattle.ic_theory.specs.Machine.{State, Answers}
+use Rattle.ic_theory.specs.Machine.{State, MachineStep}
 use Rattle.ic_roster.specs.Rosters.{Stander}
 use Rattle.ic_set.specs.declared.pairs.Fired.{Fired}
 use Rattle.ic_set.specs.Changes.{IsSame, Admits, TakesOut}
@@ -29,7 +29,7 @@ pub record Steps (old : BenchView) (call : Call) (answer : Reply) (new : BenchVi
   pub start : new.start ≡ old.start
   pub lines : new.lines ≡ old.lines ++ record { call = call; reply = answer } ∷ []
   pub room : old.room ≤ new.room + 1
-  pub step : (st : State) → IsAt old st → (next : State) × Answers old.start st call answer next × IsAt new next
+  pub step : (st : State) → IsAt old st → (next : State) × MachineStep old.start st call answer next × IsAt new next
 
 -- a step that is refused: what stands, and who is there, is the same
 abbrev pub Refuses : BenchView → Call → Reply → BenchView → Type 0

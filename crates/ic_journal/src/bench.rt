@@ -12,7 +12,8 @@ use crate::verdict::judge;
 use ic_link::LinkStore;
 use ic_name::limits::MAX_LINES;
 use ic_name::{EventId, Reply};
-use ic_set::{Fired, StandingSet};
+use ic_set::Fired;
+use ic_standing::StandingSet;
 use ic_start::Start;
 use std::alloc::{AllocError, Global};
 use std::marker::Model;
@@ -55,14 +56,14 @@ impl<L: LinkStore> Bench<L> {
     pub fn lawful(&self)
         ensures { IsBench self.now }
     {
-        self.set.lawful();
+        self.set.bare().lawful();
     }
 
     /// The start.
     pub fn start(&self) -> &Start
         ensures { result.now ≡ self.now.start }
     {
-        self.set.start()
+        self.set.bare().start()
     }
 
     /// The history lines that are reserved and unused. It takes no memory.
@@ -113,7 +114,9 @@ impl<L: LinkStore> Bench<L> {
         let Ok(()) = self.history.reserve(1) else {
             return Err(FireFault::Memory(proposal));
         };
-        let pair = match judge(&self.set, proposal.event()) {
+        let set = self.set.bare();
+        set.lawful();
+        let pair = match judge(set, proposal.event()) {
             Ok(pair) => pair,
             Err(refusal) => {
                 let kept = match Box::new(self.alloc, proposal) {
@@ -124,8 +127,7 @@ impl<L: LinkStore> Bench<L> {
                 return Err(refusal.fault());
             }
         };
-        self.set.lawful();
-        let event = self.set.interaction_of(pair);
+        let event = set.interaction_of(pair);
         let Ok(fired) = self.set.admit(pair, line as u32) else {
             return Err(FireFault::Memory(proposal));
         };
@@ -150,11 +152,12 @@ impl<L: LinkStore> Bench<L> {
             return Err(UndoFault::Memory);
         };
         let call = KeptCall::Undo(id.line);
-        let Some(standing) = self.set.roster().at_line(id.line) else {
+        let set = self.set.bare();
+        let Some(standing) = set.roster().at_line(id.line) else {
             self.history.note(call, Reply::NotStanding);
             return Err(UndoFault::NotStanding);
         };
-        match self.set.least_dependent(standing) {
+        match set.least_dependent(standing) {
             Some(holder) => {
                 self.history.note(call, Reply::Held(holder.line));
                 Err(UndoFault::Held(holder))

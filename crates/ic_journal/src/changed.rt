@@ -14,7 +14,7 @@ impl<L: LinkStore> Bench<L> {
     pub fn changed_since(&self, line: usize) -> Result<Vec<Event>, AllocError>
         ensures { IfOk result (λ events. (e : AnEvent) → IsIn e events.items ↔ IsChanged self.now.lines line e) }
     {
-        let roster = self.set.roster();
+        let roster = self.set.bare().roster();
         let mut events = Vec::new(self.alloc);
         for number in line..self.history.len() {
             if let Some(event) = self.history.changed_in(roster, number)? {

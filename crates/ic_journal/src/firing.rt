@@ -31,13 +31,14 @@ impl<L: LinkStore> Bench<L> {
         let Ok(()) = self.history.reserve(1) else {
             return Err(PairFault::Memory);
         };
-        let event = self.set.interaction_of(pair);
-        if let Some(limit) = limit_of(&self.set, event) {
+        let set = self.set.bare();
+        set.lawful();
+        let event = set.interaction_of(pair);
+        if let Some(limit) = limit_of(set, event) {
             self.history
                 .note(KeptCall::Fired(event), limit.refusal().reply());
             return Err(limit.fault());
         }
-        self.set.lawful();
         let Ok(fired) = self.set.admit(pair, line as u32) else {
             return Err(PairFault::Memory);
         };

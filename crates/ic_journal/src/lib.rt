@@ -1,5 +1,5 @@
-// The bench: a standing set with its history; each call is one step of a machine, and can be taken back in any causally
-// allowed order (Danos and Krivine 2004).
+//! The bench: a standing set with its history; each call is one step of a machine, and can be taken back in any causally
+//! allowed order (Danos and Krivine 2004).
 #![tactic(auto)]
 
 pub mod bench;

@@ -16,14 +16,14 @@ impl<L: LinkStore> Bench<L> {
     pub fn standing_count(&self) -> usize
         ensures { result ≡ length self.now.events }
     {
-        self.set.roster().event_count()
+        self.set.bare().roster().event_count()
     }
 
     /// Whether the history has a line with this number, and it is this call with this reply. It takes no memory.
     pub fn line_is(&self, number: u32, call: &Call, reply: Reply) -> bool
         ensures { IsTrue result ↔ (slice_get self.now.lines number ≡ Some (record { call = call.now; reply = reply })) }
     {
-        let names = self.set.roster().names();
+        let names = self.set.bare().roster().names();
         self.history.line_is(names, number as usize, call, reply)
     }
 }

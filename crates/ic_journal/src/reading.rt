@@ -1,4 +1,4 @@
-ghost use Rattle.std.specs.Prelude.{◌≡◌, ◌≢◌, ◌<◌, ◌≤◌, All, List, [], length, option_map, IfSome, IfNone, IfOk};
+ghost use Rattle.std.specs.Prelude.{◌≡◌, ◌≢◌, ◌<◌, ◌⊎◌, List, [], length, option_map, IfSome, IfNone, IfOk};
 ghost use Rattle.ic_name.specs.Events.{Event as AnEvent, event_of, pair};
 ghost use Rattle.ic_name.specs.Events.{pair as pair_name};
 ghost use Rattle.ic_name.specs.declared.kinds.Kind.{Kind as AKind};
@@ -10,6 +10,7 @@ ghost use Rattle.ic_theory.specs.Listed.{shown};
 ghost use Rattle.ic_theory.specs.Nets.{IsSameNet, net_of};
 ghost use Rattle.ic_theory.specs.Steps.{AreDefined, steps};
 ghost use Rattle.ic_roster.specs.Rosters.{Stander, IsNewName};
+ghost use Rattle.ic_set.specs.declared.pairs.ActivePair.{ActivePair as APair};
 ghost use Rattle.ic_set.specs.Views.{standing};
 ghost use Rattle.ic_set.specs.Orders.{AreInOrder, AreRanked, IsAny};
 ghost use Rattle.ic_set.specs.Pairs.{IsPairOf, IsActivePair, IsLeastPair, AreActivePairs};
@@ -26,8 +27,8 @@ use ic_name::{AgentId, AgentName, Event, EventId, EventName, Kind, Line};
 use ic_names::NameTable;
 use ic_net::Net;
 use ic_roster::AgentEntry;
-use ic_set::{ActivePair, StandingSet};
-use std::alloc::{AllocError, Global};
+use ic_set::ActivePair;
+use std::alloc::AllocError;
 
 impl<L: LinkStore> Bench<L> {
     /// The id of the agent of this name; `None` where there is no such agent. It takes no memory.
@@ -35,7 +36,7 @@ impl<L: LinkStore> Bench<L> {
         ensures found { IfSome result (λ id. (kind : AKind) × IsIn (record { id = id; name = name.now; kind = kind }) self.now.agents) }
         ensures absent { IfNone result (IsNewName self.now.agents name.now) }
     {
-        self.set.roster().find(name)
+        self.set.bare().roster().find(name)
     }
 
     /// The id of the standing event of this name; `None` where no such event stands. It takes no memory.
@@ -43,7 +44,7 @@ impl<L: LinkStore> Bench<L> {
         ensures found { IfSome result (λ id. (x : Stander) × IsIn x self.now.events × (x.id ≡ id) × (pair x.event ≡ name.now)) }
         ensures absent { IfNone result ((x : Stander) → IsIn x self.now.events → pair x.event ≢ name.now) }
     {
-        self.set.roster().find_event(name)
+        self.set.bare().roster().find_event(name)
     }
 
     /// The active pair of the agents of this event's name; `None` where no wire joins their principal ports. It takes no
@@ -53,15 +54,16 @@ impl<L: LinkStore> Bench<L> {
         ensures absent { IfNone result ((e : AnEvent) → IsActive self.now.start (standing (set_of self.now)) e → pair e ≢ name.now) }
     {
         name.lawful();
-        self.set.lawful();
-        let roster = self.set.roster();
+        let set = self.set.bare();
+        set.lawful();
+        let roster = set.roster();
         let Some(lead) = roster.find(name.lead()) else {
             return None;
         };
         let Some(other) = roster.find(name.other()) else {
             return None;
         };
-        let Some(partner) = self.set.partner(lead) else {
+        let Some(partner) = set.partner(lead) else {
             return None;
         };
         if partner != other {
@@ -70,13 +72,31 @@ impl<L: LinkStore> Bench<L> {
         Some(ActivePair { lead, other })
     }
 
+    /// The active pair that this agent is of; `None` where it is of none. It takes no memory.
+    pub fn pair_with(&self, agent: AgentId) -> Option<ActivePair>
+        ensures found { IfSome result (λ pair. ((pair.lead ≡ agent) ⊎ (pair.other ≡ agent)) × IsActivePair (set_of self.now) pair) }
+        ensures absent { IfNone result ((e : AnEvent) (pair : APair) → (pair.lead ≡ agent) ⊎ (pair.other ≡ agent) → IsPairOf (set_of self.now) e pair → ⊥) }
+    {
+        self.set.bare().pair_with(agent)
+    }
+
+    /// The event of an active pair.
+    pub fn event_of_pair(&self, pair: ActivePair) -> Result<Event, AllocError>
+        requires { IsActivePair (set_of self.now) pair }
+        ensures { IfOk result (λ event. IsPairOf (set_of self.now) event pair) }
+    {
+        let set = self.set.bare();
+        set.roster().read(set.interaction_of(pair))
+    }
+
     /// The name of an active pair's event.
     pub fn name_of_pair(&self, pair: ActivePair) -> Result<EventName, AllocError>
         requires { IsActivePair (set_of self.now) pair }
         ensures { IfOk result (λ name. (e : AnEvent) → IsPairOf (set_of self.now) e pair → name ≡ pair_name e) }
     {
-        let names = self.set.roster().names();
-        let event = self.set.interaction_of(pair);
+        let set = self.set.bare();
+        let names = set.roster().names();
+        let event = set.interaction_of(pair);
         let Some(lead) = names.name(event.lead)? else {
             unreachable!()
         };
@@ -93,7 +113,7 @@ impl<L: LinkStore> Bench<L> {
     pub fn kind_of(&self, id: AgentId) -> Option<Kind>
         ensures { IsKindOf self.now id result }
     {
-        match self.set.roster().agent(id) {
+        match self.set.bare().roster().agent(id) {
             Some(agent) => Some(agent.kind),
             None => None,
         }
@@ -103,7 +123,7 @@ impl<L: LinkStore> Bench<L> {
     pub fn name_of(&self, id: AgentId) -> Result<Option<AgentName>, AllocError>
         ensures { IfOk result (λ name. IsNameOf self.now id name) }
     {
-        let roster = self.set.roster();
+        let roster = self.set.bare().roster();
         match roster.agent(id) {
             Some(agent) => roster.names().name(agent.name),
             None => Ok(None),
@@ -114,7 +134,7 @@ impl<L: LinkStore> Bench<L> {
     pub fn event_of(&self, id: EventId) -> Result<Option<Event>, AllocError>
         ensures { IfOk result (λ event. IsEventUnder self.now id event) }
     {
-        let roster = self.set.roster();
+        let roster = self.set.bare().roster();
         let Some(standing) = roster.at_line(id.line) else {
             return Ok(None);
         };
@@ -129,8 +149,9 @@ impl<L: LinkStore> Bench<L> {
     pub fn rank(&self, id: EventId) -> Option<u32>
         ensures { IsRankOf self.now id result }
     {
-        self.set.lawful();
-        let roster = self.set.roster();
+        let set = self.set.bare();
+        set.lawful();
+        let roster = set.roster();
         let Some(standing) = roster.at_line(id.line) else {
             return None;
         };
@@ -145,11 +166,12 @@ impl<L: LinkStore> Bench<L> {
     pub fn propose(&self, a: AgentId, b: AgentId) -> Result<Proposal, ProposeFault>
         ensures { Proposes self.now a b result }
     {
-        self.set.lawful();
         if a == b {
             return Err(ProposeFault::NotActive);
         }
-        let roster = self.set.roster();
+        let set = self.set.bare();
+        set.lawful();
+        let roster = set.roster();
         let Some(left) = roster.agent(a) else {
             return Err(ProposeFault::NotActive);
         };
@@ -167,8 +189,9 @@ impl<L: LinkStore> Bench<L> {
     pub fn causes(&self, id: EventId) -> Result<Option<Vec<EventId>>, AllocError>
         ensures { IfOk result (λ causes. AreCausesOf self.now id (option_map (λ ids. ids.items) causes)) }
     {
-        match self.set.roster().at_line(id.line) {
-            Some(standing) => Ok(Some(self.set.causes(standing)?)),
+        let set = self.set.bare();
+        match set.roster().at_line(id.line) {
+            Some(standing) => Ok(Some(set.causes(standing)?)),
             None => Ok(None),
         }
     }
@@ -177,8 +200,9 @@ impl<L: LinkStore> Bench<L> {
     pub fn dependents(&self, id: EventId) -> Result<Option<Vec<EventId>>, AllocError>
         ensures { IfOk result (λ dependents. AreDependentsOf self.now id (option_map (λ ids. ids.items) dependents)) }
     {
-        match self.set.roster().at_line(id.line) {
-            Some(standing) => Ok(Some(self.set.dependents(standing)?)),
+        let set = self.set.bare();
+        match set.roster().at_line(id.line) {
+            Some(standing) => Ok(Some(set.dependents(standing)?)),
             None => Ok(None),
         }
     }
@@ -187,14 +211,14 @@ impl<L: LinkStore> Bench<L> {
     pub fn standing(&self) -> Result<Vec<EventId>, AllocError>
         ensures { IfOk result (λ ids. AreInOrder (set_of self.now) IsAny ids.items) }
     {
-        self.set.standing()
+        self.set.bare().standing()
     }
 
     /// The standing events with their ranks, in canonical order.
     pub fn ranked(&self) -> Result<Vec<RankedEvent>, AllocError>
         ensures { IfOk result (λ events. AreRanked (set_of self.now) events.items) }
     {
-        self.set.ranked()
+        self.set.bare().ranked()
     }
 
     /// The active pair with the least lead; `None` where no pair is active. It takes no memory.
@@ -209,24 +233,7 @@ impl<L: LinkStore> Bench<L> {
     pub fn active(&self) -> Result<Vec<ActivePair>, AllocError>
         ensures { IfOk result (λ pairs. AreActivePairs (set_of self.now) pairs.items) }
     {
-        self.set.active()
-    }
-
-    /// At most four active pairs in which children of this event are, as hints of what to fire next: it may have made
-    /// others active, too.
-    pub fn born_pairs(&self, id: EventId) -> Result<Vec<ActivePair>, AllocError>
-        ensures active { IfOk result (λ pairs. All (λ pair. (e : AnEvent) × IsPairOf (set_of self.now) e pair) pairs.items) }
-        ensures few { IfOk result (λ pairs. length pairs.items ≤ 4) }
-    {
-        self.set.lawful();
-        let roster = self.set.roster();
-        let Some(standing) = roster.at_line(id.line) else {
-            return Ok(Vec::new(self.alloc));
-        };
-        let Some(entry) = roster.event(standing) else {
-            unreachable!()
-        };
-        pairs_of(self.alloc, &self.set, entry.born)
+        self.set.bare().active()
     }
 
     /// The net of what stands: the one in which the steps of its events end, in each causal order of them (Lafont 1997).
@@ -235,14 +242,14 @@ impl<L: LinkStore> Bench<L> {
         ensures defined { IfOk result (λ _. (order : List AnEvent) → Alike (standing (set_of self.now)) (then_fired [] order) → AreAfterCauses self.now.start (then_fired [] order) (then_fired [] order) → AreDefined (net_of self.now.start []) order) }
         ensures every_order { IfOk result (λ net. (order : List AnEvent) → Alike (standing (set_of self.now)) (then_fired [] order) → AreAfterCauses self.now.start (then_fired [] order) (then_fired [] order) → IsSameNet (shown net) (steps (net_of self.now.start []) order)) }
     {
-        self.set.net()
+        self.set.bare().net()
     }
 
     /// The history: each call with its reply, numbered from 0 on.
     pub fn history(&self) -> Result<Vec<Line>, AllocError>
         ensures { IfOk result (λ lines. lines.items ≡ self.now.lines) }
     {
-        self.history.read(self.alloc, self.set.roster())
+        self.history.read(self.alloc, self.set.bare().roster())
     }
 }
 
@@ -260,22 +267,4 @@ fn meeting(names: &NameTable, a: AgentEntry, b: AgentEntry) -> Result<Option<Pro
         unreachable!()
     };
     Ok(Proposal::make(first, a.kind, second, b.kind))
-}
-
-/// The active pairs that these agents are of.
-fn pairs_of<L: LinkStore>(
-    alloc: Global,
-    set: &StandingSet<L>,
-    agents: &[AgentId],
-) -> Result<Vec<ActivePair>, AllocError>
-    ensures active { IfOk result (λ pairs. All (λ pair. (e : AnEvent) × IsPairOf set.now.set e pair) pairs.items) }
-    ensures few { IfOk result (λ pairs. length pairs.items ≤ length agents.now) }
-{
-    let mut pairs = Vec::new(alloc);
-    for agent in agents {
-        if let Some(pair) = set.pair_with(*agent) {
-            pairs.push(pair)?;
-        }
-    }
-    Ok(pairs)
 }

@@ -11,7 +11,7 @@ use ic_name::limits::{MAX_AGENTS, MAX_DEPTH};
 use ic_name::{Event, Profile, Reply};
 use ic_names::NameTable;
 use ic_roster::Interaction;
-use ic_set::{ActivePair, StandingSet};
+use ic_set::{ActivePair, BareSet};
 use ic_start::outcome;
 
 /// Why an event can't be fired.
@@ -76,10 +76,7 @@ impl Limit {
 }
 
 /// The ids of the agents of an event that can be fired over a standing set, or why it can't. It takes no memory.
-pub(crate) fn judge<L: LinkStore>(
-    set: &StandingSet<L>,
-    event: &Event,
-) -> Result<ActivePair, Refusal>
+pub(crate) fn judge<L: LinkStore>(set: &BareSet<L>, event: &Event) -> Result<ActivePair, Refusal>
     ensures { Judges set.now.set event.now result }
 {
     let Some(pair) = set.active_pair(event) else {
@@ -92,7 +89,7 @@ pub(crate) fn judge<L: LinkStore>(
 }
 
 /// The limit that firing the event meets over a standing set, if it meets one. It takes no memory.
-pub(crate) fn limit_of<L: LinkStore>(set: &StandingSet<L>, event: Interaction) -> Option<Limit>
+pub(crate) fn limit_of<L: LinkStore>(set: &BareSet<L>, event: Interaction) -> Option<Limit>
     requires { IsNamed set.now.names event }
     ensures { Meets set.now.set (event_in set.now.names event) result }
 {
@@ -115,7 +112,7 @@ fn is_deep(names: &NameTable, event: Interaction, profile: Profile) -> bool
 }
 
 /// Whether with the event's children there would be too many agents.
-fn is_full<L: LinkStore>(set: &StandingSet<L>, event: Interaction) -> bool
+fn is_full<L: LinkStore>(set: &BareSet<L>, event: Interaction) -> bool
     ensures { IsTrue result ↔ IsFull set.now.set.start (standing set.now.set) (event_in set.now.names event) }
 {
     set.lawful();

@@ -1,4 +1,4 @@
-// Lines of bounded length from a reader, and replies to a writer.
+//! Lines of bounded length from a reader, and replies to a writer.
 #![tactic(auto)]
 
 mod feeds;

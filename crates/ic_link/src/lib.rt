@@ -1,4 +1,4 @@
-// Stores of links: what each promises of its list of links, and the plain one.
+//! Stores of links: what each promises of its list of links, and the plain one.
 #![tactic(auto)]
 
 pub mod ends;

@@ -15,8 +15,8 @@ use std::marker::Model;
 /// The name of an event: the two agents that meet, the lesser one, its lead, first.
 #[derive(Drop)]
 pub struct EventName {
-    lead: AgentName,
-    other: AgentName,
+    pub(crate) lead: AgentName,
+    pub(crate) other: AgentName,
 }
 
 impl Model for EventName {

@@ -1,8 +1,9 @@
 ghost use Rattle.std.specs.Prelude.{◌≡◌, ◌≢◌, ◌↔◌, IsTrue, IsSome, IfSome, IfOk};
 ghost use Rattle.std.specs.declared.cmp.Ordering.TheVariants.{Less};
 ghost use Rattle.ic_name.specs.Names.{name_cmp};
-ghost use Rattle.ic_name.specs.Events.{event_of};
+ghost use Rattle.ic_name.specs.Events.{event_of, pair};
 
+use crate::event_names::EventName;
 use crate::kinds::Kind;
 use crate::names::AgentName;
 use std::alloc::AllocError;
@@ -99,6 +100,15 @@ impl Event {
         ensures { result ≡ self.now.other_kind }
     {
         self.other_kind
+    }
+
+    /// The names of its two agents, which name the event.
+    pub fn name(&self) -> Result<EventName, AllocError>
+        ensures { IfOk result (λ name. name ≡ pair self.now) }
+    {
+        let lead = self.lead.copy()?;
+        let other = self.other.copy()?;
+        Ok(EventName { lead, other })
     }
 
     /// The same event once more.

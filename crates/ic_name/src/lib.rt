@@ -1,4 +1,4 @@
-// What the parts of a net are called: kinds, names of agents, events, ports, ids, links, and the lines of a history.
+//! What the parts of a net are called: kinds, names of agents, events, ports, ids, links, and the lines of a history.
 #![tactic(auto)]
 
 pub mod event_names;

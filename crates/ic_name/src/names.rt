@@ -9,6 +9,7 @@ ghost use Rattle.ic_name.specs.Names.{Name, IsName, depth as depth_of, name_cmp,
 use crate::faults::{ChildFault, NameFault};
 use crate::limits::{MAX_DEPTH, MAX_START_AGENTS};
 use crate::shapes::Shape;
+use itoa::Buffer;
 use smallvec::SmallVec;
 use std::alloc::{AllocError, Global};
 use std::cmp::Ordering;
@@ -46,6 +47,14 @@ impl AgentName {
             start: number,
             digits: SmallVec::new(alloc),
         })
+    }
+
+    /// The name of this start number and these digits.
+    pub fn of_digits(start: u16, digits: SmallVec<u8, 20>) -> AgentName
+        requires { IsName (record { start = start; digits = digits.items }) }
+        ensures { result ≡ record { start = start; digits = digits.items } }
+    {
+        AgentName { start, digits }
     }
 
     /// What holds of every name, for whoever has to show it.
@@ -157,21 +166,19 @@ impl AgentName {
         ensures ok { OnOk result (out.new.items ≡ out.old.items ++ name_text self.now) }
         ensures err { OnErr result (out.new.items ≡ out.old.items) }
     {
-        let text = self.text()?;
-        out.extend_from_slice(text.as_slice())?;
-        Ok(())
-    }
-
-    fn text(&self) -> Result<Vec<u8>, AllocError>
-        ensures { IfOk result (λ text. text.items ≡ name_text self.now) }
-    {
-        let mut text = format!(in *self.digits.allocator(); "{}", self.start)?.into_bytes();
+        let mut buffer = Buffer::new();
+        let start = buffer.format(self.start).as_bytes();
         let digits = self.digits.as_slice();
+        out.reserve(start.len() + 2 * digits.len())?;
+        let Ok(()) = out.extend_from_slice(start) else {
+            unreachable!()
+        };
         for digit in digits {
-            text.push(b'.')?;
-            text.push(b'0' + *digit)?;
+            let Ok(()) = out.extend_from_slice(&[b'.', b'0' + *digit]) else {
+                unreachable!()
+            };
         }
-        Ok(text)
+        Ok(())
     }
 }
 

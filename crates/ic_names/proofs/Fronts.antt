@@ -1,14 +1,16 @@
 -- The first digits as one number.
-use Rattle.std.proofs.Common.{◌≡◌, ℕ, zero, suc, ◌+◌, ◌-◌, ◌*◌, ◌^◌, ◌<◌, ◌≤◌, List, [], ◌∷◌, ◌++◌, length, refl, sym, ap, arith, ◌⊎◌, inl, inr}
+use Rattle.std.proofs.Common.{◌≡◌, ℕ, zero, suc, ◌+◌, ◌-◌, ◌*◌, ◌^◌, ◌<◌, ◌≤◌, List, [], ◌∷◌, ◌++◌, length, refl, sym, ◌∙◌, ap, arith, ◌⊎◌, inl, inr}
 use Rattle.std.specs.Prelude.{All}
 use Rattle.std.proofs.Math.Nat.{pow-suc, mul-le-mul_left, mul_comm, one-le-pow}
 use Rattle.std.proofs.lemmas.Bool.{cases_order}
 use Rattle.std.proofs.lemmas.List.Elements.{All-head, All-tail}
-use Rattle.std.specs.declared.cmp.Ordering.TheVariants.{Less, Equal}
-use Rattle.std.specs.Ordering.{nat_cmp}
+use Rattle.std.specs.declared.cmp.Ordering.TheVariants.{Less, Equal, Greater}
+use Rattle.std.specs.Ordering.{nat_cmp, ordering_reverse}
 use Rattle.std.specs.Cmp.{nat_cmp_is}
 use Rattle.std.specs.Cmp.Lexicographic.{slice_cmp}
+use Rattle.std.proofs.lemmas.Cmp.{nat_list_cmp_total}
 use Rattle.ic_names.specs.Keys.{front_of}
+use Rattle.ic_names.specs.Blocks.{number_of}
 
 -- a digit in front of a number below a power of 4
 digit_below : (d c f : ℕ) → d < 4 → f < c → d * c + f < c * 4
@@ -29,6 +31,9 @@ front_below (suc k) (d ∷ ds) all =
 -- two numbers in order
 pub nat_less : (x y : ℕ) → x < y → nat_cmp x y ≡ Less
 nat_less x y h = sym (nat_cmp_is x y Less h)
+
+nat_greater : (x y : ℕ) → y < x → nat_cmp x y ≡ Greater
+nat_greater x y h = sym (nat_cmp_is x y Greater h)
 
 -- one number twice
 pub nat_tied : (x y : ℕ) → x ≡ y → nat_cmp x y ≡ Equal
@@ -63,6 +68,49 @@ front_less (suc k) (x ∷ xs) (y ∷ ys) a b e h =
     by : (x < y) ⊎ ((x ≡ y) × (front_of k xs < front_of k ys)) → (front_of k xs < front_of k ys → slice_cmp nat_cmp xs ys ≡ Less) → slice_cmp nat_cmp (x ∷ xs) (y ∷ ys) ≡ Less
     by (inl less) f = rw (nat_less x y less) refl
     by (inr (same, less)) f = rw (nat_tied x y same) (f less)
+
+-- what two equal numbers say of their digits
+digits_same : (x y c f g : ℕ) → f < c → g < c → x * c + f ≡ y * c + g → (x ≡ y) × (f ≡ g)
+digits_same x y c f g low high h = by (cases_order x y)
+  where
+    by : (x ≡ y) ⊎ ((x < y) ⊎ (y < x)) → (x ≡ y) × (f ≡ g)
+    by (inl e) =
+        let same : x * c ≡ y * c = ap (λ z. z * c) e in
+        (e, omega arith)
+    by (inr (inl less)) =
+        let product : c * (x + 1) ≤ c * y = mul-le-mul_left c (omega arith) in
+        absurd (omega (arith, mul_comm c x, mul_comm c y))
+    by (inr (inr more)) =
+        let product : c * (y + 1) ≤ c * x = mul-le-mul_left c (omega arith) in
+        absurd (omega (arith, mul_comm c x, mul_comm c y))
+
+-- lists of one length with one front are tied, if the front has all their digits
+front_tied : (k : ℕ) (xs ys : List ℕ) → All (λ d. d < 4) xs → All (λ d. d < 4) ys → length xs ≡ length ys → length xs ≤ k → front_of k xs ≡ front_of k ys → slice_cmp nat_cmp xs ys ≡ Equal
+unfolding front_of
+front_tied k [] [] a b e few h = refl
+front_tied k [] (y ∷ ys) a b e few h = absurd (omega arith)
+front_tied k (x ∷ xs) [] a b e few h = absurd (omega arith)
+front_tied zero (x ∷ xs) (y ∷ ys) a b e few h = absurd (omega arith)
+front_tied (suc k) (x ∷ xs) (y ∷ ys) a b e few h =
+    let rest_a = All-tail (λ d. d < 4) x xs a in
+    let rest_b = All-tail (λ d. d < 4) y ys b in
+    let same = digits_same x y (4 ^ k) (front_of k xs) (front_of k ys) (front_below k xs rest_a) (front_below k ys rest_b) h in
+    rw (nat_tied x y same.0) (front_tied k xs ys rest_a rest_b (omega arith) (omega arith) same.1)
+
+-- lists of one length are in the order of their numbers
+pub number_order : (xs ys : List ℕ) → All (λ d. d < 4) xs → All (λ d. d < 4) ys → length xs ≡ length ys → nat_cmp (number_of xs) (number_of ys) ≡ slice_cmp nat_cmp xs ys
+number_order xs ys a b e = by (cases_order (number_of xs) (number_of ys))
+  where
+    one : front_of (length xs) ys ≡ number_of ys
+    one = ap (λ k. front_of k ys) e
+
+    by : (number_of xs ≡ number_of ys) ⊎ ((number_of xs < number_of ys) ⊎ (number_of ys < number_of xs)) → nat_cmp (number_of xs) (number_of ys) ≡ slice_cmp nat_cmp xs ys
+    by (inl same) = nat_tied _ _ same ∙ sym (front_tied (length xs) xs ys a b e (omega arith) (same ∙ sym one))
+    by (inr (inl less)) = nat_less _ _ less ∙ sym (front_less (length xs) xs ys a b e (omega (arith, one, less)))
+    by (inr (inr more)) =
+        let two : front_of (length ys) xs ≡ number_of xs = ap (λ k. front_of k xs) (sym e) in
+        let back = front_less (length ys) ys xs b a (sym e) (omega (arith, two, more)) in
+        nat_greater _ _ more ∙ sym (nat_list_cmp_total.antisymm xs ys ∙ ap ordering_reverse back)
 
 -- no digits make 0
 pub front-nil : (k : ℕ) → front_of k [] ≡ 0

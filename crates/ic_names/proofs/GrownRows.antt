@@ -6,14 +6,17 @@ use Rattle.ic_names.specs.declared.entry.Origin.{Origin}
 use Rattle.ic_names.specs.declared.entry.Origin.TheVariants.{Start, Child}
 use Rattle.ic_names.specs.declared.entry.Entry.{Entry}
 use Rattle.ic_names.specs.Keys.{key_of}
-use Rattle.ic_names.specs.Tables.{name_at, IsAbsent, IsPlaceOf}
+use Rattle.ic_names.specs.Blocks.{anchor_of, block_of}
+use Rattle.ic_names.specs.Tables.{name_at, StandsAt, IsAbsent, IsPlaceOf}
 use Rattle.ic_names.specs.Rows.{AreRows, name_from, IsBefore, entry_at, child_at, start_at}
-use Rattle.ic_names.proofs.Grown.{child_not_start, child_not_self, child_same, name_at-old, name_at-new, absent_still, Turns, place_grows, table_grows, from_still}
+use Rattle.ic_names.proofs.Grown.{child_not_start, child_not_self, child_same, name_at-old, name_at-new, stands_old, absent_still, Turns, place_grows, table_grows, from_still}
 
 -- an entry says what it said, but for the places of children
 pub record IsSameEntry (e f : Entry) : Type 0 where
   pub origin : e.origin ≡ f.origin
   pub key : e.key.0 ≡ f.key.0
+  pub block : e.block.0 ≡ f.block.0
+  pub anchor : e.anchor ≡ f.anchor
   pub four : length e.children ≡ length f.children
 
 -- the second entries are the first with one for the name behind them, of which they say where it stands
@@ -23,6 +26,8 @@ pub record Grows (ns : List Name) (es es' : List Entry) (ss ss' : List (Option �
   pub from : name_from ns (entry_at es' (length es)).origin ≡ n
   pub before : IsBefore (length es) (entry_at es' (length es)).origin
   pub key : (entry_at es' (length es)).key.0 ≡ key_of n
+  pub block : (entry_at es' (length es)).block.0 ≡ block_of n
+  pub anchor : StandsAt (ns ++ n ∷ []) (anchor_of n) (entry_at es' (length es)).anchor
   pub four : length (entry_at es' (length es)).children ≡ 4
   pub none : (d : ℕ) → d < 4 → child_at es' (length es) d ≡ None
   pub children : (k d : ℕ) → k < length es → d < 4 → Turns (child_name (name_at ns k) d) n (length es) (child_at es k d) (child_at es' k d)
@@ -49,6 +54,8 @@ rows_grow ns es es' ss ss' n rows same is absent few grows = record {
   named = named;
   parents = parents;
   keys = keys;
+  anchors = anchors;
+  blocks = blocks;
   four = four;
   children = children;
   starts = λ k. place_grows ns n (start_name k) (length es) (start_at ss k) (start_at ss' k) (sym same) (grows.starts k) (rows.starts k);
@@ -90,6 +97,22 @@ rows_grow ns es es' ss ss' n rows same is absent few grows = record {
         by (inl low) = (grows.old k low).key ∙ rows.keys k low ∙ ap (λ m. key_of m) (sym (name_at-old ns n k (omega arith)))
         by (inr e) = subst (λ j. (entry_at es' j).key.0 ≡ key_of (name_at (ns ++ n ∷ []) j)) (sym e)
             (grows.key ∙ ap (λ m. key_of m) (sym (name_at-new ns n (length es) same)))
+
+    anchors : (k : ℕ) → k < length es' → StandsAt (ns ++ n ∷ []) (anchor_of (name_at (ns ++ n ∷ []) k)) (entry_at es' k).anchor
+    anchors k h = by (split k h)
+      where
+        by : (k < length es) ⊎ (k ≡ length es) → StandsAt (ns ++ n ∷ []) (anchor_of (name_at (ns ++ n ∷ []) k)) (entry_at es' k).anchor
+        by (inl low) = rw (name_at-old ns n k (omega arith), (grows.old k low).anchor) (stands_old ns n (anchor_of (name_at ns k)) (entry_at es k).anchor (rows.anchors k low))
+        by (inr e) = subst (λ j. StandsAt (ns ++ n ∷ []) (anchor_of (name_at (ns ++ n ∷ []) j)) (entry_at es' j).anchor) (sym e)
+            (rw (name_at-new ns n (length es) same) grows.anchor)
+
+    blocks : (k : ℕ) → k < length es' → (entry_at es' k).block.0 ≡ block_of (name_at (ns ++ n ∷ []) k)
+    blocks k h = by (split k h)
+      where
+        by : (k < length es) ⊎ (k ≡ length es) → (entry_at es' k).block.0 ≡ block_of (name_at (ns ++ n ∷ []) k)
+        by (inl low) = (grows.old k low).block ∙ rows.blocks k low ∙ ap (λ m. block_of m) (sym (name_at-old ns n k (omega arith)))
+        by (inr e) = subst (λ j. (entry_at es' j).block.0 ≡ block_of (name_at (ns ++ n ∷ []) j)) (sym e)
+            (grows.block ∙ ap (λ m. block_of m) (sym (name_at-new ns n (length es) same)))
 
     four : (k : ℕ) → k < length es' → length (entry_at es' k).children ≡ 4
     four k h = by (split k h)

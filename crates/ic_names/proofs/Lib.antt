@@ -1,5 +1,6 @@
 pub mod Fronts
 pub mod KeyOrders
+pub mod Blocks
 pub mod PlaceNames
 pub mod RowNames
 pub mod RowReads

@@ -6,7 +6,7 @@ use Rattle.std.proofs.lemmas.List.Elements.{All-nil}
 use Rattle.std.specs.declared.cmp.Ordering.TheVariants.{Equal}
 use Rattle.std.specs.Ordering.{nat_cmp}
 use Rattle.std.specs.Cmp.Lexicographic.{slice_cmp}
-use Rattle.ic_name.specs.Names.{Name, depth, name_cmp, start_name}
+use Rattle.ic_name.specs.Names.{Name, name_cmp, start_name}
 use Rattle.ic_names.specs.Keys.{IsProper, key_of}
 use Rattle.ic_names.specs.Tables.{name_at, IsTable}
 use Rattle.ic_names.proofs.KeyOrders.{name_proper, key_tied, key-start, tied_order}

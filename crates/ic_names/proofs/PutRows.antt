@@ -9,21 +9,35 @@ use Rattle.ic_names.specs.declared.entry.Origin.{Origin}
 use Rattle.ic_names.specs.declared.entry.Origin.TheVariants.{Start, Child}
 use Rattle.ic_names.specs.declared.entry.Entry.{Entry}
 use Rattle.ic_names.specs.declared.key.NameKey.{NameKey}
+use Rattle.ic_names.specs.declared.block.Block.{Block}
 use Rattle.ic_names.specs.Keys.{key_of}
-use Rattle.ic_names.specs.Tables.{name_at, IsAbsent}
+use Rattle.ic_names.specs.Blocks.{anchor_of, block_of}
+use Rattle.ic_names.specs.Tables.{name_at, StandsAt, IsAbsent}
 use Rattle.ic_names.specs.Rows.{AreRows, name_from, IsBefore, entry_at, child_at, start_at, names_of}
 use Rattle.ic_names.proofs.RowNames.{names_of-length, names_of-push, names_of-set}
-use Rattle.ic_names.proofs.Grown.{child_not_start, child_same, Turns, placed, kept}
+use Rattle.ic_names.proofs.Grown.{stands_new, child_not_start, child_same, Turns, placed, kept}
 use Rattle.ic_names.proofs.GrownRows.{IsSameEntry, Grows, rows_grow}
 
--- the entry of a new name of this origin
-pub record IsNewEntry (e : Entry) (o : Origin) (n : Name) : Type 0 where
+-- the entry of a new name of this origin, to stand behind these names
+pub record IsNewEntry (ns : List Name) (e : Entry) (o : Origin) (n : Name) : Type 0 where
   pub origin : e.origin ≡ o
   pub key : e.key.0 ≡ key_of n
+  pub block : e.block.0 ≡ block_of n
+  pub anchor : StandsAt (ns ++ n ∷ []) (anchor_of n) e.anchor
   pub children : e.children ≡ None ∷ None ∷ None ∷ None ∷ []
 
-pub new_entry : (e : Entry) (k : NameKey) (o : Origin) (n : Name) → e ≡ record { key = k; children = None ∷ None ∷ None ∷ None ∷ []; origin = o } → k.0 ≡ key_of n → IsNewEntry e o n
-new_entry e k o n is key = record { origin = ap (λ x. x.origin) is; key = ap (λ x. x.key.0) is ∙ key; children = ap (λ x. x.children) is }
+pub new_entry : {ns : List Name} (e : Entry) (k : NameKey) (b : Block) (a : ℕ) (o : Origin) (n : Name) → e ≡ record { key = k; block = b; children = None ∷ None ∷ None ∷ None ∷ []; anchor = a; origin = o } → k.0 ≡ key_of n → b.0 ≡ block_of n → StandsAt (ns ++ n ∷ []) (anchor_of n) a → IsNewEntry ns e o n
+new_entry {ns} e k b a o n is key block anchor = record {
+  origin = ap (λ x. x.origin) is;
+  key = ap (λ x. x.key.0) is ∙ key;
+  block = ap (λ x. x.block.0) is ∙ block;
+  anchor = subst (λ x. StandsAt (ns ++ n ∷ []) (anchor_of n) x) (sym (ap (λ x. x.anchor) is)) anchor;
+  children = ap (λ x. x.children) is;
+}
+
+-- the anchor of a start agent's name is the name itself, behind the others
+pub start_anchor : (ns : List Name) (number place : ℕ) → place ≡ length ns → StandsAt (ns ++ start_name number ∷ []) (anchor_of (start_name number)) place
+start_anchor ns number place e = stands_new ns (start_name number) place e
 
 -- none of four places is one
 none_of_four : (d : ℕ) → let four : List (Option ℕ) = None ∷ None ∷ None ∷ None ∷ [] in get_or four d None ≡ None
@@ -35,7 +49,13 @@ none_of_four (suc (suc (suc (suc d)))) = refl
 
 -- one entry says the same twice
 same_entry : (e f : Entry) → e ≡ f → IsSameEntry e f
-same_entry e f h = record { origin = ap (λ x. x.origin) h; key = ap (λ x. x.key.0) h; four = ap (λ x. length x.children) h }
+same_entry e f h = record {
+  origin = ap (λ x. x.origin) h;
+  key = ap (λ x. x.key.0) h;
+  block = ap (λ x. x.block.0) h;
+  anchor = ap (λ x. x.anchor) h;
+  four = ap (λ x. length x.children) h;
+}
 
 -- an entry that was there
 entry_at-old : (es : List Entry) (e : Entry) (k : ℕ) → k < length es → entry_at (es ++ e ∷ []) k ≡ entry_at es k
@@ -45,13 +65,15 @@ entry_at-old es e k h = get_or_append_left es (e ∷ []) _ k h
 entry_at-new : (es : List Entry) (e : Entry) → entry_at (es ++ e ∷ []) (length es) ≡ e
 entry_at-new es e = get_or_push es e _ (length es) refl
 
-start_grows : {ns : List Name} (es : List Entry) (ss : List (Option ℕ)) (number i : ℕ) (o : Option ℕ) (e : Entry) → IsNewEntry e (Start number) (start_name number) → number < length ss → i ≡ number → o ≡ Some (length es) → Grows ns es (es ++ e ∷ []) ss (set ss i o) (start_name number)
+start_grows : {ns : List Name} (es : List Entry) (ss : List (Option ℕ)) (number i : ℕ) (o : Option ℕ) (e : Entry) → IsNewEntry ns e (Start number) (start_name number) → number < length ss → i ≡ number → o ≡ Some (length es) → Grows ns es (es ++ e ∷ []) ss (set ss i o) (start_name number)
 start_grows {ns} es ss number i o e new inside same place = record {
   longer = omega (arith, length-append es (e ∷ []));
   old = λ k h. same_entry _ _ (entry_at-old es e k h);
   from = ap (λ f. name_from ns f.origin) (entry_at-new es e) ∙ ap (λ g. name_from ns g) new.origin;
   before = subst (λ g. IsBefore (length es) g) (sym (ap (λ f. f.origin) (entry_at-new es e) ∙ new.origin)) tt;
   key = ap (λ f. f.key.0) (entry_at-new es e) ∙ new.key;
+  block = ap (λ f. f.block.0) (entry_at-new es e) ∙ new.block;
+  anchor = rw (entry_at-new es e) new.anchor;
   four = ap (λ f. length f.children) (entry_at-new es e) ∙ ap length new.children;
   none = λ d h. ap (λ f. get_or f.children d None) (entry_at-new es e) ∙ ap (λ cs. get_or cs d None) new.children ∙ none_of_four d;
   children = λ k d h small. kept (child_not_start (name_at ns k) d number) (ap (λ f. get_or f.children d None) (entry_at-old es e k h));
@@ -72,7 +94,7 @@ put_start_names es ls number e pushed origin = ap (λ l. names_of l) pushed ∙ 
 pub start_proper : (k : ℕ) → k < MAX_START_AGENTS → IsName (start_name k)
 start_proper k h = record { starts = h; digit = All-nil (λ d. d < 4); shallow = omega arith }
 
-pub put_start_rows : (es ls : List Entry) (ss : List (Option ℕ)) (number i : ℕ) (o : Option ℕ) (e : Entry) → AreRows (names_of es) es ss → ls ≡ es ++ e ∷ [] → IsNewEntry e (Start number) (start_name number) → number < MAX_START_AGENTS → IsAbsent (names_of es) (start_name number) → length (names_of es) + 1 < 2 ^ 32 → number < length ss → i ≡ number → o ≡ Some (length es) → AreRows (names_of ls) ls (set ss i o)
+pub put_start_rows : (es ls : List Entry) (ss : List (Option ℕ)) (number i : ℕ) (o : Option ℕ) (e : Entry) → AreRows (names_of es) es ss → ls ≡ es ++ e ∷ [] → IsNewEntry (names_of es) e (Start number) (start_name number) → number < MAX_START_AGENTS → IsAbsent (names_of es) (start_name number) → length (names_of es) + 1 < 2 ^ 32 → number < length ss → i ≡ number → o ≡ Some (length es) → AreRows (names_of ls) ls (set ss i o)
 put_start_rows es ls ss number i o e rows pushed new proper absent few inside same place =
     let grown = rows_grow (names_of es) es (es ++ e ∷ []) ss (set ss i o) (start_name number) rows (names_of-length es) (start_proper number proper) absent few (start_grows es ss number i o e new inside same place) in
     let names = put_start_names es (es ++ e ∷ []) number e refl new.origin in
@@ -82,12 +104,16 @@ put_start_rows es ls ss number i o e rows pushed new proper absent few inside sa
 pub record IsParentEntry (f q : Entry) (d k : ℕ) : Type 0 where
   pub origin : f.origin ≡ q.origin
   pub key : f.key.0 ≡ q.key.0
+  pub block : f.block.0 ≡ q.block.0
+  pub anchor : f.anchor ≡ q.anchor
   pub children : f.children ≡ set q.children d (Some k)
 
-pub parent_written : (q r : Entry) (i d k : ℕ) (o : Option ℕ) → q ≡ r → i ≡ d → o ≡ Some k → IsParentEntry (record { key = q.key; children = set q.children i o; origin = q.origin }) r d k
+pub parent_written : (q r : Entry) (i d k : ℕ) (o : Option ℕ) → q ≡ r → i ≡ d → o ≡ Some k → IsParentEntry (record { key = q.key; block = q.block; children = set q.children i o; anchor = q.anchor; origin = q.origin }) r d k
 parent_written q r i d k o same at is = record {
   origin = ap (λ x. x.origin) same;
   key = ap (λ x. x.key.0) same;
+  block = ap (λ x. x.block.0) same;
+  anchor = ap (λ x. x.anchor) same;
   children = ap (λ x. set x.children i o) same ∙ ap (λ j. set r.children j o) at ∙ ap (λ x. set r.children d x) is;
 }
 
@@ -97,13 +123,15 @@ parent_read es ls p e q pushed inside is =
     let longer = ap length pushed in
     get_or_read ls p q (omega (arith, length-append es (e ∷ []))) is _ ∙ ap (λ l. entry_at l p) pushed ∙ entry_at-old es e p inside
 
-child_grows : {ns : List Name} (es : List Entry) (ss : List (Option ℕ)) (p d : ℕ) (e f : Entry) → AreRows ns es ss → length ns ≡ length es → p < length es → d < 4 → IsNewEntry e (Child d p) (child_name (name_at ns p) d) → IsParentEntry f (entry_at es p) d (length es) → Grows ns es (set (es ++ e ∷ []) p f) ss ss (child_name (name_at ns p) d)
+child_grows : {ns : List Name} (es : List Entry) (ss : List (Option ℕ)) (p d : ℕ) (e f : Entry) → AreRows ns es ss → length ns ≡ length es → p < length es → d < 4 → IsNewEntry ns e (Child d p) (child_name (name_at ns p) d) → IsParentEntry f (entry_at es p) d (length es) → Grows ns es (set (es ++ e ∷ []) p f) ss ss (child_name (name_at ns p) d)
 child_grows {ns} es ss p d e f rows all inside small new parent = record {
   longer = length-set (es ++ e ∷ []) p f ∙ longer;
   old = old;
   from = ap (λ g. name_from ns g) (ap (λ x. x.origin) behind ∙ new.origin);
   before = subst (λ g. IsBefore (length es) g) (sym (ap (λ x. x.origin) behind ∙ new.origin)) (inside, small);
   key = ap (λ x. x.key.0) behind ∙ new.key;
+  block = ap (λ x. x.block.0) behind ∙ new.block;
+  anchor = rw behind new.anchor;
   four = ap (λ x. length x.children) behind ∙ ap length new.children;
   none = λ c h. ap (λ x. get_or x.children c None) behind ∙ ap (λ cs. get_or cs c None) new.children ∙ none_of_four c;
   children = children;
@@ -129,6 +157,8 @@ child_grows {ns} es ss p d e f rows all inside small new parent = record {
         by (inl at) = subst (λ j. IsSameEntry (entry_at (set (es ++ e ∷ []) p f) j) (entry_at es j)) (sym at) (record {
           origin = ap (λ x. x.origin) here ∙ parent.origin;
           key = ap (λ x. x.key.0) here ∙ parent.key;
+          block = ap (λ x. x.block.0) here ∙ parent.block;
+          anchor = ap (λ x. x.anchor) here ∙ parent.anchor;
           four = ap (λ x. length x.children) here ∙ ap length parent.children ∙ length-set _ d _;
         })
         by (inr ne) = same_entry _ _ (there k h ne)
@@ -164,7 +194,7 @@ child_proper n d is small shallow = record {
   shallow = omega (arith, length-append n.digits (d ∷ []));
 }
 
-pub put_child_rows : (es ls : List Entry) (ss : List (Option ℕ)) (p d : ℕ) (e f : Entry) → AreRows (names_of es) es ss → ls ≡ es ++ e ∷ [] → p < length es → d < 4 → depth (name_at (names_of es) p) < MAX_DEPTH → IsNewEntry e (Child d p) (child_name (name_at (names_of es) p) d) → IsParentEntry f (entry_at es p) d (length es) → IsAbsent (names_of es) (child_name (name_at (names_of es) p) d) → length (names_of es) + 1 < 2 ^ 32 → AreRows (names_of (set ls p f)) (set ls p f) ss
+pub put_child_rows : (es ls : List Entry) (ss : List (Option ℕ)) (p d : ℕ) (e f : Entry) → AreRows (names_of es) es ss → ls ≡ es ++ e ∷ [] → p < length es → d < 4 → depth (name_at (names_of es) p) < MAX_DEPTH → IsNewEntry (names_of es) e (Child d p) (child_name (name_at (names_of es) p) d) → IsParentEntry f (entry_at es p) d (length es) → IsAbsent (names_of es) (child_name (name_at (names_of es) p) d) → length (names_of es) + 1 < 2 ^ 32 → AreRows (names_of (set ls p f)) (set ls p f) ss
 put_child_rows es ls ss p d e f rows pushed inside small shallow new parent absent few =
     let ns = names_of es in
     let n = child_name (name_at ns p) d in
@@ -193,6 +223,8 @@ rows_resized es ss ss' rows same = record {
   named = rows.named;
   parents = rows.parents;
   keys = rows.keys;
+  anchors = rows.anchors;
+  blocks = rows.blocks;
   four = rows.four;
   children = rows.children;
   starts = λ k. rw (same k) (rows.starts k);

@@ -1,3 +1,4 @@
 pub mod Keys
+pub mod Blocks
 pub mod Tables
 pub mod Rows

@@ -5,7 +5,8 @@ use Rattle.ic_names.specs.declared.entry.Origin.{Origin}
 use Rattle.ic_names.specs.declared.entry.Origin.TheVariants.{Start, Child}
 use Rattle.ic_names.specs.declared.entry.Entry.{Entry}
 use Rattle.ic_names.specs.Keys.{key_of}
-use Rattle.ic_names.specs.Tables.{name_at, IsPlaceOf, IsTable}
+use Rattle.ic_names.specs.Blocks.{anchor_of, block_of}
+use Rattle.ic_names.specs.Tables.{name_at, StandsAt, IsPlaceOf, IsTable}
 
 -- the names, for how many further ones there is room, and for how many start numbers
 pub record RowsView : Type 0 where
@@ -34,7 +35,7 @@ names_of es = names_with [] es
 
 -- the entry at a place
 abbrev pub entry_at : List Entry → ℕ → Entry
-entry_at es k = slice_index_or es k (record { key = record { 0 = 0 }; children = []; origin = Start 0 })
+entry_at es k = slice_index_or es k (record { key = record { 0 = 0 }; block = record { 0 = 0 }; children = []; anchor = 0; origin = Start 0 })
 
 -- where an entry says that a child stands
 abbrev pub child_at : List Entry → ℕ → ℕ → Option ℕ
@@ -50,6 +51,8 @@ pub record AreRows (ns : List Name) (es : List Entry) (ss : List (Option ℕ)) :
   pub named : (k : ℕ) → k < length es → name_at ns k ≡ name_from ns (entry_at es k).origin
   pub parents : (k : ℕ) → k < length es → IsBefore k (entry_at es k).origin
   pub keys : (k : ℕ) → k < length es → (entry_at es k).key.0 ≡ key_of (name_at ns k)
+  pub anchors : (k : ℕ) → k < length es → StandsAt ns (anchor_of (name_at ns k)) (entry_at es k).anchor
+  pub blocks : (k : ℕ) → k < length es → (entry_at es k).block.0 ≡ block_of (name_at ns k)
   pub four : (k : ℕ) → k < length es → length (entry_at es k).children ≡ 4
   pub children : (k d : ℕ) → k < length es → d < 4 → IsPlaceOf ns (child_name (name_at ns k) d) (child_at es k d)
   pub starts : (k : ℕ) → IsPlaceOf ns (start_name k) (start_at ss k)

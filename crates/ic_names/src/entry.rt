@@ -1,5 +1,6 @@
 ghost use Rattle.std.specs.Prelude.{◌≡◌, None, [], ◌∷◌};
 
+use crate::block::Block;
 use crate::key::NameKey;
 use ic_slots::OptionalSlot;
 
@@ -10,22 +11,27 @@ pub enum Origin {
     Child { digit: u8, parent: u32 },
 }
 
-/// What is kept of a name, in 32 bytes: its key, where its children stand, by digit, and where it comes from.
+/// What is kept of a name, in 48 bytes: its key, its digits behind its anchor, where its children stand, by digit, where its
+/// anchor stands, and where it comes from.
 #[derive(Clone, Copy)]
 pub struct Entry {
     pub key: NameKey,
+    pub block: Block,
     pub children: [OptionalSlot; 4],
+    pub anchor: u32,
     pub origin: Origin,
 }
 
 impl Entry {
     /// The entry of a name none of whose children is there.
-    pub fn new(key: NameKey, origin: Origin) -> Entry
-        ensures { result ≡ record { key = key; children = None ∷ None ∷ None ∷ None ∷ []; origin = origin } }
+    pub fn new(key: NameKey, block: Block, anchor: u32, origin: Origin) -> Entry
+        ensures { result ≡ record { key = key; block = block; children = None ∷ None ∷ None ∷ None ∷ []; anchor = anchor; origin = origin } }
     {
         Entry {
             key,
+            block,
             children: [OptionalSlot::none(); 4],
+            anchor,
             origin,
         }
     }

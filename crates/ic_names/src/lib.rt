@@ -1,6 +1,7 @@
-// Names of agents as links in one table, in which each name stands once.
+//! Names of agents as links in one table, in which each name stands once.
 #![tactic(auto)]
 
+mod block;
 mod entry;
 mod key;
 pub mod laws;

@@ -1,16 +1,19 @@
-ghost use Rattle.std.specs.Prelude.{◌≡◌, ◌+◌, ◌<◌, ◌≤◌, ◌^◌, ◌++◌, ◌∷◌, [], length, reverse, Some, None, IfOk, OnOk, OnErr};
+ghost use Rattle.std.specs.Prelude.{◌≡◌, ◌+◌, ◌<◌, ◌≤◌, ◌^◌, ◌++◌, ◌∷◌, [], ℕ, length, Some, None, IfOk, OnOk, OnErr};
 ghost use Rattle.std.specs.Ordering.{nat_cmp};
 ghost use Rattle.std.specs.Cmp.Lexicographic.{slice_cmp};
 ghost use Rattle.ic_name.specs.Names.{depth as depth_of, start_name, child_name};
 ghost use Rattle.ic_names.specs.Keys.{key_of};
+ghost use Rattle.ic_names.specs.Blocks.{anchor_of, block_of};
 ghost use Rattle.ic_names.specs.Tables.{name_at, StandsAt, IsAbsent, IsPlaceOf, IsTable, Enters, GrowsUpTo};
 ghost use Rattle.ic_names.specs.Rows.{name_from, IsBefore};
 
+use crate::block::{BLOCK, Block};
 use crate::entry::{Entry, Origin};
 use crate::key::NameKey;
 use ic_name::AgentName;
 use ic_name::limits::{MAX_DEPTH, MAX_START_AGENTS};
 use ic_slots::OptionalSlot;
+use smallvec::SmallVec;
 use std::alloc::{AllocError, Global};
 use std::cmp::Ordering;
 use std::marker::Model;
@@ -96,32 +99,61 @@ impl Rows {
         self.entries[place as usize].origin
     }
 
-    /// The order of the digits of two names of one depth, in time that grows as the depth at most. It takes no memory.
+    /// Where the anchor of the name at a place stands.
+    fn anchor(&self, place: u32) -> u32
+        requires { place < length self.now.names }
+        ensures { StandsAt self.now.names (anchor_of (name_at self.now.names place)) result }
+    {
+        self.entries[place as usize].anchor
+    }
+
+    /// The digits behind the anchor of the name at a place.
+    fn block(&self, place: u32) -> Block
+        requires { place < length self.now.names }
+        ensures { result.0 ≡ block_of (name_at self.now.names place) }
+    {
+        self.entries[place as usize].block
+    }
+
+    /// Where the anchor of each child of the name at a place stands.
+    fn child_anchor(&self, parent: u32) -> u32
+        requires { parent < length self.now.names }
+        ensures { (digit : ℕ) → StandsAt self.now.names (anchor_of (child_name (name_at self.now.names parent) digit)) result }
+    {
+        self.lawful();
+        if self.key(parent).depth() % BLOCK == 0 {
+            return parent;
+        }
+        self.anchor(parent)
+    }
+
+    /// The digits behind the anchor of the child with this digit.
+    fn child_block(&self, parent: u32, digit: u8) -> Block
+        requires inside { parent < length self.now.names }
+        requires small { digit < 4 }
+        ensures { result.0 ≡ block_of (child_name (name_at self.now.names parent) digit) }
+    {
+        self.lawful();
+        self.block(parent).child(self.key(parent).depth(), digit)
+    }
+
+    /// The order of the digits of two names of one depth and one start number, in time that grows as a 32nd of the number of
+    /// digits behind the first one that differs. It takes no memory.
     pub fn digit_order(&self, a: u32, b: u32) -> Ordering
         requires left { a < length self.now.names }
         requires right { b < length self.now.names }
         requires depth { depth_of (name_at self.now.names a) ≡ depth_of (name_at self.now.names b) }
+        requires start { (name_at self.now.names a).start ≡ (name_at self.now.names b).start }
         ensures { result ≡ slice_cmp nat_cmp (name_at self.now.names a).digits (name_at self.now.names b).digits }
     {
-        let mut order = Ordering::Equal;
+        self.lawful();
         let mut left = a;
         let mut right = b;
-        while left != right {
-            let Origin::Child { digit, parent } = self.origin(left) else {
-                return order;
-            };
-            let Origin::Child {
-                digit: other,
-                parent: other_parent,
-            } = self.origin(right)
-            else {
-                unreachable!()
-            };
-            order = digit.cmp(&other).then(order);
-            left = parent;
-            right = other_parent;
+        while self.anchor(left) != self.anchor(right) {
+            left = self.anchor(left);
+            right = self.anchor(right);
         }
-        order
+        self.block(left).number().cmp(&self.block(right).number())
     }
 
     /// Makes room for so many further names. It is an error where memory runs out, or where there would be more names
@@ -163,7 +195,8 @@ impl Rows {
         ensures room { self.old.room ≤ self.new.room + 1 }
     {
         let place = self.entries.len() as u32;
-        let entry = Entry::new(NameKey::start(number), Origin::Start(number));
+        let key = NameKey::start(number);
+        let entry = Entry::new(key, Block::start(), place, Origin::Start(number));
         let Ok(_) = self.entries.push(entry) else {
             unreachable!()
         };
@@ -185,7 +218,9 @@ impl Rows {
     {
         let place = self.entries.len() as u32;
         let key = self.entries[parent as usize].key.child(digit);
-        let entry = Entry::new(key, Origin::Child { digit, parent });
+        let block = self.child_block(parent, digit);
+        let anchor = self.child_anchor(parent);
+        let entry = Entry::new(key, block, anchor, Origin::Child { digit, parent });
         let Ok(_) = self.entries.push(entry) else {
             unreachable!()
         };
@@ -244,34 +279,22 @@ impl Rows {
         place
     }
 
-    /// The name at a place, in time that grows as its depth.
+    /// The name at a place, in time that grows as its depth. It allocates once at most, and only for a name of more than
+    /// 20 digits.
     pub fn name(&self, place: u32) -> Result<AgentName, AllocError>
         requires { place < length self.now.names }
         ensures { IfOk result (λ name. name ≡ name_at self.now.names place) }
     {
         self.lawful();
-        let (start, mut digits) = self.climb(place)?;
-        let Some(mut name) = AgentName::start(self.alloc(), start) else {
-            unreachable!()
-        };
-        while let Some(digit) = digits.pop() {
-            name = name.into_child(digit)?;
-        }
-        Ok(name)
-    }
-
-    /// The start number of the name at a place, and its digits, the last one first.
-    fn climb(&self, place: u32) -> Result<(u16, Vec<u8>), AllocError>
-        requires { place < length self.now.names }
-        ensures { IfOk result (λ r. name_at self.now.names place ≡ record { start = r.0; digits = reverse r.1.items }) }
-    {
-        let mut digits = Vec::new(self.alloc());
+        let mut behind = self.key(place).depth() as usize;
+        let mut digits = SmallVec::from_elem(self.alloc(), 0, behind)?;
         let mut at = place;
         loop {
             match self.origin(at) {
-                Origin::Start(number) => return Ok((number, digits)),
+                Origin::Start(number) => return Ok(AgentName::of_digits(number, digits)),
                 Origin::Child { digit, parent } => {
-                    digits.push(digit)?;
+                    behind -= 1;
+                    digits[behind] = digit;
                     at = parent;
                 }
             }

@@ -20,7 +20,7 @@ pub struct NameId {
 
 /// Names of agents, each under its place: a list that only grows, in which each name stands once.
 ///
-/// A name is kept as a link to its parent and takes 32 bytes, however many digits it has. So it can be found, compared
+/// A name is kept as a link to its parent and takes 48 bytes, however many digits it has. So it can be found, compared
 /// and extended without a copy of its digits.
 #[derive(Drop)]
 pub struct NameTable {
@@ -168,7 +168,7 @@ impl NameTable {
 
     /// The order of the names at two places, of which one beyond the table counts as the least name. It takes no memory,
     /// and constant time for names that differ in depth, in start number or in one of the first 17 digits; for others time
-    /// that grows as the depth at most.
+    /// that grows as a 32nd of the number of digits behind the first one that differs.
     pub fn cmp(&self, a: NameId, b: NameId) -> Ordering
         ensures { result ≡ name_cmp (name_at self.now a.place) (name_at self.now b.place) }
     {

@@ -1,4 +1,4 @@
-// Starts, nets without links, and the net of a start.
+//! Starts, nets without links, and the net of a start.
 #![tactic(auto)]
 
 pub mod agents;

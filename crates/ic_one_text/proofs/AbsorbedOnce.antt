@@ -11,7 +11,7 @@ use Rattle.ic_path.proofs.Alikes.{alike_back, alike-in}
 use Rattle.ic_path.proofs.Picks.{in_first, in-cons_cases}
 use Rattle.ic_theory.specs.Starts.{Start, IsProper}
 use Rattle.ic_theory.specs.Sound.{IsSound}
-use Rattle.ic_theory.specs.Machine.{State, events, Answers, fired}
+use Rattle.ic_theory.specs.Machine.{State, events, MachineStep, fired}
 use Rattle.ic_theory.proofs.Machines.{fire_sound}
 use Rattle.ic_theory.proofs.Normal.{active-alike}
 use Rattle.ic_cause.proofs.OneFuture.{one_event}
@@ -55,7 +55,7 @@ module _ (s : Start) (names : List Pair) where
   stood_or_listed none e i = inl i
   stood_or_listed {st = st} (more {e = f} l few a h) e i = elim (stood_or_listed h e i) [ inl j ↦ by a j | inr k ↦ inr k ]
     where
-      by : {mid : State} → Answers s st (Fire f) Fired mid → IsIn e (events mid) → IsIn e (events st) ⊎ IsIn (pair e) names
+      by : {mid : State} → MachineStep s st (Fire f) Fired mid → IsIn e (events mid) → IsIn e (events st) ⊎ IsIn (pair e) names
       by (fired x d n) j = elim (in-cons_cases j) [ inl same ↦ inr (subst (λ g. IsIn (pair g) names) (sym same) l.listed) | inr k ↦ inl k ]
 
 module _ (s : Start) (ok : IsProper s) (names : List Pair) where
@@ -64,14 +64,14 @@ module _ (s : Start) (ok : IsProper s) (names : List Pair) where
       → (q ≡ r) × AreSame next after
   refused_once {st} {tt} {next} {after} {q} {r} h k same a b =
       let one : b.event ≡ a.event = listed_once s ok b.event a.event (reached_kept s ok k).sound b.turn (listed-alike s (same_events same) a.turn) in
-      one_step s st tt next after (Fire a.event) q r ok h k same a.answer (subst (λ g. Answers s tt (Fire g) r after) one b.answer)
+      one_step s st tt next after (Fire a.event) q r ok h k same a.answer (subst (λ g. MachineStep s tt (Fire g) r after) one b.answer)
 
   -- where no further one is fired none is
-  stuck : {st tt next : State} {e : Event} → IsReached s st → IsReached s tt → AreSame st tt → Ends s names st → IsLeastListed s (events tt) names e → Answers s tt (Fire e) Fired next → ⊥
+  stuck : {st tt next : State} {e : Event} → IsReached s st → IsReached s tt → AreSame st tt → Ends s names st → IsLeastListed s (events tt) names e → MachineStep s tt (Fire e) Fired next → ⊥
   stuck h k same (all_done idle) l a = idle _ (active-alike s (alike_back (same_events same)) l.active) l.listed
   stuck {st} {tt} {next} {e} h k same (refused {r = r} {next = after} other b) l a =
       let one : e ≡ b.event = listed_once s ok e b.event (reached_kept s ok k).sound l (listed-alike s (same_events same) b.turn) in
-      other (one_step s st tt after next (Fire b.event) r Fired ok h k same b.answer (subst (λ g. Answers s tt (Fire g) Fired next) one a)).0
+      other (one_step s st tt after next (Fire b.event) r Fired ok h k same b.answer (subst (λ g. MachineStep s tt (Fire g) Fired next) one a)).0
 
   -- so the same events come, and lead to the same state
   pub absorbed_once : {st tt next after : State} {came come : List Event} → IsReached s st → IsReached s tt → AreSame st tt → AreAbsorbed s names st came next → AreAbsorbed s names tt come after
@@ -81,7 +81,7 @@ module _ (s : Start) (ok : IsProper s) (names : List Pair) where
   absorbed_once h k same (more l few a f) none p q = absurd (stuck k h (same_back same) q l a)
   absorbed_once {st} {tt} h k same (more {mid = mid} {e = e} l few a f) (more {mid = mid'} {e = e'} l' few' a' f') p q =
       let one : e' ≡ e = listed_once s ok e' e (reached_kept s ok k).sound l' (listed-alike s (same_events same) l) in
-      let step = one_step s st tt mid mid' (Fire e) Fired Fired ok h k same a (subst (λ g. Answers s tt (Fire g) Fired mid') one a') in
+      let step = one_step s st tt mid mid' (Fire e) Fired Fired ok h k same a (subst (λ g. MachineStep s tt (Fire g) Fired mid') one a') in
       let rest = absorbed_once (reached_next s h few a) (reached_next s k few' a') step.1 f f' p q in
       ((λ i. sym one i ∷ rest.0 i), rest.1)
 

@@ -12,7 +12,7 @@ use Rattle.ic_command.specs.declared.request.Request.{Request}
 use Rattle.ic_command.specs.declared.request.Request.TheVariants.{Absorb}
 use Rattle.ic_desk.specs.declared.desk.TheConstants.{MAX_MARKS}
 use Rattle.ic_desk.specs.Desks.{Noted, State, NoneNoted, IsNoted, Puts, replaced, added}
-use Rattle.ic_desk.specs.Replies.{Replies, of_bench, marked, too_many, mark_memory, no_mark, back_history_full, back, back_memory, absorbed, never_active, absorb_deep, absorb_full, absorb_history_full, absorb_memory, marked_text, back_text}
+use Rattle.ic_desk.specs.Replies.{RepliesToRequest, of_bench, marked, too_many, mark_memory, no_mark, back_history_full, back, back_memory, absorbed, never_active, absorb_deep, absorb_full, absorb_history_full, absorb_memory, marked_text, back_text}
 use Rattle.ic_one_text.specs.Wants.{Wants}
 use Rattle.ic_one_text.proofs.AbsorbedOnce.{reached_absorbed, reached_refused, reached_taken_back}
 use Rattle.ic_one_text.proofs.DeskStates.{IsInUse, AreSameDesks}
@@ -32,7 +32,7 @@ module _ {s : Start} (ok : IsProper s) where
 
   -- each answer leaves a desk that is in use
   pub in_use_on : {st next : State} {r : Request} {text : List ℕ}
-      → IsInUse s st → Replies s st r text next → IsInUse s next
+      → IsInUse s st → RepliesToRequest s st r text next → IsInUse s next
   in_use_on {st} used (of_bench {c = c} {text = text} {next = next} a) =
       record { bench = reached_on s st.bench next c text used.bench a; sound = used.sound; apart = used.apart }
   in_use_on used (marked alike p) =
@@ -102,7 +102,7 @@ module _ {s : Start} (ok : IsProper s) {st tt : State} (used : IsInUse s st) (ot
   nor_there (added lack few) none many = let length = same.marks.many in omega (arith, many, few, length)
 
   -- a list of the same events is absorbed in one way
-  pub one_absorbing : {x y : List ℕ} {next after : State} (xs ys : Vec Pair) → xs.items ≡ ys.items → Replies s st (Absorb xs) x next → Replies s tt (Absorb ys) y after
+  pub one_absorbing : {x y : List ℕ} {next after : State} (xs ys : Vec Pair) → xs.items ≡ ys.items → RepliesToRequest s st (Absorb xs) x next → RepliesToRequest s tt (Absorb ys) y after
       → ¬ (Wants x) → ¬ (Wants y) → AreOneAnswer x y next after
   one_absorbing {after = after} xs ys e a b n m =
       let p = told xs.items refl a n in
@@ -114,7 +114,7 @@ module _ {s : Start} (ok : IsProper s) {st tt : State} (used : IsInUse s st) (ot
       }
 
   -- the same request has one answer
-  pub one_reply : {x y : List ℕ} {next after : State} (r : Request) → Replies s st r x next → Replies s tt r y after
+  pub one_reply : {x y : List ℕ} {next after : State} (r : Request) → RepliesToRequest s st r x next → RepliesToRequest s tt r y after
       → ¬ (Wants x) → ¬ (Wants y) → AreOneAnswer x y next after
   one_reply (Absorb names) a b n m = one_absorbing names names refl a b n m
   one_reply {x} {y} r (of_bench {c = c} {next = next} a) (of_bench {next = after} b) n m =

@@ -7,7 +7,7 @@ use Rattle.ic_name.specs.declared.lines.Reply.{Reply}
 use Rattle.ic_name.specs.declared.lines.Reply.TheVariants.{Fired, Deep, Full}
 use Rattle.ic_theory.specs.Starts.{Start, IsProper}
 use Rattle.ic_theory.specs.Active.{IsActive}
-use Rattle.ic_theory.specs.Machine.{State, events, Answers}
+use Rattle.ic_theory.specs.Machine.{State, events, MachineStep}
 use Rattle.ic_reduce.specs.Reducing.{IsLeastActive, AreFiredInTurn, none, more, MeetsLimit, history_full, deep, full}
 use Rattle.ic_one_text.specs.States.{IsReached, AreSame}
 use Rattle.ic_one_text.proofs.OneEvent.{least_active-alike, least_active_once}
@@ -20,7 +20,7 @@ pub record Tries (s : Start) (st : State) (q : Reply) : Type 0 where
   pub least : IsLeastActive s (events st) event
   pub few : st.lines < MAX_LINES
   pub next : State
-  pub answer : Answers s st (Fire event) q next
+  pub answer : MachineStep s st (Fire event) q next
 
 -- so it is in each state that is the same
 tries_moved : (s : Start) {st tt : State} {q : Reply} → AreSame st tt → Tries s st q → Tries s tt q
@@ -57,10 +57,10 @@ module _ (s : Start) where
 module _ (s : Start) (ok : IsProper s) where
   -- the event that is tried is one, so one answer is given
   tries_once : {st tt next after : State} {e f : Event} {q r : Reply} → IsReached s st → IsReached s tt → AreSame st tt → IsLeastActive s (events st) e → IsLeastActive s (events tt) f
-      → Answers s st (Fire e) q next → Answers s tt (Fire f) r after → (q ≡ r) × AreSame next after
+      → MachineStep s st (Fire e) q next → MachineStep s tt (Fire f) r after → (q ≡ r) × AreSame next after
   tries_once {st} {tt} {next} {after} {e} {f} {q} {r} h k same l m a b =
       let one : f ≡ e = least_active_once s ok f e (reached_kept s ok k).sound m (least_active-alike s (same_events same) l) in
-      one_step s st tt next after (Fire e) q r ok h k same a (subst (λ g. Answers s tt (Fire g) r after) one b)
+      one_step s st tt next after (Fire e) q r ok h k same a (subst (λ g. MachineStep s tt (Fire g) r after) one b)
 
   -- two runs compare
   pub compare : {m n : ℕ} {st tt next after : State} → IsReached s st → IsReached s tt → AreSame st tt → AreFiredInTurn s m st next → AreFiredInTurn s n tt after → Compare s m n next after

@@ -19,7 +19,7 @@ use Rattle.ic_undo.specs.Absorbing.{IsLeastNever}
 use Rattle.ic_undo.proofs.PairTests.{pair_only}
 use Rattle.ic_desk.specs.Absorbs.{Fits, Absorbs, AllStand, NoneIsActive, IsRefused, TakesBack}
 use Rattle.ic_desk.specs.Desks.{State}
-use Rattle.ic_desk.specs.Replies.{Replies, absorbed, never_active, absorb_deep, absorb_full, absorb_history_full, absorb_memory, absorbed_text, never_text}
+use Rattle.ic_desk.specs.Replies.{RepliesToRequest, absorbed, never_active, absorb_deep, absorb_full, absorb_history_full, absorb_memory, absorbed_text, never_text}
 use Rattle.ic_desk.proofs.AbsorbReplies.{never-alike}
 use Rattle.ic_one_text.specs.States.{IsReached, AreSame}
 use Rattle.ic_one_text.specs.Wants.{Wants}
@@ -53,7 +53,7 @@ pub record Told (s : Start) (names : List Pair) (st : State) (text : List ℕ) (
   pub tells : Tells s names st.bench text bench
   pub left : next ≡ record st { bench = bench }
 
-pub told : {s : Start} {st next : State} {names : Vec Pair} {text : List ℕ} (ns : List Pair) → names.items ≡ ns → Replies s st (Absorb names) text next → ¬ (Wants text) → Told s ns st text next
+pub told : {s : Start} {st next : State} {names : Vec Pair} {text : List ℕ} (ns : List Pair) → names.items ≡ ns → RepliesToRequest s st (Absorb names) text next → ¬ (Wants text) → Told s ns st text next
 told {s = s} {st = st} ns same (absorbed {came = came} {next = next} a b) w = record {
   bench = next;
   tells = all (subst (λ xs. Absorbs s xs st.bench came next) same a) (subst (λ xs. AllStand next xs) same b);

@@ -4,7 +4,7 @@ use Rattle.ic_theory.specs.Starts.{Start, IsProper}
 use Rattle.ic_theory.specs.Machine.{State}
 use Rattle.ic_command.specs.declared.command.Command.{Command}
 use Rattle.ic_command.specs.declared.command.Command.TheVariants.{Nothing, Net, Active, Journal, Fire, Undo, Why, Unwind, UndoAll, Reduce, Malformed}
-use Rattle.ic_answer.specs.Replies.{Replies}
+use Rattle.ic_answer.specs.Replies.{RepliesToCommand}
 use Rattle.ic_one_text.specs.States.{IsReached, AreSame}
 use Rattle.ic_one_text.specs.Wants.{Wants}
 use Rattle.ic_one_text.proofs.OneChange.{one_fire, one_undo}
@@ -29,5 +29,5 @@ one_saying s ok UndoAll h k same a b = one_undo_all s ok h k same a b
 one_saying s ok (Reduce most) h k same a b = one_reduce s ok h k same a b
 
 pub one_answer : (s : Start) (st tt next after : State) (c : Command) (x y : List ℕ) → IsProper s → IsReached s st → IsReached s tt → AreSame st tt
-    → Replies s st c x next → Replies s tt c y after → ¬ (Wants x) → ¬ (Wants y) → (x ≡ y) × AreSame next after
+    → RepliesToCommand s st c x next → RepliesToCommand s tt c y after → ¬ (Wants x) → ¬ (Wants y) → (x ≡ y) × AreSame next after
 one_answer s st tt next after c x y ok h k same a b w v = one_saying s ok c h k same (says a w) (says b v)

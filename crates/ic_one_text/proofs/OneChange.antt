@@ -8,7 +8,7 @@ use Rattle.ic_name.specs.declared.lines.Reply.{Reply}
 use Rattle.ic_name.specs.declared.lines.Reply.TheVariants as reply
 use Rattle.ic_path.proofs.Alikes.{alike_back, alike-in}
 use Rattle.ic_theory.specs.Starts.{Start, IsProper}
-use Rattle.ic_theory.specs.Machine.{Standing, State, Answers}
+use Rattle.ic_theory.specs.Machine.{Standing, State, MachineStep}
 use Rattle.ic_theory.proofs.Replies.{one_line}
 use Rattle.ic_answer.specs.Replies.{IsNamed, IsPresent}
 use Rattle.ic_one_text.specs.States.{IsReached, AreSame}
@@ -46,14 +46,14 @@ module _ (s : Start) (ok : IsProper s) {st tt next after : State} (h : IsReached
   one_fire {p} (called {e = event} {q = q} i few a e) (called {e = event'} {q = r} j few' b f) =
       let there = present_too same i in
       let one : event' ≡ event = present_once s event' event (reached_kept s ok k).sound j.present there.present (j.name ∙ sym i.name) in
-      let step = one_step s st tt next after (call.Fire event) q r ok h k same a (subst (λ g. Answers s tt (call.Fire g) r after) one b) in
+      let step = one_step s st tt next after (call.Fire event) q r ok h k same a (subst (λ g. MachineStep s tt (call.Fire g) r after) one b) in
       (one_word e f (ap (fire_text p) step.0), step.1)
 
   -- the call to undo an event has one answer
-  one_call : {p : Pair} (x y : Standing) {q r : Reply} → IsNamed st p x → IsNamed tt p y → Answers s st (call.Undo x.line) q next → Answers s tt (call.Undo y.line) r after → (q ≡ r) × AreSame next after
+  one_call : {p : Pair} (x y : Standing) {q r : Reply} → IsNamed st p x → IsNamed tt p y → MachineStep s st (call.Undo x.line) q next → MachineStep s tt (call.Undo y.line) r after → (q ≡ r) × AreSame next after
   one_call x y {q} {r} i j a b =
       let line : y.line ≡ x.line = ap (λ (z : Standing). z.line) (sym (named_once s ok h k same x y i j)) in
-      one_step s st tt next after (call.Undo x.line) q r ok h k same a (subst (λ n. Answers s tt (call.Undo n) r after) line b)
+      one_step s st tt next after (call.Undo x.line) q r ok h k same a (subst (λ n. MachineStep s tt (call.Undo n) r after) line b)
 
   -- an undo
   pub one_undo : {p : Pair} {x y : List ℕ} → UndoSays s st p x next → UndoSays s tt p y after → (x ≡ y) × AreSame next after

@@ -23,7 +23,7 @@ use Rattle.ic_command.specs.declared.command.Command.TheVariants.{Net, Journal, 
 use Rattle.ic_command.specs.declared.request.Request.TheVariants.{Bench}
 use Rattle.ic_answer.specs.Ends.{end_text}
 use Rattle.ic_answer.specs.Texts.{reduced_text, wanting_after}
-use Rattle.ic_answer.specs.Replies.{Replies}
+use Rattle.ic_answer.specs.Replies.{RepliesToCommand}
 use Rattle.ic_answer.specs.Replies as told
 use Rattle.ic_desk.specs.Desks.{State}
 use Rattle.ic_desk.specs.ManyWorkers.{RepliesWith, as_one, swept}
@@ -92,7 +92,7 @@ module _ (s : Start) where
   reached_firings r (refused few n a h) = reached_firings (reached_next s r few a) h
 
   -- one worker
-  by_one : {most : ℕ} {st next : machine.State} {x : List ℕ} (n : ℕ) → Replies s st (Reduce most) x next → x ≡ reduced_text n (codes "normal") → Ended s st x next
+  by_one : {most : ℕ} {st next : machine.State} {x : List ℕ} (n : ℕ) → RepliesToCommand s st (Reduce most) x next → x ≡ reduced_text n (codes "normal") → Ended s st x next
   by_one n (told.reduced_normal {n = m} f l g) e = record { fired = m; count = counted (turns_add f); reached = λ r. reached_fired s r f; normal = g; told = refl }
   by_one {most = most} n (told.reduced_budget f a) e = absurd (never_budget most n e)
   by_one n (told.reduced_limit {n = m} f l a) e = absurd (never_limit m n e)
@@ -148,7 +148,7 @@ one_text s st tt next after workers others most many x y ok h k same p q =
 -- the net that is told of after it is one
 pub one_net : (s : Start) (st tt next after : State) (workers others most many : ℕ) (x y : List ℕ) → IsProper s → IsReached s st.bench → IsReached s tt.bench
     → EndsNormally s workers most st x next → EndsNormally s others many tt y after → (m n : machine.State) (a b : List ℕ)
-    → Replies s next.bench Net a m → Replies s after.bench Net b n → ¬ (Wants a) → ¬ (Wants b) → a ≡ b
+    → RepliesToCommand s next.bench Net a m → RepliesToCommand s after.bench Net b n → ¬ (Wants a) → ¬ (Wants b) → a ≡ b
 one_net s st tt next after workers others most many x y ok h k p q m n a b asked again w v =
     let c = ended s p in
     let d = ended s q in
@@ -160,7 +160,7 @@ one_net s st tt next after workers others most many x y ok h k p q m n a b asked
 -- so is the journal
 pub one_journal_text : (s : Start) (st tt next after : State) (workers others most many : ℕ) (x y : List ℕ) → IsProper s → IsReached s st.bench → IsReached s tt.bench
     → EndsNormally s workers most st x next → EndsNormally s others many tt y after → (m n : machine.State) (a b : List ℕ)
-    → Replies s next.bench Journal a m → Replies s after.bench Journal b n → ¬ (Wants a) → ¬ (Wants b) → a ≡ b
+    → RepliesToCommand s next.bench Journal a m → RepliesToCommand s after.bench Journal b n → ¬ (Wants a) → ¬ (Wants b) → a ≡ b
 one_journal_text s st tt next after workers others most many x y ok h k p q m n a b asked again w v =
     let c = ended s p in
     let d = ended s q in

@@ -9,7 +9,7 @@ use Rattle.ic_name.specs.declared.lines.Reply.{Reply}
 use Rattle.ic_path.specs.Orders.{here, Alike, more}
 use Rattle.ic_path.proofs.Alikes.{alike_back, alike_pick, alike-in}
 use Rattle.ic_theory.specs.Starts.{Start, IsProper}
-use Rattle.ic_theory.specs.Machine.{State, noted, Answers, not_active, deep, full, fired, not_standing, held, undone, goes_on}
+use Rattle.ic_theory.specs.Machine.{State, noted, MachineStep, not_active, deep, full, fired, not_standing, held, undone, goes_on}
 use Rattle.ic_theory.proofs.Machines.{history_length}
 use Rattle.ic_theory.proofs.Normal.{active-alike}
 use Rattle.ic_theory.proofs.Replies.{one_answer}
@@ -20,7 +20,7 @@ use Rattle.ic_one_text.proofs.SameStates.{same_back, same_then, same_noted, same
 -- the same answer from another state, and the state that it leaves there
 pub record Moved (s : Start) (tt : State) (c : Call) (q : Reply) (next : State) : Type 0 where
   pub state : State
-  pub answer : Answers s tt c q state
+  pub answer : MachineStep s tt c q state
   pub same : AreSame next state
 
 -- a line with the same event in front of both
@@ -33,7 +33,7 @@ same_fired {st} {tt} e same = record {
 
 module _ (s : Start) where
   -- what a call answers it answers from each state that is the same
-  pub moved : {st tt next : State} {c : Call} {q : Reply} → AreSame st tt → Answers s st c q next → Moved s tt c q next
+  pub moved : {st tt next : State} {c : Call} {q : Reply} → AreSame st tt → MachineStep s st c q next → Moved s tt c q next
   moved {tt = tt} same (not_active n) = record { state = noted tt; answer = not_active (λ a. n (active-alike s (same_events (same_back same)) a)); same = same_noted same }
   moved {tt = tt} same (deep a d) = record { state = noted tt; answer = deep (active-alike s (same_events same) a) d; same = same_noted same }
   moved {tt = tt} same (full {e = e} a d f) = record { state = noted tt; answer = full (active-alike s (same_events same) a) d (full-alike s e (same_events same) f); same = same_noted same }
@@ -51,18 +51,18 @@ module _ (s : Start) where
   }
 
   -- each answer is one line more
-  pub one_line_more : {st next : State} {c : Call} {q : Reply} → IsReached s st → Answers s st c q next → next.lines ≡ st.lines + 1
+  pub one_line_more : {st next : State} {c : Call} {q : Reply} → IsReached s st → MachineStep s st c q next → next.lines ≡ st.lines + 1
   one_line_more {c = c} {q = q} r a =
       let new : List Line = record { call = c; reply = q } ∷ [] in
       history_length (goes_on r.1 a) ∙ length-append r.0 new ∙ ap (λ n. n + 1) (sym (history_length r.1))
 
   -- it leads on to a state within the limit
-  pub reached_next : {st next : State} {c : Call} {q : Reply} → IsReached s st → st.lines < MAX_LINES → Answers s st c q next → IsReached s next
+  pub reached_next : {st next : State} {c : Call} {q : Reply} → IsReached s st → st.lines < MAX_LINES → MachineStep s st c q next → IsReached s next
   reached_next r few a = let n = one_line_more r a in (_, goes_on r.1 a, omega (arith, n, few))
 
 -- a call has one answer, and leaves one state up to order
 pub one_step : (s : Start) (st tt next after : State) (c : Call) (q r : Reply) → IsProper s → IsReached s st → IsReached s tt → AreSame st tt
-    → Answers s st c q next → Answers s tt c r after → (q ≡ r) × AreSame next after
+    → MachineStep s st c q next → MachineStep s tt c r after → (q ≡ r) × AreSame next after
 one_step s st tt next after c q r ok h k same x y =
     let m = moved s same x in
     let o = one_answer c (reached_kept s ok k) m.answer y in

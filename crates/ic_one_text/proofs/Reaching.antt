@@ -3,14 +3,14 @@ use Rattle.std.proofs.Common.{List, ℕ}
 use Rattle.ic_theory.specs.Starts.{Start}
 use Rattle.ic_theory.specs.Machine.{State}
 use Rattle.ic_command.specs.declared.command.Command.{Command}
-use Rattle.ic_answer.specs.Replies.{Replies}
+use Rattle.ic_answer.specs.Replies.{RepliesToCommand}
 use Rattle.ic_answer.specs.Replies as told
 use Rattle.ic_one_text.specs.States.{IsReached}
 use Rattle.ic_one_text.proofs.FiredRuns.{reached_fired, reached_limit}
 use Rattle.ic_one_text.proofs.OneStep.{reached_next}
 use Rattle.ic_one_text.proofs.UndoneRuns.{reached_undone}
 
-pub reached_on : (s : Start) (st next : State) (c : Command) (x : List ℕ) → IsReached s st → Replies s st c x next → IsReached s next
+pub reached_on : (s : Start) (st next : State) (c : Command) (x : List ℕ) → IsReached s st → RepliesToCommand s st c x next → IsReached s next
 reached_on s st next c x r told.nothing = r
 reached_on s st next c x r told.malformed = r
 reached_on s st next c x r (told.net h k) = r

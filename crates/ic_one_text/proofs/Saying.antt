@@ -12,13 +12,13 @@ use Rattle.ic_theory.specs.Starts.{Start}
 use Rattle.ic_theory.specs.Nets.{net_of, IsSameNet}
 use Rattle.ic_theory.specs.Listed.{ListedNet, IsListing, shown}
 use Rattle.ic_theory.specs.Active.{IsActive}
-use Rattle.ic_theory.specs.Machine.{Standing, State, events, Answers}
+use Rattle.ic_theory.specs.Machine.{Standing, State, events, MachineStep}
 use Rattle.ic_print.specs.NetText.{net_text}
 use Rattle.ic_cause.specs.Journals.{Ranked, IsJournal, journal_text}
 use Rattle.ic_command.specs.declared.command.Command.{Command}
 use Rattle.ic_command.specs.declared.command.Command.TheVariants.{Nothing, Net, Active, Journal, Fire, Undo, Why, Unwind, UndoAll, Reduce, Malformed}
 use Rattle.ic_answer.specs.declared.refused.Refused.TheVariants as refused
-use Rattle.ic_answer.specs.Replies.{IsNamed, NoneIsNamed, IsPresent, NoneIsPresent, Replies}
+use Rattle.ic_answer.specs.Replies.{IsNamed, NoneIsNamed, IsPresent, NoneIsPresent, RepliesToCommand}
 use Rattle.ic_answer.specs.Replies as told
 use Rattle.ic_reduce.specs.Reducing.{IsNormal, AreFiredInTurn, MeetsLimit}
 use Rattle.ic_answer.specs.Standing.{AreActive, HasRank, AreCauses}
@@ -46,14 +46,14 @@ fire_text p (reply.Held l) = []
 pub data FireSays (s : Start) (st : State) (p : Pair) (x : List ℕ) (next : State) : Type 0 where
   no_agents : NoneIsPresent s st p → x ≡ refusal_text refused.NotActive → next ≡ st → FireSays s st p x next
   no_line : {e : Event} → IsPresent s st p e → st.lines ≡ MAX_LINES → x ≡ refusal_text refused.HistoryFull → next ≡ st → FireSays s st p x next
-  called : {e : Event} {q : Reply} → IsPresent s st p e → st.lines < MAX_LINES → Answers s st (call.Fire e) q next → x ≡ fire_text p q → FireSays s st p x next
+  called : {e : Event} {q : Reply} → IsPresent s st p e → st.lines < MAX_LINES → MachineStep s st (call.Fire e) q next → x ≡ fire_text p q → FireSays s st p x next
 
 -- the undoing of an event
 pub data UndoSays (s : Start) (st : State) (p : Pair) (x : List ℕ) (next : State) : Type 0 where
   no_event : NoneIsNamed st p → x ≡ refusal_text refused.NotStanding → next ≡ st → UndoSays s st p x next
   no_line : {y : Standing} → IsNamed st p y → st.lines ≡ MAX_LINES → x ≡ refusal_text refused.HistoryFull → next ≡ st → UndoSays s st p x next
-  undone : {y : Standing} → IsNamed st p y → st.lines < MAX_LINES → Answers s st (call.Undo y.line) reply.Undone next → x ≡ pair_line (codes "undone ") p → UndoSays s st p x next
-  held : {y z : Standing} → IsNamed st p y → st.lines < MAX_LINES → IsIn z st.standing → Answers s st (call.Undo y.line) (reply.Held z.line) next
+  undone : {y : Standing} → IsNamed st p y → st.lines < MAX_LINES → MachineStep s st (call.Undo y.line) reply.Undone next → x ≡ pair_line (codes "undone ") p → UndoSays s st p x next
+  held : {y z : Standing} → IsNamed st p y → st.lines < MAX_LINES → IsIn z st.standing → MachineStep s st (call.Undo y.line) (reply.Held z.line) next
       → x ≡ pair_line (codes "refused 32 held by ") (pair z.event) → UndoSays s st p x next
 
 -- the undoing of an event with all that rests on it
@@ -90,7 +90,7 @@ Says s st UndoAll x next = UndoAllSays s st x next
 Says s st (Reduce most) x next = ReduceSays s st most x next
 
 -- each answer says it, or tells of want of memory
-pub says : {s : Start} {st next : State} {c : Command} {x : List ℕ} → Replies s st c x next → ¬ (Wants x) → Says s st c x next
+pub says : {s : Start} {st next : State} {c : Command} {x : List ℕ} → RepliesToCommand s st c x next → ¬ (Wants x) → Says s st c x next
 says told.nothing w = (refl, refl)
 says told.malformed w = (refl, refl)
 says (told.net h k) w = (_, h, k, refl, refl)

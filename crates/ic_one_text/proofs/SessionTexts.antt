@@ -7,7 +7,7 @@ use Rattle.ic_command.specs.Requests.{within}
 use Rattle.ic_command.specs.declared.request.Request.{Request}
 use Rattle.ic_desk.specs.Desks.{State, initial}
 use Rattle.ic_desk.specs.ManyWorkers.{RepliesWith, as_one, swept}
-use Rattle.ic_desk.specs.Replies.{Replies}
+use Rattle.ic_desk.specs.Replies.{RepliesToRequest}
 use Rattle.ic_session.specs.InputLines.{TextLine, lines, net_part, command_lines}
 use Rattle.ic_session.specs.Modes.{TakesDemand, Gives, asks, requests, replied, told, plain}
 use Rattle.ic_session.specs.declared.demand.Demand.{Demand}
@@ -25,7 +25,7 @@ use Rattle.ic_one_text.proofs.OneTaking.{AskTheSame, one, lists, takes_once}
 use Rattle.ic_one_text.proofs.WantingParts.{front_wants, behind_wants}
 
 -- one worker makes no sweep
-by_one : {s : Start} {st next : State} {r : Request} {text : List ℕ} → RepliesWith 1 s st r text next → Replies s st r text next
+by_one : {s : Start} {st next : State} {r : Request} {text : List ℕ} → RepliesWith 1 s st r text next → RepliesToRequest s st r text next
 by_one (as_one a) = a
 by_one (swept many sweep) = absurd (omega (arith, many))
 
@@ -42,13 +42,13 @@ plain_taken (asks on a) = absurd cc
 plain_taken (requests {r = r} unasked t) = (r, refl, t)
 
 -- and gives the answers of one worker
-plain_reply : {s : Start} {budget : ℕ} {st next : State} {d : Demand} {r : Request} {text : List ℕ} → d ≡ Requests r → Gives (plain 1 budget) s st d text next → Replies s st (within budget r) text next
-plain_reply {s} {budget} {st} {next} {r = r} {text} same (replied {r = q} a) = let e : q ≡ r = cc in subst (λ z. Replies s st (within budget z) text next) e (by_one a)
+plain_reply : {s : Start} {budget : ℕ} {st next : State} {d : Demand} {r : Request} {text : List ℕ} → d ≡ Requests r → Gives (plain 1 budget) s st d text next → RepliesToRequest s st (within budget r) text next
+plain_reply {s} {budget} {st} {next} {r = r} {text} same (replied {r = q} a) = let e : q ≡ r = cc in subst (λ z. RepliesToRequest s st (within budget z) text next) e (by_one a)
 plain_reply same (told t) = absurd cc
 
 -- requests that ask for the same have one answer
 one_asking : {s : Start} (ok : IsProper s) (budget : ℕ) {st tt next after : State} {q r : Request} {x y : List ℕ} → IsInUse s st → IsInUse s tt → AreSameDesks st tt → AskTheSame q r
-    → Replies s st (within budget q) x next → Replies s tt (within budget r) y after → ¬ (Wants x) → ¬ (Wants y) → AreOneAnswer x y next after
+    → RepliesToRequest s st (within budget q) x next → RepliesToRequest s tt (within budget r) y after → ¬ (Wants x) → ¬ (Wants y) → AreOneAnswer x y next after
 one_asking ok budget {q = q} used other same one a b n m = one_reply ok used other same (within budget q) a b n m
 one_asking ok budget used other same (lists {xs = xs} {ys = ys} e) a b n m = one_absorbing ok used other same xs ys e a b n m
 

@@ -5,7 +5,7 @@ use Rattle.ic_name.specs.declared.limits.TheConstants.{MAX_LINES}
 use Rattle.ic_name.specs.declared.lines.Call.TheVariants.{Undo}
 use Rattle.ic_name.specs.declared.lines.Reply.TheVariants.{Undone}
 use Rattle.ic_theory.specs.Starts.{Start, IsProper}
-use Rattle.ic_theory.specs.Machine.{Standing, State, Answers}
+use Rattle.ic_theory.specs.Machine.{Standing, State, MachineStep}
 use Rattle.ic_one_text.specs.States.{IsReached, AreSame}
 use Rattle.ic_answer.specs.Unwinding.{AreUndoneInTurn, none, more, events_of}
 use Rattle.ic_one_text.proofs.OneEvent.{standing_once}
@@ -37,6 +37,6 @@ module _ (s : Start) (ok : IsProper s) where
       let event : x.event ≡ y.event = cc in
       let behind : events_of xs ≡ events_of ys = cc in
       let line : y.line ≡ x.line = ap (λ (z : Standing). z.line) (sym (standing_once (reached_kept s ok h) same i j (ap (λ (z : Event). z.lead) event))) in
-      let b' : Answers s tt (Undo x.line) Undone mid' = subst (λ n. Answers s tt (Undo n) Undone mid') line b in
+      let b' : MachineStep s tt (Undo x.line) Undone mid' = subst (λ n. MachineStep s tt (Undo n) Undone mid') line b in
       let step = one_step s st tt mid mid' (Undo x.line) Undone Undone ok h k same a b' in
       undone_once (reached_next s h few a) (reached_next s k few' b) step.1 behind u v

@@ -8,7 +8,7 @@ use Rattle.ic_path.specs.Orders.{Alike}
 use Rattle.ic_path.proofs.Alikes.{alike_back, alike-in}
 use Rattle.ic_theory.specs.Starts.{Start, IsProper}
 use Rattle.ic_theory.specs.Sound.{IsSound}
-use Rattle.ic_theory.specs.Machine.{Standing, State, Answers}
+use Rattle.ic_theory.specs.Machine.{Standing, State, MachineStep}
 use Rattle.ic_answer.specs.Unwinding as unwinding
 use Rattle.ic_answer.specs.Unwinding.{AreUndoneInTurn, events_of}
 use Rattle.ic_desk.specs.Backs.{AreOutside, AreMissing, AreFired, none, more, DontFit, GoesBack, GoesPartWay}
@@ -73,7 +73,7 @@ module _ (s : Start) (ok : IsProper s) where
       (more {mid = end} {e = g} {es = fs} less b others) =
       let one : f ≡ g = cc in
       let behind : es ≡ fs = cc in
-      let b' = subst (λ z. Answers s tt (Fire z) Fired end) (sym one) b in
+      let b' = subst (λ z. MachineStep s tt (Fire z) Fired end) (sym one) b in
       let step = one_step s st tt mid end (Fire f) Fired Fired ok r q same a b' in
       fired_once (reached_next s r few a) (reached_next s q less b) step.1 behind rest others
 

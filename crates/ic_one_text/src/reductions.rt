@@ -4,7 +4,7 @@ ghost use Rattle.ic_theory.specs.Starts.{Start, IsProper};
 ghost use Rattle.ic_theory.specs.Machine.{events};
 ghost use Rattle.ic_theory.specs.Machine as machine;
 ghost use Rattle.ic_command.specs.declared.command.Command.TheVariants.{Net, Journal};
-ghost use Rattle.ic_answer.specs.Replies.{Replies};
+ghost use Rattle.ic_answer.specs.Replies.{RepliesToCommand};
 ghost use Rattle.ic_desk.specs.Desks.{State};
 ghost use Rattle.ic_one_text.specs.Reductions.{EndsNormally};
 ghost use Rattle.ic_one_text.specs.States.{IsReached};
@@ -18,8 +18,8 @@ pub fn one_reduction()
         → Alike (events st.bench) (events tt.bench) → EndsNormally s workers most st x next → EndsNormally s others many tt y after → x ≡ y }
     ensures net { (s : Start) (st tt next after : State) (workers others most many : ℕ) (x y : List ℕ) → IsProper s → IsReached s st.bench → IsReached s tt.bench
         → EndsNormally s workers most st x next → EndsNormally s others many tt y after → (m n : machine.State) (a b : List ℕ)
-        → Replies s next.bench Net a m → Replies s after.bench Net b n → ¬ (Wants a) → ¬ (Wants b) → a ≡ b }
+        → RepliesToCommand s next.bench Net a m → RepliesToCommand s after.bench Net b n → ¬ (Wants a) → ¬ (Wants b) → a ≡ b }
     ensures journal { (s : Start) (st tt next after : State) (workers others most many : ℕ) (x y : List ℕ) → IsProper s → IsReached s st.bench → IsReached s tt.bench
         → EndsNormally s workers most st x next → EndsNormally s others many tt y after → (m n : machine.State) (a b : List ℕ)
-        → Replies s next.bench Journal a m → Replies s after.bench Journal b n → ¬ (Wants a) → ¬ (Wants b) → a ≡ b }
+        → RepliesToCommand s next.bench Journal a m → RepliesToCommand s after.bench Journal b n → ¬ (Wants a) → ¬ (Wants b) → a ≡ b }
 {}

@@ -1,10 +1,10 @@
-ghost use Rattle.std.specs.Prelude.{◌≡◌, List, Some, map, IfOk};
+ghost use Rattle.std.specs.Prelude.{◌≡◌, List, map, IfOk};
 ghost use Rattle.ic_name.specs.Events.{pair};
 ghost use Rattle.ic_name.specs.declared.ids.EventId.{EventId as AnEventId};
 ghost use Rattle.ic_path.specs.Orders.{IsIn};
 ghost use Rattle.ic_roster.specs.Rosters.{Stander};
 
-use ic_name::{Event, EventId, EventName};
+use ic_name::{EventId, EventName};
 use ic_roster::Roster;
 use std::alloc::{AllocError, Global};
 
@@ -23,20 +23,8 @@ pub(crate) fn names_of(
             unreachable!()
         };
         let event = roster.read(entry.interaction)?;
-        let Some(name) = name_of(&event)? else {
-            unreachable!()
-        };
+        let name = event.name()?;
         names.push(name)?;
     }
     Ok(names)
-}
-
-/// The name of an event.
-fn name_of(event: &Event) -> Result<Option<EventName>, AllocError>
-    ensures { IfOk result (λ name. name ≡ Some (pair event.now)) }
-{
-    event.lawful();
-    let lead = event.lead().copy()?;
-    let other = event.other().copy()?;
-    Ok(EventName::of(lead, other))
 }

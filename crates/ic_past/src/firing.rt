@@ -14,14 +14,11 @@ use crate::deep::DeepEvent;
 use ic_link::LinkRows;
 use ic_name::Event;
 use ic_roster::Roster;
-use ic_set::{ActivePair, StandingSet};
+use ic_set::{ActivePair, BareSet};
 use std::alloc::AllocError;
 
 /// The event of an active pair comes to the set, under any line. At an error nothing changes.
-pub(crate) fn fire_in_set(
-    set: &mut StandingSet<LinkRows>,
-    pair: ActivePair,
-) -> Result<(), AllocError>
+pub(crate) fn fire_in_set(set: &mut BareSet<LinkRows>, pair: ActivePair) -> Result<(), AllocError>
     requires active { IsActivePair set.old.set pair }
     requires shallow { (e : AnEvent) → IsPairOf set.old.set e pair → ¬ (IsDeep e) }
     requires few { length set.old.set.events < MAX_LINES }
@@ -35,7 +32,7 @@ pub(crate) fn fire_in_set(
 
 /// An active event comes beside the set, with its direct causes. At an error nothing changes.
 pub(crate) fn fire_beside(
-    set: &StandingSet<LinkRows>,
+    set: &BareSet<LinkRows>,
     deep: &mut Vec<DeepEvent>,
     event: &Event,
     pair: ActivePair,

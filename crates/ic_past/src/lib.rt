@@ -1,4 +1,4 @@
-// Standing sets without limits and without a history, and whether a list of events is a causal order.
+//! Standing sets without limits and without a history, and whether a list of events is a causal order.
 #![tactic(auto)]
 
 mod causal;

@@ -10,7 +10,7 @@ use crate::deep::{DeepEvent, consume, is_deep, place_of, rest_on};
 use crate::firing::{fire_beside, fire_in_set};
 use ic_link::LinkRows;
 use ic_name::{AgentName, Event, EventName, Kind};
-use ic_set::StandingSet;
+use ic_set::BareSet;
 use ic_start::Start;
 use std::alloc::{AllocError, Global};
 use std::marker::Model;
@@ -22,7 +22,7 @@ use std::marker::Model;
 /// and it stands beside the set.
 #[derive(Drop)]
 pub struct Past {
-    pub(crate) set: StandingSet<LinkRows>,
+    pub(crate) set: BareSet<LinkRows>,
     pub(crate) deep: Vec<DeepEvent>,
     pub(crate) alloc: Global,
 }
@@ -46,7 +46,7 @@ impl Past {
         ensures { IfOk result (λ past. past ≡ record { start = start.now; events = [] }) }
     {
         let start = start.copy(alloc)?;
-        let set = StandingSet::over(alloc, start)?;
+        let set = BareSet::over(alloc, start)?;
         set.lawful();
         Ok(Past {
             set,
@@ -112,7 +112,7 @@ impl Past {
         if rest_on(&self.deep, id) || self.set.least_dependent(id).is_some() {
             return false;
         }
-        self.set.take_out(id);
+        let _ = self.set.take_out(id);
         true
     }
 

@@ -7,10 +7,15 @@ use Rattle.ic_name.specs.declared.ports.Port.{Port}
 use Rattle.ic_name.specs.declared.ports.Port.TheVariants.{Of}
 use Rattle.ic_theory.specs.Listed.{NetAgent}
 use Rattle.ic_print.specs.NetText.{label_of, numbered, partner_of, port_label, wire_of}
+use Rattle.ic_print.specs.Numbers.{port_wire, wire_place}
+use Rattle.ic_print.proofs.Wires.{wire_between}
 
 -- where the partner is a port of an agent, it is the place of the wire between the two
-pub number_label : (names : List (List ℕ)) (ws : List Port) (a : NetAgent) (i : ℕ) (n : Name) (j : ℕ) (w : Port) (k : ℕ) → partner_of a i ≡ Of n j → Some w ≡ wire_of (Of a.name i) (Of n j) → k ≡ unwrap_or (position (same_port w) ws) 0 → numbered k ≡ port_label names ws a i
-number_label names ws a i n j w k partner wire number =
-    let there : port_label names ws a i ≡ label_of names ws (Of a.name i) (Of n j) = ap (label_of names ws (Of a.name i)) partner in
-    let place : k ≡ unwrap_or (position (same_port (unwrap_or (wire_of (Of a.name i) (Of n j)) (Of a.name i))) ws) 0 = number ∙ ap (λ o. unwrap_or (position (same_port (unwrap_or o (Of a.name i))) ws) 0) wire in
-    ap numbered place ∙ sym there
+pub number_label : (names : List (List ℕ)) (ws : List Port) (a : NetAgent) (i : ℕ) (n : Name) (j : ℕ) (k : ℕ) → partner_of a i ≡ Of n j → k ≡ unwrap_or (wire_place ws (port_wire a i)) 0 → numbered k ≡ port_label names ws a i
+number_label names ws a i n j k partner number =
+    let here = Of a.name i in
+    let w = wire_between here n j in
+    let wire : port_wire a i ≡ Some w.wire = ap (wire_of here) partner ∙ w.is in
+    let place : k ≡ unwrap_or (position (same_port w.wire) ws) 0 = number ∙ ap (λ o. unwrap_or (wire_place ws o) 0) wire in
+    let label : label_of names ws here (Of n j) ≡ numbered (unwrap_or (position (same_port w.wire) ws) 0) = ap (λ o. numbered (unwrap_or (position (same_port (unwrap_or o here)) ws) 0)) w.is in
+    ap numbered place ∙ sym label ∙ sym (ap (label_of names ws here) partner)

@@ -1,8 +1,10 @@
-pub mod AgentPorts
 pub mod Examples
 pub mod FreeWires
-pub mod Labels
-pub mod Numbering
 pub mod Positions
+pub mod Wires
+pub mod Places
+pub mod Wired
+pub mod Numbering
+pub mod Labels
 pub mod Rings
 pub mod WireCounts

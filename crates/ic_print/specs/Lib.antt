@@ -2,5 +2,4 @@ pub mod AgentsText
 pub mod Lines
 pub mod NetText
 pub mod Numbers
-pub mod Ports
 pub mod Sheets

@@ -4,11 +4,13 @@ ghost use Rattle.ic_name.specs.Kinds.{arity};
 ghost use Rattle.ic_net.specs.Views.{shown_agent};
 ghost use Rattle.ic_print.specs.AgentsText.{agents_text, named_line};
 ghost use Rattle.ic_print.specs.Lines.{texts};
+ghost use Rattle.ic_print.specs.Numbers.{IsPlaced};
 ghost use Rattle.ic_print.specs.Sheets.{wires_in};
 
 use crate::numbered::NumberedAgents;
+use crate::placed::PlacedAgent;
 use crate::put::put_line;
-use ic_net::{AgentView, Net};
+use ic_net::Net;
 use std::alloc::{AllocError, Global};
 
 /// Which line of the printed net is which agent's: how many agents there are, and in order of their names the line of each
@@ -33,23 +35,24 @@ fn put_named(
     requires { All (λ a. length a.partners ≡ arity a.kind + 1) (map shown_agent sheet.now.agents.now) }
     ensures { OnOk result (out.new.items ≡ out.old.items ++ flat_map (named_line (texts names.now) (wires_in sheet.now)) (map shown_agent sheet.now.agents.now)) }
 {
-    for agent in sheet.agents() {
-        put_named_line(out, sheet, names, agent)?;
+    for (place, view) in sheet.agents().iter().enumerate() {
+        put_named_line(out, sheet, names, &PlacedAgent { place, view: *view })?;
     }
     Ok(())
 }
 
 /// Writes an agent's line behind its name.
-fn put_named_line<'a>(
+fn put_named_line(
     out: &mut Vec<u8>,
-    sheet: &NumberedAgents<'a>,
+    sheet: &NumberedAgents<'_>,
     names: &[Vec<u8>],
-    agent: &AgentView<'a>,
+    agent: &PlacedAgent<'_>,
 ) -> Result<(), AllocError>
-    requires { length agent.now.partners.now ≡ arity agent.now.kind + 1 }
-    ensures { OnOk result (out.new.items ≡ out.old.items ++ named_line (texts names.now) (wires_in sheet.now) (shown_agent agent.now)) }
+    requires placed { IsPlaced (map shown_agent sheet.now.agents.now) agent.now }
+    requires whole { length agent.now.view.partners.now ≡ arity agent.now.view.kind + 1 }
+    ensures { OnOk result (out.new.items ≡ out.old.items ++ named_line (texts names.now) (wires_in sheet.now) (shown_agent agent.now.view)) }
 {
-    agent.name.write_to(out)?;
+    agent.view.name.write_to(out)?;
     out.push(b' ')?;
     put_line(out, sheet, names, agent)
 }

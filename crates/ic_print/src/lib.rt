@@ -5,6 +5,8 @@ pub mod agents;
 mod free;
 mod numbered;
 mod numbers;
+mod placed;
+mod port_numbers;
 mod ports;
 pub mod print;
 mod put;

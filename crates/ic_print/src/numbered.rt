@@ -3,25 +3,22 @@ ghost use Rattle.ic_print.specs.NetText.{numbered_wires};
 ghost use Rattle.ic_print.specs.Numbers.{IsNumbering};
 ghost use Rattle.ic_net.specs.Views.{shown_agent};
 
-use crate::numbers::number_wires;
-use crate::ports::AgentPort;
+use crate::numbers::{WireNumbers, number_wires};
+use crate::placed::PlacedAgent;
 use ic_net::AgentView;
 use std::alloc::{AllocError, Global};
-use std::collections::BTreeMap;
 
 /// The agents of a net, and the numbers of the wires that their lines show by one.
 #[derive(Drop)]
 pub(crate) struct NumberedAgents<'a> {
     agents: &'a [AgentView<'a>],
-    numbers: BTreeMap<AgentPort<'a>, u64>,
-    ghost numbering: { IsNumbering numbers (numbered_wires (map shown_agent agents.now)) },
+    numbers: WireNumbers,
+    ghost numbering: { IsNumbering (map shown_agent agents.now) numbers (numbered_wires (map shown_agent agents.now)) },
 }
 
 impl<'a> NumberedAgents<'a> {
-    ghost use Rattle.std.specs.Prelude.{◌≡◌, ◌+◌, ◌<◌, ◌≤◌, ◌*◌, length, position, unwrap_or, IfOk, All};
-    ghost use Rattle.ic_name.specs.Kinds.{arity};
-    ghost use Rattle.ic_name.specs.Same.{same_port};
-    ghost use Rattle.ic_print.specs.Ports.{port_of};
+    ghost use Rattle.std.specs.Prelude.{◌≡◌, ◌<◌, ◌≤◌, ◌*◌, ◌^◌, length, unwrap_or, IfOk};
+    ghost use Rattle.ic_print.specs.Numbers.{port_wire, wire_place, AreWired, IsPlaced};
     ghost use Rattle.ic_print.specs.Sheets.{wires_in};
 
     /// The agents with the numbers of their wires.
@@ -29,7 +26,8 @@ impl<'a> NumberedAgents<'a> {
         alloc: Global,
         agents: &'a [AgentView<'a>],
     ) -> Result<NumberedAgents<'a>, AllocError>
-        requires { All (λ a. length a.partners ≡ arity a.kind + 1) (map shown_agent agents.now) }
+        requires wired { AreWired (map shown_agent agents.now) }
+        requires few { 3 * length agents.now < 2 ^ 64 }
         ensures { IfOk result (λ n. n.agents.now ≡ agents.now) }
     {
         let numbers = number_wires(alloc, agents)?;
@@ -43,11 +41,13 @@ impl<'a> NumberedAgents<'a> {
         self.agents
     }
 
-    /// The number of a wire, or 0 for one that has none.
-    pub(crate) fn number(&self, wire: AgentPort<'a>) -> u64
-        ensures { result ≡ unwrap_or (position (same_port (port_of wire.entry)) (wires_in self.now)) 0 }
+    /// The number of the wire at an agent's port, or 0 for one that has none.
+    pub(crate) fn number(&self, agent: &PlacedAgent<'_>, port: u8) -> u64
+        requires placed { IsPlaced (map shown_agent self.now.agents.now) agent.now }
+        requires port { port < length agent.now.view.partners.now }
+        ensures { result ≡ unwrap_or (wire_place (wires_in self.now) (port_wire (shown_agent agent.now.view) port)) 0 }
     {
-        self.numbers.get(&wire).copied().unwrap_or(0)
+        self.numbers.get(agent.place, port).unwrap_or(0)
     }
 
     /// How many wires have numbers: at most three for each agent.
@@ -55,6 +55,6 @@ impl<'a> NumberedAgents<'a> {
         ensures value { result ≡ length (wires_in self.now) }
         ensures few { result ≤ 3 * length self.now.agents.now }
     {
-        self.numbers.len() as u64
+        self.numbers.count()
     }
 }

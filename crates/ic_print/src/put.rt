@@ -3,13 +3,15 @@ ghost use Rattle.std.specs.List.{flat_map};
 ghost use Rattle.ic_name.specs.Kinds.{arity};
 ghost use Rattle.ic_print.specs.Lines.{ring_line, texts};
 ghost use Rattle.ic_print.specs.NetText.{agent_line, arguments, header, letter, name_text, numbered, port_label, profile_line, ring_lines};
+ghost use Rattle.ic_print.specs.Numbers.{IsPlaced};
 ghost use Rattle.ic_print.specs.Sheets.{wires_in};
 ghost use Rattle.ic_net.specs.Views.{shown_agent};
 
 use crate::numbered::NumberedAgents;
-use crate::ports::{AgentPort, partner};
+use crate::placed::PlacedAgent;
+use crate::ports::partner;
 use ic_name::{Kind, Port, Profile};
-use ic_net::AgentView;
+use itoa::Buffer;
 use std::alloc::AllocError;
 
 /// The text of the name of this number.
@@ -25,8 +27,8 @@ pub(crate) fn text_of(names: &[Vec<u8>], number: u32) -> &[u8]
 fn put_decimal(out: &mut Vec<u8>, n: u64) -> Result<(), AllocError>
     ensures { OnOk result (out.new.items ≡ out.old.items ++ decimal n) }
 {
-    let text = format!(in *out.allocator(); "{n}")?;
-    out.extend_from_slice(text.as_bytes())
+    let mut buffer = Buffer::new();
+    out.extend_from_slice(buffer.format(n).as_bytes())
 }
 
 fn put_numbered(out: &mut Vec<u8>, number: u64) -> Result<(), AllocError>
@@ -37,29 +39,20 @@ fn put_numbered(out: &mut Vec<u8>, number: u64) -> Result<(), AllocError>
 }
 
 /// Writes the wire at an agent's port: the free name at its other end, or else its number.
-fn put_port<'a>(
+fn put_port(
     out: &mut Vec<u8>,
-    sheet: &NumberedAgents<'a>,
+    sheet: &NumberedAgents<'_>,
     names: &[Vec<u8>],
-    agent: &AgentView<'a>,
+    agent: &PlacedAgent<'_>,
     port: u8,
 ) -> Result<(), AllocError>
-    requires { port < length agent.now.partners.now }
-    ensures { OnOk result (out.new.items ≡ out.old.items ++ port_label (texts names.now) (wires_in sheet.now) (shown_agent agent.now) port) }
+    requires placed { IsPlaced (map shown_agent sheet.now.agents.now) agent.now }
+    requires port { port < length agent.now.view.partners.now }
+    ensures { OnOk result (out.new.items ≡ out.old.items ++ port_label (texts names.now) (wires_in sheet.now) (shown_agent agent.now.view) port) }
 {
-    match partner(agent, port) {
+    match partner(&agent.view, port) {
         Port::Name(number) => out.extend_from_slice(text_of(names, *number)),
-        Port::Of(name, number) => {
-            let here = AgentPort {
-                name: agent.name,
-                number: port,
-            };
-            let there = AgentPort {
-                name,
-                number: *number,
-            };
-            put_numbered(out, sheet.number(here.wire_to(there)))
-        }
+        Port::Of(..) => put_numbered(out, sheet.number(agent, port)),
     }
 }
 
@@ -74,16 +67,17 @@ fn put_letter(out: &mut Vec<u8>, kind: Kind) -> Result<(), AllocError>
 }
 
 /// Writes the parentheses of a gamma or delta, with its auxiliary ports.
-fn put_arguments<'a>(
+fn put_arguments(
     out: &mut Vec<u8>,
-    sheet: &NumberedAgents<'a>,
+    sheet: &NumberedAgents<'_>,
     names: &[Vec<u8>],
-    agent: &AgentView<'a>,
+    agent: &PlacedAgent<'_>,
 ) -> Result<(), AllocError>
-    requires { length agent.now.partners.now ≡ arity agent.now.kind + 1 }
-    ensures { OnOk result (out.new.items ≡ out.old.items ++ arguments (texts names.now) (wires_in sheet.now) (shown_agent agent.now) agent.now.kind) }
+    requires placed { IsPlaced (map shown_agent sheet.now.agents.now) agent.now }
+    requires whole { length agent.now.view.partners.now ≡ arity agent.now.view.kind + 1 }
+    ensures { OnOk result (out.new.items ≡ out.old.items ++ arguments (texts names.now) (wires_in sheet.now) (shown_agent agent.now.view) agent.now.view.kind) }
 {
-    match agent.kind {
+    match agent.view.kind {
         Kind::Eps => Ok(()),
         Kind::Gamma | Kind::Delta => {
             out.extend_from_slice(b"(")?;
@@ -96,16 +90,17 @@ fn put_arguments<'a>(
 }
 
 /// Writes the line of an agent.
-pub(crate) fn put_line<'a>(
+pub(crate) fn put_line(
     out: &mut Vec<u8>,
-    sheet: &NumberedAgents<'a>,
+    sheet: &NumberedAgents<'_>,
     names: &[Vec<u8>],
-    agent: &AgentView<'a>,
+    agent: &PlacedAgent<'_>,
 ) -> Result<(), AllocError>
-    requires { length agent.now.partners.now ≡ arity agent.now.kind + 1 }
-    ensures { OnOk result (out.new.items ≡ out.old.items ++ agent_line (texts names.now) (wires_in sheet.now) (shown_agent agent.now)) }
+    requires placed { IsPlaced (map shown_agent sheet.now.agents.now) agent.now }
+    requires whole { length agent.now.view.partners.now ≡ arity agent.now.view.kind + 1 }
+    ensures { OnOk result (out.new.items ≡ out.old.items ++ agent_line (texts names.now) (wires_in sheet.now) (shown_agent agent.now.view)) }
 {
-    put_letter(out, agent.kind)?;
+    put_letter(out, agent.view.kind)?;
     put_arguments(out, sheet, names, agent)?;
     out.extend_from_slice(b" = ")?;
     put_port(out, sheet, names, agent, 0)?;
@@ -121,8 +116,8 @@ pub(crate) fn put_agents(
     requires { All (λ a. length a.partners ≡ arity a.kind + 1) (map shown_agent sheet.now.agents.now) }
     ensures { OnOk result (out.new.items ≡ out.old.items ++ flat_map (agent_line (texts names.now) (wires_in sheet.now)) (map shown_agent sheet.now.agents.now)) }
 {
-    for agent in sheet.agents() {
-        put_line(out, sheet, names, agent)?;
+    for (place, view) in sheet.agents().iter().enumerate() {
+        put_line(out, sheet, names, &PlacedAgent { place, view: *view })?;
     }
     Ok(())
 }

@@ -1,4 +1,4 @@
-// A queue of names by their places in a table, from which the least name is taken first.
+//! A queue of names by their places in a table, from which the least name is taken first.
 #![tactic(auto)]
 
 pub mod laws;

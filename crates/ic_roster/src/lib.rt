@@ -1,4 +1,4 @@
-// Who is there: agents and standing events, under their ids and by their names, which lie in one table.
+//! Who is there: agents and standing events, under their ids and by their names, which lie in one table.
 #![tactic(auto)]
 
 mod agent_records;

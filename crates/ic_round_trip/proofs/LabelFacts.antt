@@ -10,8 +10,9 @@ use Rattle.ic_name.specs.declared.ports.Port.TheVariants as port
 use Rattle.ic_theory.specs.Listed.{ListedNet, IsListing, shown}
 use Rattle.ic_grammar.specs.Texts.{is_reserved}
 use Rattle.ic_print.specs.NetText.{name_text, wire_of, numbered_wires, numbered, label_of}
+use Rattle.ic_print.proofs.Wires.{wire_between, wire_both}
 use Rattle.ic_round_trip.specs.Printable.{IsFreeName, IsWired, IsPrintable}
-use Rattle.ic_round_trip.proofs.WireNumbers.{number_of, one_number, wire_between, wire_both, wire_numbered}
+use Rattle.ic_round_trip.proofs.WireNumbers.{number_of, one_number, wire_numbered}
 
 -- a number's text begins with `_`
 pub numbered_reserved : (k : ℕ) → is_reserved (numbered k) ≡ true

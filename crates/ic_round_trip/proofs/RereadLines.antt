@@ -14,10 +14,10 @@ use Rattle.ic_path.specs.Orders.{IsIn}
 use Rattle.ic_theory.specs.Listed.{NetAgent, ListedNet, shown}
 use Rattle.ic_theory.specs.Starts.{Start}
 use Rattle.ic_print.specs.NetText.{partner_of, numbered_wires, numbered, label_of, port_label, letter, arguments, agent_line}
+use Rattle.ic_print.proofs.Wires.{wire_between}
 use Rattle.ic_round_trip.specs.Reread.{reread_port}
 use Rattle.ic_round_trip.proofs.Owners.{listed_port}
 use Rattle.ic_round_trip.proofs.Pointwise.{flat_map_agrees}
-use Rattle.ic_round_trip.proofs.WireNumbers.{wire_between}
 use Rattle.ic_round_trip.proofs.RereadListing.{IsRereadListing}
 use Rattle.ic_round_trip.proofs.RereadAgents.{image, same_agents}
 use Rattle.ic_round_trip.proofs.RereadOrder.{IsFound}

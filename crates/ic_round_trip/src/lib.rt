@@ -1,4 +1,4 @@
-// A printed text, read again: the same net, and the same bytes.
+//! A printed text, read again: the same net, and the same bytes.
 #![tactic(auto)]
 
 ghost use Rattle.std.specs.Prelude.{◌≡◌, ℕ, [], ◌+◌, ◌*◌, ◌^◌, ◌<◌, List, length};

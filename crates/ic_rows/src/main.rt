@@ -1,4 +1,4 @@
-// Runs the worked sessions of `data`, and compares what each writes with what is stored.
+//! Runs the worked sessions of `data`, and compares what each writes with what is stored.
 #![tactic(auto)]
 
 mod compare;

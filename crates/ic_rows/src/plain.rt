@@ -1,5 +1,5 @@
 use ic_command::{Asked, Command, Request, asked_of, listed_of};
-use ic_desk::Desk;
+use ic_desk::{Desk, NoGate};
 use ic_link::LinkRows;
 use ic_name::EventName;
 use ic_session::{Fault, Status};
@@ -123,6 +123,6 @@ fn answer(
     request: Request,
     writer: &mut Vec<u8>,
 ) -> Result<(), AllocError> {
-    let answer = desk.carry_out(alloc, request)?;
+    let answer = desk.carry_out(alloc, request, &NoGate)?;
     writer.extend_from_slice(answer.bytes())
 }

@@ -1,5 +1,5 @@
 -- How a session is run, what its lines ask for then, and what is answered.
-use Rattle.std.specs.Prelude.{◌≡◌, ℕ, Bool, true, false, List, ◌∷◌, Option, Some, None, [], IsSomeAnd}
+use Rattle.std.specs.Prelude.{◌≡◌, ℕ, true, false, List, ◌∷◌, Option, Some, None, [], IsSomeAnd}
 use Rattle.ic_theory.specs.Starts.{Start}
 use Rattle.ic_command.specs.declared.question.Question.{Question}
 use Rattle.ic_command.specs.declared.request.Request.{Request}
@@ -18,10 +18,6 @@ use Rattle.ic_session.specs.NextRequest.{Takes}
 -- a session of so many workers and this budget that only answers
 abbrev pub plain : ℕ → ℕ → Mode
 plain workers budget = record { workers = workers; budget = budget; explains = false }
-
--- and one that explains itself
-abbrev pub explaining : ℕ → ℕ → Mode
-explaining workers budget = record { workers = workers; budget = budget; explains = true }
 
 -- What the first of these lines asks for, with the lines that it takes behind it, and the lines that are left: a question
 -- where the session explains itself and the line asks one, and else a request.

@@ -1,6 +1,6 @@
 ghost use Rattle.std.specs.Prelude.{◌≡◌, ◌<◌, ◌≤◌, ℕ, List, IfErr, IfOk, IfSome, OnErr};
 ghost use Rattle.std.specs.Io.KnownBytes.{Appends};
-ghost use Rattle.ic_session.specs.Modes.{plain, explaining};
+ghost use Rattle.ic_session.specs.Modes.{plain};
 ghost use Rattle.ic_session.specs.Sessions.{IsBegun, Writes};
 ghost use Rattle.ic_session.specs.declared.fault.Fault.TheVariants.{Settle};
 
@@ -9,7 +9,8 @@ use crate::mode::Mode;
 use crate::notes::explain_fault;
 use crate::place::Place;
 use crate::session::{Status, run_over};
-use ic_desk::MAX_WORKERS;
+use crate::setting::Setting;
+use ic_desk::{Gate, MAX_WORKERS, NoGate};
 use ic_lines::Input;
 use std::alloc::Global;
 use std::io::{Read, Write};
@@ -58,57 +59,64 @@ pub fn run_bounded<R: Read, W: Write, T: Threads + Wait + Sync>(
     ensures begun { OnErr result (IfSome (R.remaining reader.old) (λ input. (text : List ℕ) × IsBegun (plain workers budget) input text × Appends (W.contents writer.old) (W.contents writer.new) text)) }
     ensures settle { IfErr result (λ fault. fault ≡ Settle → 1 < workers) }
 {
-    let mut input = Input::new(alloc, reads)?;
-    let mut unheard: Vec<u8> = Vec::new(alloc);
-    let mut place = Place::first();
-    let mode = Mode {
-        workers,
-        budget,
-        explains: false,
-    };
-    run_over(
+    let setting = Setting {
         threads,
         alloc,
-        &mut input,
-        reader,
-        writer,
-        &mut unheard,
-        &mut place,
-        mode,
-    )
+        gate: &NoGate,
+        mode: Mode {
+            workers,
+            budget,
+            explains: false,
+        },
+    };
+    let mut unheard: Vec<u8> = Vec::new(alloc);
+    run(&setting, reader, writer, &mut unheard, reads)
 }
 
-/// Runs a session as `run_session` does that explains itself: it answers questions, too, and writes to `errors` a sentence
-/// for each refusal and fault, with the number of its line: what is wrong, and what would be right. Where `errors` fails,
-/// that is left out.
-pub fn run_explained<R: Read, W: Write, E: Write, T: Threads + Wait + Sync>(
-    threads: &T,
-    alloc: Global,
+/// Runs a session in a setting, as `run_session` does. The gate sees each commit of a `reduce`. Where the session explains
+/// itself, it answers questions, too, and writes to `errors` a sentence for each refusal and fault, with the number of its
+/// line: what is wrong, and what would be right. Where `errors` fails, that is left out.
+pub fn run_in<R: Read, W: Write, E: Write, T: Threads + Wait + Sync, G: Gate>(
+    setting: &Setting<'_, T, G>,
     reader: &mut R,
     writer: &mut W,
     errors: &mut E,
-    workers: u8,
-    budget: u32,
 ) -> Result<Status, Fault>
-    requires { (0 < workers) × (workers ≤ MAX_WORKERS) }
-    ensures written { IfOk result (λ status. IfSome (R.remaining reader.old) (λ input. Writes (explaining workers budget) input status (W.contents writer.old) (W.contents writer.new))) }
-    ensures begun { OnErr result (IfSome (R.remaining reader.old) (λ input. (text : List ℕ) × IsBegun (explaining workers budget) input text × Appends (W.contents writer.old) (W.contents writer.new) text)) }
-    ensures settle { IfErr result (λ fault. fault ≡ Settle → 1 < workers) }
+    requires { (0 < setting.now.mode.workers) × (setting.now.mode.workers ≤ MAX_WORKERS) }
+    ensures written { IfOk result (λ status. IfSome (R.remaining reader.old) (λ input. Writes setting.now.mode input status (W.contents writer.old) (W.contents writer.new))) }
+    ensures begun { OnErr result (IfSome (R.remaining reader.old) (λ input. (text : List ℕ) × IsBegun setting.now.mode input text × Appends (W.contents writer.old) (W.contents writer.new) text)) }
+    ensures settle { IfErr result (λ fault. fault ≡ Settle → 1 < setting.now.mode.workers) }
 {
-    let mut input = Input::new(alloc, MAX_READS)?;
+    run(setting, reader, writer, errors, MAX_READS)
+}
+
+/// Runs a session with so many calls of the reader's `read` at most.
+fn run<R: Read, W: Write, E: Write, T: Threads + Wait + Sync, G: Gate>(
+    setting: &Setting<'_, T, G>,
+    reader: &mut R,
+    writer: &mut W,
+    errors: &mut E,
+    reads: u32,
+) -> Result<Status, Fault>
+    requires { (0 < setting.now.mode.workers) × (setting.now.mode.workers ≤ MAX_WORKERS) }
+    ensures written { IfOk result (λ status. IfSome (R.remaining reader.old) (λ input. Writes setting.now.mode input status (W.contents writer.old) (W.contents writer.new))) }
+    ensures begun { OnErr result (IfSome (R.remaining reader.old) (λ input. (text : List ℕ) × IsBegun setting.now.mode input text × Appends (W.contents writer.old) (W.contents writer.new) text)) }
+    ensures settle { IfErr result (λ fault. fault ≡ Settle → 1 < setting.now.mode.workers) }
+{
+    let mut input = Input::new(setting.alloc, reads)?;
     let mut place = Place::first();
-    let mode = Mode {
-        workers,
-        budget,
-        explains: true,
-    };
-    match run_over(
-        threads, alloc, &mut input, reader, writer, errors, &mut place, mode,
-    ) {
+    match run_over(setting, &mut input, reader, writer, errors, &mut place) {
         Ok(status) => Ok(status),
         Err(fault) => {
-            explain_fault(alloc, errors, place, fault);
+            tell(setting.alloc, errors, place, fault, setting.mode);
             Err(fault)
         }
+    }
+}
+
+/// Says behind which line a session broke off, where it explains itself.
+fn tell<E: Write>(alloc: Global, errors: &mut E, place: Place, fault: Fault, mode: Mode) {
+    if mode.explains {
+        explain_fault(alloc, errors, place, fault);
     }
 }

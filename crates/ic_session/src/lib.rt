@@ -14,12 +14,14 @@ mod notes;
 mod place;
 pub mod refusal;
 pub mod session;
+pub mod setting;
 mod taken_line;
 mod topics;
 
-pub use bounded::{run_bounded, run_explained, run_session};
+pub use bounded::{MAX_READS, run_bounded, run_in, run_session};
 pub use demand::Demand;
 pub use fault::Fault;
-pub use ic_desk::{MAX_BUDGET, MAX_WORKERS};
+pub use ic_desk::{Gate, MAX_BUDGET, MAX_WORKERS, NoGate};
 pub use mode::Mode;
 pub use session::Status;
+pub use setting::Setting;

@@ -23,9 +23,10 @@ use crate::next_demand::next_demand;
 use crate::notes::{explain_answer, explain_net};
 use crate::place::Place;
 use crate::refusal::refusal_line;
+use crate::setting::Setting;
 use ic_answer::Answer;
 use ic_command::Question;
-use ic_desk::{Desk, DeskFault, MAX_WORKERS, NoGate};
+use ic_desk::{Desk, DeskFault, Gate, MAX_WORKERS};
 use ic_grammar::Refusal;
 use ic_journal::Store;
 use ic_lines::{Input, write_reply};
@@ -51,38 +52,37 @@ pub enum Status {
 /// the workers of a sweep say that they did what the history doesn't say. What was written by then is a front of what a
 /// session may write.
 #[tactic(auto, using(crate::proofs::SessionFacts::still_read_fault))]
-pub(crate) fn run_over<R: Read, W: Write, E: Write, T: Threads + Wait + Sync>(
-    threads: &T,
-    alloc: Global,
+pub(crate) fn run_over<R: Read, W: Write, E: Write, T: Threads + Wait + Sync, G: Gate>(
+    setting: &Setting<'_, T, G>,
     input: &mut Input,
     reader: &mut R,
     writer: &mut W,
     errors: &mut E,
     place: &mut Place,
-    mode: Mode,
 ) -> Result<Status, Fault>
-    requires { (0 < mode.workers) × (mode.workers ≤ MAX_WORKERS) }
-    ensures written { IfOk result (λ status. IfSome (left input.old (R.remaining reader.old)) (λ bytes. Writes mode bytes status (W.contents writer.old) (W.contents writer.new))) }
-    ensures begun { OnErr result (IfSome (left input.old (R.remaining reader.old)) (λ bytes. (text : List ℕ) × IsBegun mode bytes text × Appends (W.contents writer.old) (W.contents writer.new) text)) }
+    requires { (0 < setting.now.mode.workers) × (setting.now.mode.workers ≤ MAX_WORKERS) }
+    ensures written { IfOk result (λ status. IfSome (left input.old (R.remaining reader.old)) (λ bytes. Writes setting.now.mode bytes status (W.contents writer.old) (W.contents writer.new))) }
+    ensures begun { OnErr result (IfSome (left input.old (R.remaining reader.old)) (λ bytes. (text : List ℕ) × IsBegun setting.now.mode bytes text × Appends (W.contents writer.old) (W.contents writer.new) text)) }
     ensures read { IfErr result (λ fault. fault ≡ Read → IsReadFault input.old.reads input.new.reads io_fault.Read) }
-    ensures settle { IfErr result (λ fault. fault ≡ Settle → 1 < mode.workers) }
+    ensures settle { IfErr result (λ fault. fault ≡ Settle → 1 < setting.now.mode.workers) }
 {
+    let alloc = setting.alloc;
     let text = match read_net_text(alloc, input, reader)? {
-        NetInput::TooLong => return refuse(alloc, Refusal::TooLong, &[], writer, errors, mode),
+        NetInput::TooLong => {
+            return refuse(alloc, Refusal::TooLong, &[], writer, errors, setting.mode);
+        }
         NetInput::Whole(text) => text,
     };
     let start = match read_net(alloc, &text) {
         Ok(start) => start,
         Err(TextFault::Memory) => return Err(Fault::Memory),
         Err(TextFault::Refused(refusal)) => {
-            return refuse(alloc, refusal, &text, writer, errors, mode);
+            return refuse(alloc, refusal, &text, writer, errors, setting.mode);
         }
     };
     place.pass_net(&text);
     let desk: Desk<Store> = Desk::over(alloc, start)?;
-    answer_all(
-        threads, alloc, desk, input, reader, writer, errors, place, mode,
-    )?;
+    answer_all(setting, desk, input, reader, writer, errors, place)?;
     Ok(Status::Ended)
 }
 
@@ -108,31 +108,30 @@ fn refuse<W: Write, E: Write>(
 }
 
 /// Answers the lines that are left.
-fn answer_all<R: Read, W: Write, E: Write, T: Threads + Wait + Sync>(
-    threads: &T,
-    alloc: Global,
+fn answer_all<R: Read, W: Write, E: Write, T: Threads + Wait + Sync, G: Gate>(
+    setting: &Setting<'_, T, G>,
     mut desk: Desk<Store>,
     input: &mut Input,
     reader: &mut R,
     writer: &mut W,
     errors: &mut E,
     place: &mut Place,
-    mode: Mode,
 ) -> Result<(), Fault>
-    requires { (0 < mode.workers) × (mode.workers ≤ MAX_WORKERS) }
+    requires { (0 < setting.now.mode.workers) × (setting.now.mode.workers ≤ MAX_WORKERS) }
     ensures answered { OnOk result (IfSome (left input.old (R.remaining reader.old)) (λ bytes. (st : State) → IsDeskAt desk st →
-        (text : List ℕ) × AreAnswers desk.bench.start mode st (lines bytes) text × Appends (W.contents writer.old) (W.contents writer.new) text)) }
+        (text : List ℕ) × AreAnswers desk.bench.start setting.now.mode st (lines bytes) text × Appends (W.contents writer.old) (W.contents writer.new) text)) }
     ensures begun { OnErr result (IfSome (left input.old (R.remaining reader.old)) (λ bytes. (st : State) → IsDeskAt desk st →
-        (text : List ℕ) × AreBegun desk.bench.start mode st (lines bytes) text × Appends (W.contents writer.old) (W.contents writer.new) text)) }
+        (text : List ℕ) × AreBegun desk.bench.start setting.now.mode st (lines bytes) text × Appends (W.contents writer.old) (W.contents writer.new) text)) }
     ensures fewer { input.new.reads ≤ input.old.reads }
     ensures fault { IfErr result (λ fault. fault ≡ Read → IsReadFault input.old.reads input.new.reads io_fault.Read) }
-    ensures settle { IfErr result (λ fault. fault ≡ Settle → 1 < mode.workers) }
+    ensures settle { IfErr result (λ fault. fault ≡ Settle → 1 < setting.now.mode.workers) }
 {
+    let alloc = setting.alloc;
     let mut line = Vec::new(alloc);
     loop {
-        match next_demand(alloc, input, reader, &mut line, place, mode)? {
+        match next_demand(alloc, input, reader, &mut line, place, setting.mode)? {
             Some(demand) => {
-                desk = answer(threads, alloc, desk, demand, writer, errors, *place, mode)?;
+                desk = answer(setting, desk, demand, writer, errors, *place)?;
             }
             None => return Ok(()),
         }
@@ -141,51 +140,47 @@ fn answer_all<R: Read, W: Write, E: Write, T: Threads + Wait + Sync>(
 
 /// Meets a demand, and writes the answer to it; the desk comes back. Where the session explains itself, it says what is
 /// wrong with what is refused.
-fn answer<W: Write, E: Write, T: Threads + Wait + Sync>(
-    threads: &T,
-    alloc: Global,
+fn answer<W: Write, E: Write, T: Threads + Wait + Sync, G: Gate>(
+    setting: &Setting<'_, T, G>,
     desk: Desk<Store>,
     demand: Demand,
     writer: &mut W,
     errors: &mut E,
     place: Place,
-    mode: Mode,
 ) -> Result<Desk<Store>, Fault>
-    requires { (0 < mode.workers) × (mode.workers ≤ MAX_WORKERS) }
-    ensures answered { IfOk result (λ after. IsAnswered mode desk demand after (W.contents writer.old) (W.contents writer.new)) }
-    ensures begun { OnErr result (IsBrokenOff mode desk demand (W.contents writer.old) (W.contents writer.new)) }
+    requires { (0 < setting.now.mode.workers) × (setting.now.mode.workers ≤ MAX_WORKERS) }
+    ensures answered { IfOk result (λ after. IsAnswered setting.now.mode desk demand after (W.contents writer.old) (W.contents writer.new)) }
+    ensures begun { OnErr result (IsBrokenOff setting.now.mode desk demand (W.contents writer.old) (W.contents writer.new)) }
     ensures fault { IfErr result (λ fault. fault ≢ Read) }
-    ensures settle { IfErr result (λ fault. fault ≡ Settle → 1 < mode.workers) }
+    ensures settle { IfErr result (λ fault. fault ≡ Settle → 1 < setting.now.mode.workers) }
 {
-    let (after, answer) = meet(threads, alloc, desk, demand, mode)?;
+    let (after, answer) = meet(setting, desk, demand)?;
     write_reply(writer, answer.bytes())?;
-    if mode.explains {
-        explain_answer(alloc, errors, place, answer.bytes());
+    if setting.mode.explains {
+        explain_answer(setting.alloc, errors, place, answer.bytes());
     }
     Ok(after)
 }
 
 /// Meets a demand; the desk comes back with the answer.
-fn meet<T: Threads + Wait + Sync>(
-    threads: &T,
-    alloc: Global,
+fn meet<T: Threads + Wait + Sync, G: Gate>(
+    setting: &Setting<'_, T, G>,
     desk: Desk<Store>,
     demand: Demand,
-    mode: Mode,
 ) -> Result<(Desk<Store>, Answer), DeskFault>
-    requires { (0 < mode.workers) × (mode.workers ≤ MAX_WORKERS) }
-    ensures turns { IfOk result (λ r. TurnsIn mode desk demand (answer_text r.1) r.0) }
-    ensures settle { IfErr result (λ fault. fault ≡ desk_fault.Settle → 1 < mode.workers) }
+    requires { (0 < setting.now.mode.workers) × (setting.now.mode.workers ≤ MAX_WORKERS) }
+    ensures turns { IfOk result (λ r. TurnsIn setting.now.mode desk demand (answer_text r.1) r.0) }
+    ensures settle { IfErr result (λ fault. fault ≡ desk_fault.Settle → 1 < setting.now.mode.workers) }
 {
     match demand {
         Demand::Requests(request) => desk.carry_out_with(
-            threads,
-            alloc,
-            u32::from(mode.workers),
-            request.within(mode.budget),
-            &NoGate,
+            setting.threads,
+            setting.alloc,
+            u32::from(setting.mode.workers),
+            request.within(setting.mode.budget),
+            setting.gate,
         ),
-        Demand::Asks(question) => told(alloc, desk, question),
+        Demand::Asks(question) => told(setting.alloc, desk, question),
     }
 }
 

@@ -16,7 +16,6 @@ pub mod GrownNames
 pub mod EnteredInTurn
 pub mod NamedInTurn
 pub mod ByPlace
-pub mod TakenElements
 pub mod SlimSets
 pub mod StartLinks
 pub mod EmptySets
@@ -44,9 +43,6 @@ pub mod BornPairs
 pub mod LedPairs
 pub mod ReachedAgents
 pub mod GrownSets
-pub mod Awakened
-pub mod PairsAdmitted
-pub mod PairsLeft
 pub mod LookedUp
 pub mod QueuedLeads
 pub mod PlacedOrders

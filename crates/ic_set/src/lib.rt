@@ -1,10 +1,8 @@
-// The standing set of a bench: its events with the agents, the links and the causes that they leave, under ids.
+//! The events of a bench with the agents, the links and the causes that they leave, under ids.
 #![tactic(auto)]
 
 pub mod admission;
-pub mod answers;
-mod bare;
-pub mod changes;
+pub mod bare;
 mod comparing;
 mod entering;
 mod joining;
@@ -12,11 +10,9 @@ pub mod kinds;
 pub mod nets;
 pub mod orders;
 pub mod pairs;
-mod queue;
 mod reading;
 pub mod removal;
-pub mod set;
 
+pub use bare::BareSet;
 pub use nets::without_ranks;
 pub use pairs::{ActivePair, Fired};
-pub use set::StandingSet;

@@ -7,8 +7,11 @@ use Rattle.ic_name.specs.declared.lines.Call.TheVariants.{Fire, Undo}
 use Rattle.ic_name.specs.declared.lines.Line.{Line}
 use Rattle.ic_name.specs.declared.lines.Reply.{Reply}
 use Rattle.ic_name.specs.declared.lines.Reply.TheVariants as reply
+use Rattle.ic_set.specs.declared.pairs.Fired.{Fired}
 use Rattle.ic_journal.specs.declared.faults.FireFault.{FireFault}
 use Rattle.ic_journal.specs.declared.faults.FireFault.TheVariants as fire
+use Rattle.ic_journal.specs.declared.faults.PairFault.{PairFault}
+use Rattle.ic_journal.specs.declared.faults.PairFault.TheVariants as pair
 use Rattle.ic_journal.specs.declared.faults.UndoFault.{UndoFault}
 use Rattle.ic_journal.specs.declared.faults.UndoFault.TheVariants as undo
 
@@ -20,6 +23,14 @@ fire_reply (Err fire.Deep) = Some reply.Deep
 fire_reply (Err fire.Full) = Some reply.Full
 fire_reply (Err (fire.HistoryFull e)) = None
 fire_reply (Err (fire.Memory e)) = None
+
+-- the same for an answer to the firing of an active pair
+abbrev pub pair_reply : Result Fired PairFault → Option Reply
+pair_reply (Ok fired) = Some reply.Fired
+pair_reply (Err pair.Deep) = Some reply.Deep
+pair_reply (Err pair.Full) = Some reply.Full
+pair_reply (Err pair.HistoryFull) = None
+pair_reply (Err pair.Memory) = None
 
 -- the same for an answer to an undo
 abbrev pub undo_reply : Result (Unit {0}) UndoFault → Option Reply
@@ -37,6 +48,10 @@ lines_of call (Some r) = record { call = call; reply = r } ∷ []
 -- the line that firing an event with this answer adds
 abbrev pub fire_lines : Event → Result EventId FireFault → List Line
 fire_lines e r = lines_of (Fire e) (fire_reply r)
+
+-- the line that firing an active pair of this event with this answer adds
+abbrev pub pair_lines : Event → Result Fired PairFault → List Line
+pair_lines e r = lines_of (Fire e) (pair_reply r)
 
 -- the line that an undo with this answer adds
 abbrev pub undo_lines : EventId → Result (Unit {0}) UndoFault → List Line

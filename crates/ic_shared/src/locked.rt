@@ -1,15 +1,16 @@
 // What lies under the lock.
-ghost use Rattle.std.specs.Prelude.{◌≡◌, ◌+◌, ◌++◌, ◌<◌, length, vec_len, vec_capacity, IfOk};
+ghost use Rattle.std.specs.Prelude.{◌≡◌, ◌+◌, ◌++◌, ◌<◌, ◌≤◌, length, vec_len, vec_capacity};
 ghost use Rattle.ic_name.specs.declared.lines.Call.TheVariants.{Fire, Undo};
-ghost use Rattle.ic_set.specs.Pairs.{Awakes};
+ghost use Rattle.ic_set.specs.Pairs.{IsActivePair};
 ghost use Rattle.ic_journal.specs.Views.{set_of};
 ghost use Rattle.ic_journal.specs.Benches.{IsBench};
-ghost use Rattle.ic_journal.specs.Calls.{id_answer, Fires, Undoes};
-ghost use Rattle.ic_shared.specs.CallLines.{fire_reply, undo_reply, lines_of, fire_lines, undo_lines};
+ghost use Rattle.ic_journal.specs.Calls.{Fires, Undoes};
+ghost use Rattle.ic_shared.specs.CallLines.{fire_reply, pair_reply, undo_reply, lines_of, fire_lines, undo_lines};
 ghost use Rattle.ic_shared.specs.Receipts.{receipts_of};
+ghost use Rattle.ic_shared.specs.Runs.{FiresOn};
 
 use crate::receipts::Receipt;
-use ic_journal::{Bench, FireFault, Fired, Proposal, Store, UndoFault};
+use ic_journal::{ActivePair, Bench, FireFault, Fired, PairFault, Proposal, Store, UndoFault};
 use ic_name::{Call, Event, EventId, Reply};
 use std::sync::ledger::{Book, Ledger, Share};
 
@@ -30,22 +31,54 @@ impl<B: Ledger> Locked<B> {
         receipts: &mut Vec<Receipt>,
         proposal: Proposal,
         event: Event,
-    ) -> Result<Fired, FireFault>
+    ) -> Result<EventId, FireFault>
         requires part { 0 < share.old.parts }
         requires room { vec_len receipts.old < vec_capacity receipts.old }
         requires copy { event ≡ proposal }
         ensures bench { IsBench self.old.bench }
-        ensures fires { Fires self.old.bench proposal (id_answer result) self.new.bench }
-        ensures awoken { IfOk result (λ fired. Awakes (set_of self.old.bench) (set_of self.new.bench) fired.awoken) }
-        ensures receipts { receipts.new.items ≡ receipts.old.items ++ receipts_of (length self.old.bench.lines) (fire_lines proposal (id_answer result)) }
+        ensures fires { Fires self.old.bench proposal result self.new.bench }
+        ensures receipts { receipts.new.items ≡ receipts.old.items ++ receipts_of (length self.old.bench.lines) (fire_lines proposal result) }
         ensures parts { share.new.parts ≡ share.old.parts }
-        ensures amount { share.new.amount ≡ share.old.amount + length (fire_lines proposal (id_answer result)) }
-        ensures room { vec_capacity receipts.new ≡ vec_capacity receipts.old }
+        ensures amount { share.new.amount ≡ share.old.amount + length (fire_lines proposal result) }
     {
         self.bench.lawful();
         let number = self.bench.lines();
-        let answer = self.bench.fire_proposal(proposal);
+        let answer = self.bench.fire(proposal);
         let reply = reply_of_firing(&answer);
+        note(
+            &mut self.book,
+            share,
+            receipts,
+            number,
+            Call::Fire(event),
+            reply,
+        );
+        answer
+    }
+
+    /// Fires an active pair on the bench, once its event is made for the receipt, and gives a receipt for the line.
+    pub fn fire_pair(
+        &mut self,
+        share: &mut Share<B>,
+        receipts: &mut Vec<Receipt>,
+        pair: ActivePair,
+    ) -> Result<Fired, PairFault>
+        requires part { 0 < share.old.parts }
+        requires room { vec_len receipts.old < vec_capacity receipts.old }
+        requires active { IsActivePair (set_of self.old.bench) pair }
+        ensures fires { FiresOn self.old.bench pair result receipts.old.items self.new.bench receipts.new.items }
+        ensures parts { share.new.parts ≡ share.old.parts }
+        ensures amount { share.new.amount + length receipts.old.items ≡ share.old.amount + length receipts.new.items }
+        ensures room { vec_capacity receipts.new ≡ vec_capacity receipts.old }
+        ensures one { vec_len receipts.new ≤ vec_len receipts.old + 1 }
+    {
+        self.bench.lawful();
+        let Ok(event) = self.bench.event_of_pair(pair) else {
+            return Err(PairFault::Memory);
+        };
+        let number = self.bench.lines();
+        let answer = self.bench.fire_pair(pair);
+        let reply = reply_of_pair(&answer);
         note(
             &mut self.book,
             share,
@@ -116,8 +149,8 @@ fn note<B: Ledger>(
 }
 
 /// The reply that stands in the history for an answer to a firing; `None` where the call adds no line.
-fn reply_of_firing(answer: &Result<Fired, FireFault>) -> Option<Reply>
-    ensures { result ≡ fire_reply (id_answer answer.now) }
+fn reply_of_firing(answer: &Result<EventId, FireFault>) -> Option<Reply>
+    ensures { result ≡ fire_reply answer.now }
 {
     match answer {
         Ok(_) => Some(Reply::Fired),
@@ -125,6 +158,18 @@ fn reply_of_firing(answer: &Result<Fired, FireFault>) -> Option<Reply>
         Err(FireFault::Deep) => Some(Reply::Deep),
         Err(FireFault::Full) => Some(Reply::Full),
         Err(FireFault::HistoryFull(_)) | Err(FireFault::Memory(_)) => None,
+    }
+}
+
+/// The reply that stands in the history for an answer to the firing of an active pair; `None` where the call adds no line.
+fn reply_of_pair(answer: &Result<Fired, PairFault>) -> Option<Reply>
+    ensures { result ≡ pair_reply answer.now }
+{
+    match answer {
+        Ok(_) => Some(Reply::Fired),
+        Err(PairFault::Deep) => Some(Reply::Deep),
+        Err(PairFault::Full) => Some(Reply::Full),
+        Err(PairFault::HistoryFull) | Err(PairFault::Memory) => None,
     }
 }
 

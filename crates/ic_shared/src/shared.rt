@@ -80,10 +80,7 @@ impl<B: Ledger> Shared<B> {
         let Some(event) = event_with_room(receipts, &proposal) else {
             return Err(FireFault::Memory(proposal));
         };
-        match self.locked.lock(rt).fire(share, receipts, proposal, event) {
-            Ok(fired) => Ok(fired.id),
-            Err(fault) => Err(fault),
-        }
+        self.locked.lock(rt).fire(share, receipts, proposal, event)
     }
 
     /// Undoes the firing of an event, whoever fired it, as `Bench::undo` does, and gives the pass a receipt for the line

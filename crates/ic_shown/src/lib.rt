@@ -1,4 +1,4 @@
-// Links by ids, and the links of the set of events that they show.
+//! Links by ids, and the links of the set of events that they show.
 #![tactic(auto)]
 
 ghost use Rattle.std.specs.Prelude.{◌≡◌, ◌↔◌, true, List, ◌∷◌, ◌++◌, map, Some};

@@ -1,4 +1,4 @@
-// Slots of records, found by number.
+//! Slots of records, found by number.
 #![tactic(auto)]
 
 pub mod index;

@@ -1,4 +1,4 @@
-// Slots of records, found by spot and by event.
+//! Slots of records, found by spot and by event.
 #![tactic(auto)]
 
 mod agent_rows;

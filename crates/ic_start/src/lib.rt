@@ -1,4 +1,4 @@
-// Starts, what a text denotes, and the rule table.
+//! Starts, what a text denotes, and the rule table.
 #![tactic(auto)]
 
 mod links;

@@ -1,4 +1,4 @@
-// A store of links by port records: each spot finds its record at once, and from there on all goes by slots.
+//! A store of links by port records: each spot finds its record at once, and from there on all goes by slots.
 #![tactic(auto)]
 
 mod changes;

@@ -1,9 +1,9 @@
-use crate::answers::{answer_of, answers};
-use crate::names::{name_of, names_of, standing_names};
-use crate::player::{Game, Player, wins};
 use ic_journal::{Bench, Store};
 use ic_name::EventName;
 use ic_reduce::{NoGate, fire_least};
+use ic_test_games::answers::{answer_of, answers};
+use ic_test_games::names::{name_of, names_of, standing_names};
+use ic_test_games::player::{Game, Player, wins};
 use ic_text::read_net;
 use ic_undo::{AbsorbFault, absorb};
 use std::alloc::Global;

@@ -1,12 +1,12 @@
-use crate::answers::{answer_of, answers};
-use crate::calls::{fired, some_agents, some_event};
-use crate::numbers::Numbers;
 use crate::orders::orders_agree;
-use crate::player::{Game, Player, wins};
-use crate::random_nets::some_net;
 use ic_journal::{Bench, Store};
 use ic_link::LinkRows;
 use ic_name::AgentId;
+use ic_test_games::answers::{answer_of, answers};
+use ic_test_games::calls::{fired, some_agents, some_event};
+use ic_test_games::numbers::Numbers;
+use ic_test_games::player::{Game, Player, wins};
+use ic_test_games::random_nets::some_net;
 use ic_text::read_net;
 use std::alloc::Global;
 use std::test::Fail;

@@ -1,9 +1,9 @@
-use crate::events::{
-    COPYING, CROSSING, FIRST_ERASING, Meeting, SECOND_ERASING, VANISHING, events_of,
-};
 use ic_name::Event;
 use ic_name::limits::MAX_LINES;
 use ic_past::is_causal_order;
+use ic_test_games::events::{
+    COPYING, CROSSING, FIRST_ERASING, Meeting, SECOND_ERASING, VANISHING, events_of,
+};
 use ic_text::read_net;
 use std::alloc::Global;
 use std::test::Fail;

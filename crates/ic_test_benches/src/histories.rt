@@ -1,6 +1,6 @@
-use crate::events::event_of;
-use crate::player::{Game, Player, Step, wins};
 use ic_name::{Call, EventId, Kind, Reply};
+use ic_test_games::events::event_of;
+use ic_test_games::player::{Game, Player, Step, wins};
 use std::alloc::Global;
 use std::test::Fail;
 

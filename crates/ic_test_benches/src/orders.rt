@@ -1,11 +1,11 @@
-use crate::answers::answer_of;
-use crate::player::{Game, Player, wins};
 use ic_journal::{Bench, Store};
 use ic_name::limits::MAX_LINES;
 use ic_name::{Event, EventId};
 use ic_net::replay;
 use ic_past::is_causal_order;
 use ic_print::print_net;
+use ic_test_games::answers::answer_of;
+use ic_test_games::player::{Game, Player, wins};
 use ic_undo::{Mark, back, mark};
 use std::alloc::Global;
 use std::test::Fail;

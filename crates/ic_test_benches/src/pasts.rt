@@ -1,10 +1,10 @@
 ghost use Rattle.std.specs.Prelude.{◌<◌, length};
 ghost use Rattle.ic_name.specs.declared.limits.TheConstants.{MAX_LINES};
 
-use crate::events::{COPYING, CROSSING, event_of};
 use ic_name::{AgentName, EventName, Kind};
 use ic_net::Start;
 use ic_past::Past;
+use ic_test_games::events::{COPYING, CROSSING, event_of};
 use ic_text::read_net;
 use std::alloc::Global;
 use std::test::Fail;

@@ -1,4 +1,4 @@
-use crate::player::{Game, Player, Step, wins};
+use ic_test_games::player::{Game, Player, Step, wins};
 use std::alloc::Global;
 use std::test::Fail;
 

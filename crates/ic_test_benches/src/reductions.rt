@@ -1,5 +1,5 @@
-use crate::player::{Game, Player, wins};
 use ic_reduce::{End, Gate, NoGate, fire_least};
+use ic_test_games::player::{Game, Player, wins};
 use std::alloc::Global;
 use std::sync::atomic::{AtomicU64, Ordering};
 use std::test::Fail;

@@ -1,11 +1,11 @@
-use crate::events::{
-    COPYING, CROSSING, FIRST_ERASING, Meeting, SECOND_ERASING, VANISHING, events_of,
-};
 use crate::orders::is_replayed;
-use crate::player::{Game, Player, Step, wins};
 use ic_name::Kind;
 use ic_net::{ReplayFault, StepFault, replay};
 use ic_print::print_net;
+use ic_test_games::events::{
+    COPYING, CROSSING, FIRST_ERASING, Meeting, SECOND_ERASING, VANISHING, events_of,
+};
+use ic_test_games::player::{Game, Player, Step, wins};
 use ic_text::read_net;
 use std::alloc::Global;
 use std::test::Fail;

@@ -1,7 +1,7 @@
-use crate::events::event_of;
 use ic_name::{Event, Kind};
 use ic_net::{Net, Start, StepFault};
 use ic_print::print_net;
+use ic_test_games::events::event_of;
 use ic_text::read_net;
 use std::alloc::Global;
 use std::test::Fail;

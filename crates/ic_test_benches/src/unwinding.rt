@@ -1,5 +1,5 @@
-use crate::player::{Game, Player, Step, wins};
 use ic_name::EventName;
+use ic_test_games::player::{Game, Player, Step, wins};
 use ic_undo::{undo_all, unwind};
 use std::alloc::{AllocError, Global};
 use std::test::Fail;

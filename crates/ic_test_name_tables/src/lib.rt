@@ -1,4 +1,4 @@
-// Tests of public calls: tables of names.
+//! Tests of public calls: tables of names.
 #![tactic(auto)]
 
 #[cfg(test)]

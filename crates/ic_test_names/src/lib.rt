@@ -1,4 +1,4 @@
-// Tests of public calls: names, rosters of agents and events, causes, queues, lines and commands.
+//! Tests of public calls: names, rosters of agents and events, causes, queues, lines and commands.
 #![tactic(auto)]
 
 #[cfg(test)]

@@ -1,4 +1,4 @@
-// Tests of public calls: links and their stores, starts, nets and their texts.
+//! Tests of public calls: links and their stores, starts, nets and their texts.
 #![tactic(auto)]
 
 #[cfg(test)]

@@ -1,4 +1,4 @@
-use ic_answer::{Refused, carry_out};
+use ic_answer::{NoGate, Refused, carry_out};
 use ic_command::{Command, request_of};
 use ic_desk::Desk;
 use ic_journal::{Bench, Store};
@@ -8,7 +8,7 @@ use std::test::Fail;
 
 /// Whether a bench answers so how many pairs are active.
 fn has_active(alloc: Global, bench: &mut Bench<Store>, text: &[u8]) -> Result<bool, Fail> {
-    let active = carry_out(alloc, bench, Command::Active)?;
+    let active = carry_out(alloc, bench, Command::Active, &NoGate)?;
     Ok(active.bytes() == text)
 }
 
@@ -39,7 +39,7 @@ fn desk(alloc: Global) -> Result<Desk<Store>, Fail> {
 /// Whether the desk answers the line so.
 fn answers(alloc: Global, desk: &mut Desk<Store>, line: &[u8], text: &[u8]) -> Result<bool, Fail> {
     let request = request_of(alloc, line)?;
-    let answer = desk.carry_out(alloc, request)?;
+    let answer = desk.carry_out(alloc, request, &NoGate)?;
     Ok(answer.bytes() == text)
 }
 

@@ -1,4 +1,4 @@
-// A desk whose reductions are sweeps.
+// A desk whose reductions a gate sees.
 ghost use Rattle.std.specs.Prelude.{◌<◌, ◌≤◌};
 
 use ic_command::{Command, Request};
@@ -11,27 +11,40 @@ use std::sync::atomic::{AtomicU64, Ordering};
 use std::test::Fail;
 use std::thread::Threads;
 
-/// Counts the commits that were made.
+/// Counts the tickets that are drawn, those that are used, and those that are drawn before the one before is used.
 #[derive(Drop)]
 struct Counter {
-    commits: AtomicU64,
+    drawn: AtomicU64,
+    used: AtomicU64,
+    ahead: AtomicU64,
 }
 
 impl Gate for Counter {
-    fn before_commit(&self, _worker: usize, _ticket: u64) {}
+    fn before_commit(&self, _worker: usize, _ticket: u64) {
+        let drawn = self.drawn.fetch_add(1, Ordering::SeqCst);
+        if self.used.load(Ordering::SeqCst) < drawn {
+            self.ahead.fetch_add(1, Ordering::SeqCst);
+        }
+    }
 
     fn after_commit(&self, _worker: usize, _ticket: u64) {
-        self.commits.fetch_add(1, Ordering::SeqCst);
+        self.used.fetch_add(1, Ordering::SeqCst);
     }
 }
 
-/// How many commits the gate of a desk saw, by so many workers, in a reduction to the normal end, which takes four events;
-/// `None` where it is answered otherwise.
-fn commits<T: Threads + Wait + Sync>(threads: &T, alloc: Global, workers: u32) -> Option<u64>
+/// How many commits the gate of a desk saw, by so many workers, in a reduction to the normal end, which takes four events,
+/// and whether tickets were drawn ahead; `None` where it is answered otherwise.
+fn commits<T: Threads + Wait + Sync>(
+    threads: &T,
+    alloc: Global,
+    workers: u32,
+) -> Option<(u64, bool)>
     requires { (0 < workers) × (workers ≤ 64) }
 {
     let gate = Counter {
-        commits: AtomicU64::new(0),
+        drawn: AtomicU64::new(0),
+        used: AtomicU64::new(0),
+        ahead: AtomicU64::new(0),
     };
     let start = read_net(alloc, b"G(E,a) = D(b,E);\n").ok()?;
     let desk: Desk<Store> = Desk::over(alloc, start).ok()?;
@@ -40,15 +53,17 @@ fn commits<T: Threads + Wait + Sync>(threads: &T, alloc: Global, workers: u32) -
         .carry_out_with(threads, alloc, workers, reduce, &gate)
         .ok()?;
     if answer.bytes() == b"reduced 4 normal\n".as_slice() {
-        Some(gate.commits.load(Ordering::SeqCst))
+        let ahead = gate.ahead.load(Ordering::SeqCst) > 0;
+        Some((gate.used.load(Ordering::SeqCst), ahead))
     } else {
         None
     }
 }
 
+/// One worker draws each ticket as it fires, and those of a sweep draw some ahead.
 #[test]
 fn many_workers_sweep_and_one_does_not(rt: HostRuntime) -> Result<(), Fail> {
-    assert_eq!(rt; commits(&rt, rt.alloc(), 1), Some(0));
-    assert_eq!(rt; commits(&rt, rt.alloc(), 2), Some(4));
+    assert_eq!(rt; commits(&rt, rt.alloc(), 1), Some((4, false)));
+    assert_eq!(rt; commits(&rt, rt.alloc(), 2), Some((4, true)));
     Ok(())
 }

@@ -2,7 +2,7 @@
 // Where none is refused, each line is answered at once as it should be.
 use ic_answer::Answer;
 use ic_command::{Command, Request, listed_of, request_of};
-use ic_desk::Desk;
+use ic_desk::{Desk, NoGate};
 use ic_journal::{LinkStore, Store};
 use ic_link::LinkRows;
 use ic_text::read_net;
@@ -53,14 +53,16 @@ fn request_at_last(alloc: Global, line: &[u8]) -> Option<Request> {
 /// The answer to a line; `None` where there is no memory to tell what was done.
 fn answer<L: LinkStore>(alloc: Global, desk: &mut Desk<L>, line: &[u8]) -> Option<Answer> {
     let asked = request_at_last(alloc, line)?;
-    desk.carry_out(alloc, asked).ok()
+    desk.carry_out(alloc, asked, &NoGate).ok()
 }
 
 /// What a desk shows: its net, and what stands.
 fn shown<L: LinkStore>(alloc: Global, desk: &mut Desk<L>) -> Option<(Answer, Answer)> {
-    let net = desk.carry_out(alloc, Request::Bench(Command::Net)).ok()?;
+    let net = desk
+        .carry_out(alloc, Request::Bench(Command::Net), &NoGate)
+        .ok()?;
     let journal = desk
-        .carry_out(alloc, Request::Bench(Command::Journal))
+        .carry_out(alloc, Request::Bench(Command::Journal), &NoGate)
         .ok()?;
     Some((net, journal))
 }

@@ -1,6 +1,6 @@
 // Undos with room in the history, over either store, where one allocation is refused, whichever it is:
 // bench/refused_growth.py refuses each in turn. Once there is room, they take no memory.
-use ic_answer::carry_out;
+use ic_answer::{NoGate, carry_out};
 use ic_command::Command;
 use ic_journal::{Bench, LinkStore, Store};
 use ic_link::LinkRows;
@@ -25,7 +25,7 @@ fn bench_at_last<L: LinkStore>(alloc: Global) -> Option<Bench<L>> {
 /// Reduces the net to its end, at the first try or the second, and makes room for a line for each event.
 fn reduces_with_room<L: LinkStore>(alloc: Global, bench: &mut Bench<L>) -> bool {
     for _ in 0..2u32 {
-        let _ = carry_out(alloc, bench, Command::Reduce(9));
+        let _ = carry_out(alloc, bench, Command::Reduce(9), &NoGate);
     }
     bench.reserve(4).is_ok() || bench.reserve(4).is_ok()
 }

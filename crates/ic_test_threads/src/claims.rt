@@ -3,7 +3,8 @@ ghost use Rattle.ic_claim.specs.Counts.{one_if, times};
 ghost use Rattle.ic_claim.specs.Views.{new_view, given_one, next_seat};
 
 use ic_claim::{
-    CLAIM_WORDS, Claims, MAX_BUDGET, MAX_SEATS, Seat, Ticket, one_holder, ticket_word, tickets,
+    CLAIM_WORDS, Claims, MAX_BUDGET, MAX_SEATS, Seat, Ticket, each_ticket_is_drawn_once,
+    one_holder, ticket_word_never_wraps,
 };
 use std::alloc::{AllocError, Global};
 use std::test::Fail;
@@ -200,8 +201,8 @@ fn a_stop_lasts(rt: HostRuntime) -> Result<(), Fail> {
 #[test]
 fn the_most_seats_and_tickets(rt: HostRuntime) -> Result<(), Fail> {
     one_holder();
-    tickets();
-    ticket_word();
+    each_ticket_is_drawn_once();
+    ticket_word_never_wraps();
     let (claims, mut first) = Claims::make(rt.alloc(), MAX_BUDGET)?;
     for number in 1..MAX_SEATS {
         assert_eq!(rt; claims.split(&mut first).number(), number);

@@ -1,4 +1,4 @@
-// Tests of public calls: claims, benches that threads share, and sweeps.
+//! Tests of public calls: claims, benches that threads share, and sweeps.
 #![tactic(auto)]
 
 #[cfg(test)]

@@ -1,4 +1,4 @@
-// Texts of nets: what a text denotes, and what is wrong with it.
+//! Texts of nets: what a text denotes, and what is wrong with it.
 #![tactic(auto)]
 
 mod builder;

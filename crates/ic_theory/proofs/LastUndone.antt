@@ -8,7 +8,7 @@ use Rattle.ic_path.specs.Orders.{Pick, here, there, Alike}
 use Rattle.ic_theory.specs.Starts.{Start, IsProper}
 use Rattle.ic_theory.specs.Causes.{IsCause, IsDependent}
 use Rattle.ic_theory.specs.Firings.{IsFired}
-use Rattle.ic_theory.specs.Machine.{Standing, State, events, Answers, undone, IsHistory}
+use Rattle.ic_theory.specs.Machine.{Standing, State, events, MachineStep, undone, IsHistory}
 use Rattle.ic_theory.proofs.Future.{in_alike, alike_back}
 use Rattle.ic_theory.proofs.Machines.{history_kept}
 use Rattle.ic_theory.proofs.Normal.{last_free}
@@ -27,13 +27,13 @@ found e (x ∷ xs) here = record { standing = x; others = xs; picked = here; is 
 found e (x ∷ xs) (there k) = let f = found e xs k in record { standing = f.standing; others = x ∷ f.others; picked = there f.picked; is = f.is }
 
 -- the latest event of a firing of what stands can be undone
-pub something_undone : (s : Start) → IsProper s → {lines : List Line} {st : State} → IsHistory s lines st → (st.standing ≡ [] → ⊥) → (x : Standing) × (rest : List Standing) × Pick x st.standing rest × Answers s st (Undo x.line) Undone (record { standing = rest; lines = st.lines + 1 })
+pub something_undone : (s : Start) → IsProper s → {lines : List Line} {st : State} → IsHistory s lines st → (st.standing ≡ [] → ⊥) → (x : Standing) × (rest : List Standing) × Pick x st.standing rest × MachineStep s st (Undo x.line) Undone (record { standing = rest; lines = st.lines + 1 })
 something_undone s ok {st = st} h n = by_order o.0 o.1 o.2
   where
     o : (order : List Event) × Alike (events st) order × IsFired s order
     o = sound_order s ok (events st) (history_kept s ok h).sound
 
-    by_order : (order : List Event) → Alike (events st) order → IsFired s order → (x : Standing) × (rest : List Standing) × Pick x st.standing rest × Answers s st (Undo x.line) Undone (record { standing = rest; lines = st.lines + 1 })
+    by_order : (order : List Event) → Alike (events st) order → IsFired s order → (x : Standing) × (rest : List Standing) × Pick x st.standing rest × MachineStep s st (Undo x.line) Undone (record { standing = rest; lines = st.lines + 1 })
     by_order [] a f = absurd (n (none_stands st.standing a))
       where
         none_stands : (xs : List Standing) → Alike (map (λ x. x.event) xs) [] → xs ≡ []

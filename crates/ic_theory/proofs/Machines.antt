@@ -13,7 +13,7 @@ use Rattle.ic_theory.specs.Active.{IsActive}
 use Rattle.ic_theory.specs.Firings.{IsFired, fired}
 use Rattle.ic_theory.specs.Causes.{IsDependent}
 use Rattle.ic_theory.specs.Sound.{IsSound}
-use Rattle.ic_theory.specs.Machine.{Standing, State, events, noted, Answers, not_active, deep, full, fired as fired_now, not_standing, held, undone, IsHistory, begins, goes_on}
+use Rattle.ic_theory.specs.Machine.{Standing, State, events, noted, MachineStep, not_active, deep, full, fired as fired_now, not_standing, held, undone, IsHistory, begins, goes_on}
 use Rattle.ic_theory.proofs.Future.{alike_back, in_rest}
 use Rattle.ic_theory.proofs.Sound.{fired_sound}
 use Rattle.ic_theory.proofs.Ranks.{sound-alike, sound_order, first_or_in}
@@ -118,7 +118,7 @@ module _ (s : Start) (ok : IsProper s) where
   }
 
   -- so each answer keeps that
-  kept_next : {st next : State} {call : Call} {reply : Reply} → IsKept s st → Answers s st call reply next → IsKept s next
+  kept_next : {st next : State} {call : Call} {reply : Reply} → IsKept s st → MachineStep s st call reply next → IsKept s next
   kept_next k (not_active n) = kept_noted k
   kept_next k (deep a d) = kept_noted k
   kept_next k (full a d n) = kept_noted k
@@ -133,7 +133,7 @@ module _ (s : Start) (ok : IsProper s) where
   history_kept (goes_on h a) = kept_next (history_kept h) a
 
 -- each answer is one line more
-line_more : {s : Start} {st next : State} {call : Call} {reply : Reply} → Answers s st call reply next → next.lines ≡ st.lines + 1
+line_more : {s : Start} {st next : State} {call : Call} {reply : Reply} → MachineStep s st call reply next → next.lines ≡ st.lines + 1
 line_more (not_active n) = refl
 line_more (deep a d) = refl
 line_more (full a d n) = refl

@@ -22,7 +22,7 @@ use Rattle.ic_theory.specs.Sets.{consumed_times}
 use Rattle.ic_theory.specs.Active.{IsActive}
 use Rattle.ic_theory.specs.Causes.{IsDependent, canonical_cmp}
 use Rattle.ic_theory.specs.Sound.{IsSound}
-use Rattle.ic_theory.specs.Machine.{Standing, State, events, noted, IsDeep, IsFull, IsLeastDependent, Answers, not_active, deep, full, fired, not_standing, held, undone}
+use Rattle.ic_theory.specs.Machine.{Standing, State, events, noted, IsDeep, IsFull, IsLeastDependent, MachineStep, not_active, deep, full, fired, not_standing, held, undone}
 use Rattle.ic_theory.proofs.Future.{is_named}
 use Rattle.ic_theory.proofs.Machines.{times, one_that, two_picks, line_is, IsKept}
 
@@ -85,7 +85,7 @@ fire_at : {s : Start} {st next : State} {r : Reply} {f e : Event} → f ≡ e �
 fire_at {s} {st} {next} {r} i h = subst (λ x. FireReply s st x r next) i h
 
 -- each answer to a firing says one of these
-fire_reply : {s : Start} {st next : State} {call : Call} {r : Reply} (e : Event) → call ≡ Fire e → Answers s st call r next → FireReply s st e r next
+fire_reply : {s : Start} {st next : State} {call : Call} {r : Reply} (e : Event) → call ≡ Fire e → MachineStep s st call r next → FireReply s st e r next
 fire_reply e h (not_active {e = f} n) = let i : f ≡ e = cc in fire_at i (no_pair n refl refl)
 fire_reply e h (deep {e = f} a d) = let i : f ≡ e = cc in fire_at i (too_deep a d refl refl)
 fire_reply e h (full {e = f} a d n) = let i : f ≡ e = cc in fire_at i (too_full a d n refl refl)
@@ -101,7 +101,7 @@ data UndoReply (s : Start) (st : State) (l : ℕ) (r : Reply) (next : State) : T
   is_undone : {x : Standing} {rest : List Standing} → Pick x st.standing rest → x.line ≡ l → ((f : Event) → IsDependent s (events st) x.event f → ⊥) → r ≡ Undone → next ≡ record { standing = rest; lines = st.lines + 1 } → UndoReply s st l r next
 
 -- each answer to an undo says one of these
-undo_reply : {s : Start} {st next : State} {call : Call} {r : Reply} (l : ℕ) → call ≡ Undo l → Answers s st call r next → UndoReply s st l r next
+undo_reply : {s : Start} {st next : State} {call : Call} {r : Reply} (l : ℕ) → call ≡ Undo l → MachineStep s st call r next → UndoReply s st l r next
 undo_reply l h (not_active n) = cc
 undo_reply l h (deep a d) = cc
 undo_reply l h (full a d n) = cc
@@ -169,6 +169,6 @@ undoes_once {s} {st} l kept (is_undone {x = x} {rest = rest} p e n h i) (is_undo
     }
 
 -- what a call answers is determined, and what stands after it up to order
-pub one_answer : {s : Start} {st a a' : State} {r r' : Reply} (call : Call) → IsKept s st → Answers s st call r a → Answers s st call r' a' → AreSameAnswers r r' a a'
+pub one_answer : {s : Start} {st a a' : State} {r r' : Reply} (call : Call) → IsKept s st → MachineStep s st call r a → MachineStep s st call r' a' → AreSameAnswers r r' a a'
 one_answer (Fire e) kept x y = fires_once e (fire_reply e refl x) (fire_reply e refl y)
 one_answer (Undo l) kept x y = undoes_once l kept (undo_reply l refl x) (undo_reply l refl y)

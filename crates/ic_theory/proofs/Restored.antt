@@ -13,7 +13,7 @@ use Rattle.ic_theory.specs.Active.{IsActive}
 use Rattle.ic_theory.specs.Causes.{IsDependent, IsRank}
 use Rattle.ic_theory.specs.Sound.{IsSound}
 use Rattle.ic_theory.specs.Nets.{IsSameNet, net_of}
-use Rattle.ic_theory.specs.Machine.{State, events, Answers, not_active, deep, full, fired as fired_now, not_standing, held, undone, IsHistory, goes_on}
+use Rattle.ic_theory.specs.Machine.{State, events, MachineStep, not_active, deep, full, fired as fired_now, not_standing, held, undone, IsHistory, goes_on}
 use Rattle.ic_theory.proofs.AnyOrder.{net-alike}
 use Rattle.ic_theory.proofs.Closed.{cause_stays}
 use Rattle.ic_theory.proofs.Future.{in_alike, alike_back, loose_agent, consumed_in, includes_self, includes_more}
@@ -22,7 +22,7 @@ use Rattle.ic_theory.proofs.Ranks.{same_set, cause_in, cause_included, first_or_
 use Rattle.ic_theory.proofs.Replies.{one_answer}
 
 -- a call that is answered by neither firing nor undoing changes nothing that stands
-pub refused_same : {s : Start} {st next : State} {call : Call} {reply : Reply} → Answers s st call reply next → reply ≢ Fired → reply ≢ Undone → next.standing ≡ st.standing
+pub refused_same : {s : Start} {st next : State} {call : Call} {reply : Reply} → MachineStep s st call reply next → reply ≢ Fired → reply ≢ Undone → next.standing ≡ st.standing
 refused_same (not_active n) f u = refl
 refused_same (deep a d) f u = refl
 refused_same (full a d n) f u = refl
@@ -55,17 +55,17 @@ no_dependent s ok es e f h a d = elim (first_or_in (d.0).1) [ inl i ↦ itself i
     earlier j = is_new s es e a (cause_in s (cause_stays s ok all.apart (includes_more e (includes_self es)) h j d.1))
 
 -- so it can be undone at once, and what stood before stands again
-pub undone_at_once : (s : Start) → IsProper s → {lines : List Line} {st mid : State} {e : Event} → IsHistory s lines st → Answers s st (Fire e) Fired mid
-    → Answers s mid (Undo st.lines) Undone (record { standing = st.standing; lines = mid.lines + 1 })
+pub undone_at_once : (s : Start) → IsProper s → {lines : List Line} {st mid : State} {e : Event} → IsHistory s lines st → MachineStep s st (Fire e) Fired mid
+    → MachineStep s mid (Undo st.lines) Undone (record { standing = st.standing; lines = mid.lines + 1 })
 undone_at_once s ok {st = st} {e = e} h (fired_now a d n) = undone {x = record { event = e; line = st.lines }} here refl (λ f. no_dependent s ok (events st) e f (history_kept s ok h).sound a)
 
 -- whatever the undo leaves
-pub restored_standing : (s : Start) → IsProper s → {lines : List Line} {st mid next : State} {e : Event} → IsHistory s lines st → Answers s st (Fire e) Fired mid → Answers s mid (Undo st.lines) Undone next
+pub restored_standing : (s : Start) → IsProper s → {lines : List Line} {st mid next : State} {e : Event} → IsHistory s lines st → MachineStep s st (Fire e) Fired mid → MachineStep s mid (Undo st.lines) Undone next
     → Alike st.standing next.standing
 restored_standing s ok {st = st} h a u = (one_answer (Undo st.lines) (history_kept s ok (goes_on h a)) (undone_at_once s ok h a) u).standing
 
 -- and so does its net
-pub restored_net : (s : Start) → IsProper s → {lines : List Line} {st mid next : State} {e : Event} → IsHistory s lines st → Answers s st (Fire e) Fired mid → Answers s mid (Undo st.lines) Undone next
+pub restored_net : (s : Start) → IsProper s → {lines : List Line} {st mid next : State} {e : Event} → IsHistory s lines st → MachineStep s st (Fire e) Fired mid → MachineStep s mid (Undo st.lines) Undone next
     → IsSameNet (net_of s (events st)) (net_of s (events next))
 restored_net s ok h a u = net-alike s ok (history_kept s ok h).sound (alike-map (λ x. x.event) (restored_standing s ok h a u))
 
@@ -76,6 +76,6 @@ rank-alike s rank a h = record {
   least = λ e i. elim (h.least e (in_alike i (alike_back a))) [ inl z ↦ inl z | inr c ↦ inr (c.0, cause_included s (same_set a) c.1, c.2) ];
 }
 
-pub restored_ranks : (s : Start) → IsProper s → {lines : List Line} {st mid next : State} {e : Event} (rank : Event → ℕ) → IsHistory s lines st → Answers s st (Fire e) Fired mid → Answers s mid (Undo st.lines) Undone next
+pub restored_ranks : (s : Start) → IsProper s → {lines : List Line} {st mid next : State} {e : Event} (rank : Event → ℕ) → IsHistory s lines st → MachineStep s st (Fire e) Fired mid → MachineStep s mid (Undo st.lines) Undone next
     → IsRank s (events st) rank → IsRank s (events next) rank
 restored_ranks s ok rank h a u r = rank-alike s rank (alike-map (λ x. x.event) (restored_standing s ok h a u)) r

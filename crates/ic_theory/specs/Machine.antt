@@ -53,21 +53,21 @@ pub record IsLeastDependent (s : Start) (es : List Event) (e f : Event) : Type 0
   pub least : (rank : Event → ℕ) → IsRank s es rank → (g : Event) → IsDependent s es e g → is_gt (canonical_cmp rank f g) ≡ false
 
 -- what a call answers, and the state that it leaves; the first case that fits
-pub data Answers (s : Start) (st : State) : Call → Reply → State → Type 0 where
-  not_active : {e : Event} → ¬ (IsActive s (events st) e) → Answers s st (Fire e) NotActive (noted st)
-  deep : {e : Event} → IsActive s (events st) e → IsDeep e → Answers s st (Fire e) Deep (noted st)
-  full : {e : Event} → IsActive s (events st) e → ¬ (IsDeep e) → IsFull s (events st) e → Answers s st (Fire e) Full (noted st)
+pub data MachineStep (s : Start) (st : State) : Call → Reply → State → Type 0 where
+  not_active : {e : Event} → ¬ (IsActive s (events st) e) → MachineStep s st (Fire e) NotActive (noted st)
+  deep : {e : Event} → IsActive s (events st) e → IsDeep e → MachineStep s st (Fire e) Deep (noted st)
+  full : {e : Event} → IsActive s (events st) e → ¬ (IsDeep e) → IsFull s (events st) e → MachineStep s st (Fire e) Full (noted st)
   fired : {e : Event} → IsActive s (events st) e → ¬ (IsDeep e) → ¬ (IsFull s (events st) e)
-      → Answers s st (Fire e) Fired (record { standing = record { event = e; line = st.lines } ∷ st.standing; lines = st.lines + 1 })
-  not_standing : {l : ℕ} → ((x : Standing) → IsIn x st.standing → x.line ≢ l) → Answers s st (Undo l) NotStanding (noted st)
+      → MachineStep s st (Fire e) Fired (record { standing = record { event = e; line = st.lines } ∷ st.standing; lines = st.lines + 1 })
+  not_standing : {l : ℕ} → ((x : Standing) → IsIn x st.standing → x.line ≢ l) → MachineStep s st (Undo l) NotStanding (noted st)
   held : {l : ℕ} {x y : Standing} → IsIn x st.standing → x.line ≡ l → IsIn y st.standing → IsLeastDependent s (events st) x.event y.event
-      → Answers s st (Undo l) (Held y.line) (noted st)
+      → MachineStep s st (Undo l) (Held y.line) (noted st)
   undone : {l : ℕ} {x : Standing} {rest : List Standing} → Pick x st.standing rest → x.line ≡ l
       → ((f : Event) → ¬ (IsDependent s (events st) x.event f))
-      → Answers s st (Undo l) Undone (record { standing = rest; lines = st.lines + 1 })
+      → MachineStep s st (Undo l) Undone (record { standing = rest; lines = st.lines + 1 })
 
 -- a legal history, and the state after it
 pub data IsHistory (s : Start) : List Line → State → Type 0 where
   begins : IsHistory s [] initial
-  goes_on : {lines : List Line} {st next : State} {call : Call} {reply : Reply} → IsHistory s lines st → Answers s st call reply next
+  goes_on : {lines : List Line} {st next : State} {call : Call} {reply : Reply} → IsHistory s lines st → MachineStep s st call reply next
       → IsHistory s (lines ++ record { call = call; reply = reply } ∷ []) next

@@ -1,4 +1,4 @@
-// Interactions as events over a start: the nets that sets of events leave, the steps, and the machine, with laws.
+//! Interactions as events over a start: the nets that sets of events leave, the steps, and the machine, with laws.
 #![tactic(auto)]
 
 ghost use Rattle.std.specs.Prelude.{◌≡◌, ◌≢◌, ◌+◌, ◌<◌, ℕ, ◌⊎◌, ◌↔◌, List, [], ◌∷◌, ◌++◌, length, Some};
@@ -28,7 +28,7 @@ ghost use Rattle.ic_theory.specs.Firings.{IsFired, AreAfterCauses, then_fired};
 ghost use Rattle.ic_theory.specs.Future.{Union, Includes};
 ghost use Rattle.ic_theory.specs.Exchanges.{Exchanges, IsCanonical};
 ghost use Rattle.ic_theory.specs.Letters.{Letter, Runs, AreEquivalent};
-ghost use Rattle.ic_theory.specs.Machine.{Standing, State, events, Answers, IsHistory};
+ghost use Rattle.ic_theory.specs.Machine.{Standing, State, events, MachineStep, IsHistory};
 
 /// Each loose port has a partner: the other end of its wire, another port, whose partner it is.
 pub fn wires()
@@ -118,24 +118,24 @@ pub fn machine()
     ensures count { (s : Start) (lines : List Line) (st : State) → IsHistory s lines st → st.lines ≡ length lines }
     ensures below { (s : Start) (lines : List Line) (st : State) (x : Standing) → IsProper s → IsHistory s lines st → IsIn x st.standing → x.line < st.lines }
     ensures own { (s : Start) (lines : List Line) (st : State) (x y : Standing) → IsProper s → IsHistory s lines st → IsIn x st.standing → IsIn y st.standing → x.line ≡ y.line → x ≡ y }
-    ensures reply { (s : Start) (lines : List Line) (st a a' : State) (call : Call) (r r' : Reply) → IsProper s → IsHistory s lines st → Answers s st call r a → Answers s st call r' a' → r ≡ r' }
-    ensures standing { (s : Start) (lines : List Line) (st a a' : State) (call : Call) (r r' : Reply) → IsProper s → IsHistory s lines st → Answers s st call r a → Answers s st call r' a' → Alike a.standing a'.standing }
+    ensures reply { (s : Start) (lines : List Line) (st a a' : State) (call : Call) (r r' : Reply) → IsProper s → IsHistory s lines st → MachineStep s st call r a → MachineStep s st call r' a' → r ≡ r' }
+    ensures standing { (s : Start) (lines : List Line) (st a a' : State) (call : Call) (r r' : Reply) → IsProper s → IsHistory s lines st → MachineStep s st call r a → MachineStep s st call r' a' → Alike a.standing a'.standing }
 {}
 
 /// A refused call changes nothing that stands, and so not the net.
 pub fn refusals()
-    ensures { (s : Start) (st next : State) (call : Call) (reply : Reply) → Answers s st call reply next → reply ≢ Fired → reply ≢ Undone → next.standing ≡ st.standing }
+    ensures { (s : Start) (st next : State) (call : Call) (reply : Reply) → MachineStep s st call reply next → reply ≢ Fired → reply ≢ Undone → next.standing ≡ st.standing }
 {}
 
 /// A firing can be undone at once, and this restores what was before: what stands, the net, and each event's rank.
 pub fn undone_at_once()
-    ensures accepted { (s : Start) (lines : List Line) (st mid : State) (e : Event) → IsProper s → IsHistory s lines st → Answers s st (Fire e) Fired mid → Answers s mid (Undo st.lines) Undone (record { standing = st.standing; lines = mid.lines + 1 }) }
-    ensures standing { (s : Start) (lines : List Line) (st mid next : State) (e : Event) → IsProper s → IsHistory s lines st → Answers s st (Fire e) Fired mid → Answers s mid (Undo st.lines) Undone next → Alike st.standing next.standing }
-    ensures net { (s : Start) (lines : List Line) (st mid next : State) (e : Event) → IsProper s → IsHistory s lines st → Answers s st (Fire e) Fired mid → Answers s mid (Undo st.lines) Undone next → IsSameNet (net_of s (events st)) (net_of s (events next)) }
-    ensures ranks { (s : Start) (lines : List Line) (st mid next : State) (e : Event) (rank : Event → ℕ) → IsProper s → IsHistory s lines st → Answers s st (Fire e) Fired mid → Answers s mid (Undo st.lines) Undone next → IsRank s (events st) rank → IsRank s (events next) rank }
+    ensures accepted { (s : Start) (lines : List Line) (st mid : State) (e : Event) → IsProper s → IsHistory s lines st → MachineStep s st (Fire e) Fired mid → MachineStep s mid (Undo st.lines) Undone (record { standing = st.standing; lines = mid.lines + 1 }) }
+    ensures standing { (s : Start) (lines : List Line) (st mid next : State) (e : Event) → IsProper s → IsHistory s lines st → MachineStep s st (Fire e) Fired mid → MachineStep s mid (Undo st.lines) Undone next → Alike st.standing next.standing }
+    ensures net { (s : Start) (lines : List Line) (st mid next : State) (e : Event) → IsProper s → IsHistory s lines st → MachineStep s st (Fire e) Fired mid → MachineStep s mid (Undo st.lines) Undone next → IsSameNet (net_of s (events st)) (net_of s (events next)) }
+    ensures ranks { (s : Start) (lines : List Line) (st mid next : State) (e : Event) (rank : Event → ℕ) → IsProper s → IsHistory s lines st → MachineStep s st (Fire e) Fired mid → MachineStep s mid (Undo st.lines) Undone next → IsRank s (events st) rank → IsRank s (events next) rank }
 {}
 
 /// While anything stands, some event of it can be undone; so undoing goes on down to the start.
 pub fn something_undone()
-    ensures { (s : Start) (lines : List Line) (st : State) → IsProper s → IsHistory s lines st → (st.standing ≡ [] → ⊥) → (x : Standing) × (rest : List Standing) × Pick x st.standing rest × Answers s st (Undo x.line) Undone (record { standing = rest; lines = st.lines + 1 }) }
+    ensures { (s : Start) (lines : List Line) (st : State) → IsProper s → IsHistory s lines st → (st.standing ≡ [] → ⊥) → (x : Standing) × (rest : List Standing) × Pick x st.standing rest × MachineStep s st (Undo x.line) Undone (record { standing = rest; lines = st.lines + 1 }) }
 {}

@@ -17,7 +17,7 @@ use Rattle.ic_roster.specs.Rosters.{Stander}
 use Rattle.ic_theory.specs.Starts.{Start}
 use Rattle.ic_theory.specs.Active.{IsActive}
 use Rattle.ic_theory.specs.Causes.{IsDependent}
-use Rattle.ic_theory.specs.Machine.{Standing, State, events, noted, Answers, not_active, deep, full, fired, not_standing, held, undone, IsHistory, begins, goes_on}
+use Rattle.ic_theory.specs.Machine.{Standing, State, events, noted, MachineStep, not_active, deep, full, fired, not_standing, held, undone, IsHistory, begins, goes_on}
 use Rattle.ic_theory.specs.Letters as theory
 use Rattle.ic_theory.specs.Letters.{Runs, stops, fires, undoes}
 use Rattle.ic_theory.proofs.Machines.{history_length}
@@ -103,7 +103,7 @@ module _ (s : Start) (all lines : List Line) where
       }
 
   -- a line more
-  line_more : {st next : State} {c : Call} {r : Reply} → slice_get all st.lines ≡ Some (record { call = c; reply = r }) → Answers s st c r next → LeavesStanding s all lines st
+  line_more : {st next : State} {c : Call} {r : Reply} → slice_get all st.lines ≡ Some (record { call = c; reply = r }) → MachineStep s st c r next → LeavesStanding s all lines st
       → LeavesStanding s all (lines ++ record { call = c; reply = r } ∷ []) next
   line_more at (not_active n) h = refused_more _ refl h
   line_more at (deep a d) h = refused_more _ refl h

@@ -1,5 +1,5 @@
 ghost use Rattle.std.specs.Prelude.{◌≡◌, List, [], ◌∷◌, Some, None, slice_get, IfOk, IfSome, IfNone};
-ghost use Rattle.ic_name.specs.Events.{Event as AnEvent, pair};
+ghost use Rattle.ic_name.specs.Events.{Event as AnEvent};
 ghost use Rattle.ic_path.specs.Orders.{Alike};
 ghost use Rattle.ic_set.specs.Views.{standing as standing_in};
 ghost use Rattle.ic_journal.specs.Views.{set_of};
@@ -8,7 +8,7 @@ ghost use Rattle.ic_trace.specs.Letters.{Leaves};
 
 use crate::lists::Letter;
 use ic_journal::{Bench, LinkStore};
-use ic_name::{Call, Event, EventName, Line, Reply};
+use ic_name::{Call, Event, Line, Reply};
 use std::alloc::{AllocError, Global};
 
 /// The letters of the accepted calls of a bench, in order: they are legal over its start, and leave what stands.
@@ -40,9 +40,9 @@ fn accepted_in(lines: &[Line], line: &Line) -> Result<Option<Letter>, AllocError
     ensures none { IfOk result (λ found. IfNone found (letter_of lines.now line.now ≡ [])) }
 {
     match (&line.call, line.reply) {
-        (Call::Fire(event), Reply::Fired) => Ok(Some(Letter::Fire(name_of(event)?))),
+        (Call::Fire(event), Reply::Fired) => Ok(Some(Letter::Fire(event.name()?))),
         (Call::Undo(number), Reply::Undone) => match fired_in(lines, *number) {
-            Some(event) => Ok(Some(Letter::Undo(name_of(event)?))),
+            Some(event) => Ok(Some(Letter::Undo(event.name()?))),
             None => Ok(None),
         },
         _ => Ok(None),
@@ -61,17 +61,4 @@ fn fired_in(lines: &[Line], number: u32) -> Option<&Event>
         },
         None => None,
     }
-}
-
-/// The name of an event.
-fn name_of(event: &Event) -> Result<EventName, AllocError>
-    ensures { IfOk result (λ name. name ≡ pair event.now) }
-{
-    event.lawful();
-    let lead = event.lead().copy()?;
-    let other = event.other().copy()?;
-    let Some(name) = EventName::of(lead, other) else {
-        unreachable!()
-    };
-    Ok(name)
 }

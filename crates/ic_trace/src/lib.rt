@@ -1,5 +1,5 @@
-// Lists of firings and undos, and their causal equivalence: the letters of a history, the moves that lead a list to the
-// firings of what stands in canonical order, and a checker of moves (Danos and Krivine 2004).
+//! Lists of firings and undos, and their causal equivalence: the letters of a history, the moves that lead a list to the
+//! firings of what stands in canonical order, and a checker of moves (Danos and Krivine 2004).
 #![tactic(auto)]
 
 pub mod accepted;
@@ -19,6 +19,6 @@ pub use accepted::letters;
 pub use canonical::moves_to_canonical;
 pub use checking::check;
 pub use faults::TraceFault;
-pub use laws::{causes, consistency, moves};
+pub use laws::{causes_are_those_of_the_firing, consistency, moves_keep_what_stands};
 pub use lists::Letter;
 pub use moving::Move;

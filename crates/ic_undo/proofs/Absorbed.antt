@@ -12,7 +12,7 @@ use Rattle.ic_name.specs.declared.lines.Reply.TheVariants as reply
 use Rattle.ic_path.specs.Orders.{IsIn, Alike}
 use Rattle.ic_path.proofs.Alikes.{alike_back, alike_then}
 use Rattle.ic_theory.specs.Active.{IsActive}
-use Rattle.ic_theory.specs.Machine.{State, events, IsDeep, IsFull, Answers, not_active, deep, full, fired, not_standing, held, undone}
+use Rattle.ic_theory.specs.Machine.{State, events, IsDeep, IsFull, MachineStep, not_active, deep, full, fired, not_standing, held, undone}
 use Rattle.ic_theory.specs.Starts.{Start}
 use Rattle.ic_theory.proofs.Normal.{active-alike}
 use Rattle.ic_roster.specs.Rosters.{Stander}
@@ -38,7 +38,7 @@ use Rattle.ic_undo.proofs.StayedBenches.{unchanged, none_undone, free_same}
 use Rattle.ic_undo.proofs.TakenBack.{taken_back}
 
 -- why a machine answers that an event is deep
-deep_reply : {s : Start} {st next : State} {call : Call} {r : Reply} (e : Event) → call ≡ Fire e → r ≡ reply.Deep → Answers s st call r next → IsDeep e
+deep_reply : {s : Start} {st next : State} {call : Call} {r : Reply} (e : Event) → call ≡ Fire e → r ≡ reply.Deep → MachineStep s st call r next → IsDeep e
 deep_reply e same is (not_active n) = cc
 deep_reply e same is (deep {e = f} a d) = let q : f ≡ e = cc in subst IsDeep q d
 deep_reply e same is (full a n f) = cc
@@ -48,7 +48,7 @@ deep_reply e same is (held a b c d) = cc
 deep_reply e same is (undone p j n) = cc
 
 -- and that there would be too many agents
-full_reply : {s : Start} {st next : State} {call : Call} {r : Reply} (e : Event) → call ≡ Fire e → r ≡ reply.Full → Answers s st call r next → ¬ (IsDeep e) × IsFull s (events st) e
+full_reply : {s : Start} {st next : State} {call : Call} {r : Reply} (e : Event) → call ≡ Fire e → r ≡ reply.Full → MachineStep s st call r next → ¬ (IsDeep e) × IsFull s (events st) e
 full_reply e same is (not_active n) = cc
 full_reply e same is (deep a d) = cc
 full_reply {s} {st} e same is (full {e = f} a n m) = let q : f ≡ e = cc in (λ d. n (subst IsDeep (sym q) d), subst (IsFull s (events st)) q m)

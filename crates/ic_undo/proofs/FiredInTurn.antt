@@ -11,7 +11,7 @@ use Rattle.ic_name.specs.declared.lines.Reply.TheVariants.{Fired, NotActive, Dee
 use Rattle.ic_path.specs.Orders.{Alike}
 use Rattle.ic_path.proofs.Alikes.{alike_self, alike_back, alike_then, alike_past, alike-cons, alike-map}
 use Rattle.ic_theory.specs.Active.{IsActive}
-use Rattle.ic_theory.specs.Machine.{State, events, IsDeep, IsFull, Answers, not_active, deep, full, fired, not_standing, held, undone}
+use Rattle.ic_theory.specs.Machine.{State, events, IsDeep, IsFull, MachineStep, not_active, deep, full, fired, not_standing, held, undone}
 use Rattle.ic_theory.specs.Starts.{Start}
 use Rattle.ic_theory.proofs.Normal.{active-alike}
 use Rattle.ic_roster.specs.Rosters.{Stander}
@@ -62,7 +62,7 @@ module _ (mid new : BenchView) (e : Event) (id : EventId) (h : Fires mid e (Ok i
       more = subst (λ x. Alike (x ∷ standing (set_of mid)) (standing (set_of new))) h.1.event (alike-map (λ (x : Stander). x.event) h.1.events)
 
 -- the machine fires what can be fired
-fires_reply : {s : Start} {st next : State} {call : Call} {r : Reply} (e : Event) → call ≡ Fire e → r ≢ Fired → IsActive s (events st) e → ¬ (IsDeep e) → ¬ (IsFull s (events st) e) → Answers s st call r next → ⊥
+fires_reply : {s : Start} {st next : State} {call : Call} {r : Reply} (e : Event) → call ≡ Fire e → r ≢ Fired → IsActive s (events st) e → ¬ (IsDeep e) → ¬ (IsFull s (events st) e) → MachineStep s st call r next → ⊥
 fires_reply {s} {st} e same other active shallow few (not_active {e = f} n) = let q : f ≡ e = cc in n (subst (IsActive s (events st)) (sym q) active)
 fires_reply e same other active shallow few (deep {e = f} a d) = let q : f ≡ e = cc in shallow (subst IsDeep q d)
 fires_reply {s} {st} e same other active shallow few (full {e = f} a d n) = let q : f ≡ e = cc in few (subst (IsFull s (events st)) q n)

@@ -13,7 +13,7 @@ use Rattle.ic_path.proofs.Picks.{none_in, in-cons_cases, in_picked, length-pick,
 use Rattle.ic_theory.specs.Born.{born_agents}
 use Rattle.ic_theory.specs.Sets.{agents}
 use Rattle.ic_theory.specs.Starts.{Start}
-use Rattle.ic_theory.specs.Machine.{Standing, State, events, noted, IsDeep, IsFull, Answers, not_active, deep, full, fired, not_standing, held, undone, IsHistory, begins, goes_on}
+use Rattle.ic_theory.specs.Machine.{Standing, State, events, noted, IsDeep, IsFull, MachineStep, not_active, deep, full, fired, not_standing, held, undone, IsHistory, begins, goes_on}
 use Rattle.ic_set.proofs.Children.{length-named}
 use Rattle.ic_journal.proofs.SameSets.{agent_count}
 
@@ -48,7 +48,7 @@ within_undone s {st} {x} {rest} k w = record {
 }
 
 -- so each answer keeps that
-within_next : (s : Start) {st next : State} {call : Call} {reply : Reply} → Answers s st call reply next → IsWithin s st → IsWithin s next
+within_next : (s : Start) {st next : State} {call : Call} {reply : Reply} → MachineStep s st call reply next → IsWithin s st → IsWithin s next
 within_next s (not_active n) w = within_noted s w
 within_next s (deep a d) w = within_noted s w
 within_next s (full a d n) w = within_noted s w

@@ -10,24 +10,24 @@ use Rattle.ic_name.specs.declared.lines.Reply.TheVariants.{Fired, Undone}
 use Rattle.ic_path.specs.Orders.{Pick, Alike}
 use Rattle.ic_path.proofs.Alikes.{alike_self, alike_pick, alike_then, alike-cons}
 use Rattle.ic_theory.specs.Starts.{Start, IsProper}
-use Rattle.ic_theory.specs.Machine.{Standing, State, Answers, not_active, deep, full, fired, not_standing, held, undone, IsHistory, begins, goes_on}
+use Rattle.ic_theory.specs.Machine.{Standing, State, MachineStep, not_active, deep, full, fired, not_standing, held, undone, IsHistory, begins, goes_on}
 use Rattle.ic_theory.proofs.Machines.{IsKept, history_kept, history_length, two_picks}
 use Rattle.ic_theory.proofs.Replies.{one_line}
 use Rattle.ic_theory.proofs.Restored.{refused_same}
 
 -- what stands after a firing
-fired_standing : {s : Start} {st next : State} {call : Call} (e : Event) → call ≡ Fire e → Answers s st call Fired next
+fired_standing : {s : Start} {st next : State} {call : Call} (e : Event) → call ≡ Fire e → MachineStep s st call Fired next
     → next.standing ≡ record { event = e; line = st.lines } ∷ st.standing
 fired_standing {st = st} e same (fired {e = f} a d n) = let q : f ≡ e = cc in λ i. record { event = q i; line = st.lines } ∷ st.standing
 
 -- what stands after an undo is what stood without the event of the line
-undone_standing : {s : Start} {st next : State} {l : ℕ} → Answers s st (Undo l) Undone next
+undone_standing : {s : Start} {st next : State} {l : ℕ} → MachineStep s st (Undo l) Undone next
     → (x : Standing) × Pick x st.standing next.standing × (x.line ≡ l)
 undone_standing (undone {x = x} k e n) = (x, k, e)
 
 -- where the same stands, up to order, the same stands after the same line
 module _ {s : Start} {st other : State} (k : IsKept s other) (alike : Alike st.standing other.standing) (lines : st.lines ≡ other.lines) where
-  still : {call : Call} {reply : Reply} {next : State} → reply ≢ Fired → reply ≢ Undone → Answers s other call reply next
+  still : {call : Call} {reply : Reply} {next : State} → reply ≢ Fired → reply ≢ Undone → MachineStep s other call reply next
       → Alike st.standing next.standing
   still f u h = subst (λ (xs : List Standing). Alike st.standing xs) (sym (refused_same h f u)) alike
 
@@ -38,7 +38,7 @@ module _ {s : Start} {st other : State} (k : IsKept s other) (alike : Alike st.s
       let one : x ≡ y = one_line k (moved.0, moved.1) (next.standing, q) (e ∙ sym f) in
       alike_then moved.2 (two_picks one moved.1 q)
 
-  same_next : {call : Call} {reply : Reply} {next third : State} → Answers s st call reply next → Answers s other call reply third
+  same_next : {call : Call} {reply : Reply} {next third : State} → MachineStep s st call reply next → MachineStep s other call reply third
       → Alike next.standing third.standing
   same_next (not_active n) h = still (λ q. cc) (λ q. cc) h
   same_next (deep a d) h = still (λ q. cc) (λ q. cc) h
@@ -69,4 +69,4 @@ same_history s ok same (goes_on {lines = ls} {st = st} {call = call} {reply = re
     let one : call ≡ calls = ap (λ (l : Line). l.call) parts.1 in
     let two : reply ≡ replies = ap (λ (l : Line). l.reply) parts.1 in
     let count = history_length h ∙ ap length parts.0 ∙ sym (history_length k) in
-    same_next (history_kept s ok k) (same_history s ok parts.0 h k) count a (subst (λ (c : Call). Answers s other c reply next) (sym one) (subst (λ (r : Reply). Answers s other calls r next) (sym two) b))
+    same_next (history_kept s ok k) (same_history s ok parts.0 h k) count a (subst (λ (c : Call). MachineStep s other c reply next) (sym one) (subst (λ (r : Reply). MachineStep s other calls r next) (sym two) b))

@@ -9,7 +9,7 @@ use Rattle.ic_path.specs.Orders.{IsIn}
 use Rattle.ic_path.proofs.Alikes.{alike_back, alike-in, alike-map}
 use Rattle.ic_path.proofs.Picks.{none_in, in_more, in_others, in_picked, in-cons_cases, pick-map}
 use Rattle.ic_theory.specs.Starts.{Start, IsProper}
-use Rattle.ic_theory.specs.Machine.{Standing, State, events, Answers, not_active, deep, full, fired, not_standing, held, undone, IsHistory, begins, goes_on}
+use Rattle.ic_theory.specs.Machine.{Standing, State, events, MachineStep, not_active, deep, full, fired, not_standing, held, undone, IsHistory, begins, goes_on}
 use Rattle.ic_theory.proofs.Machines.{history_length}
 use Rattle.ic_roster.specs.Rosters.{Stander}
 use Rattle.ic_journal.specs.Benches.{IsBench}
@@ -42,7 +42,7 @@ abbrev AreFiredIn : List Line → State → Type 0
 AreFiredIn all st = (x : Standing) → IsIn x st.standing → IsFiredIn all x.line x.event
 
 -- one answer more
-fired_answer : {s : Start} {st next : State} {call : Call} {reply : Reply} (all : List Line) → slice_get all st.lines ≡ Some (record { call = call; reply = reply }) → Answers s st call reply next → AreFiredIn all st → AreFiredIn all next
+fired_answer : {s : Start} {st next : State} {call : Call} {reply : Reply} (all : List Line) → slice_get all st.lines ≡ Some (record { call = call; reply = reply }) → MachineStep s st call reply next → AreFiredIn all st → AreFiredIn all next
 fired_answer all at (not_active n) h = h
 fired_answer all at (deep a d) h = h
 fired_answer all at (full a d f) h = h
@@ -67,7 +67,7 @@ record IsStill (all : List Line) (n : ℕ) (then now : State) : Type 0 where
 
 -- a line more
 still_next : {s : Start} {st next then : State} {call : Call} {reply : Reply} (all : List Line) (n : ℕ) → n ≤ st.lines → slice_get all st.lines ≡ Some (record { call = call; reply = reply })
-    → Answers s st call reply next → AreFiredIn all st → IsStill all n then st → IsStill all n then next
+    → MachineStep s st call reply next → AreFiredIn all st → IsStill all n then st → IsStill all n then next
 still_next all n late at (not_active a) h k = record { stands = k.stands; stood = k.stood }
 still_next all n late at (deep a d) h k = record { stands = k.stands; stood = k.stood }
 still_next all n late at (full a d f) h k = record { stands = k.stands; stood = k.stood }

@@ -13,7 +13,7 @@ use Rattle.ic_path.proofs.Alikes.{alike_back, alike_then, alike_more, alike-map,
 use Rattle.ic_theory.specs.Starts.{Start}
 use Rattle.ic_theory.specs.Causes.{IsCause}
 use Rattle.ic_theory.specs.Future.{Includes}
-use Rattle.ic_theory.specs.Machine.{Standing, State, events, Answers, not_active, deep, full, fired, not_standing, held, undone}
+use Rattle.ic_theory.specs.Machine.{Standing, State, events, MachineStep, not_active, deep, full, fired, not_standing, held, undone}
 use Rattle.ic_theory.proofs.Ranks.{cause_included}
 use Rattle.ic_roster.specs.Rosters.{Stander, HaveOwnLines}
 use Rattle.ic_set.specs.Views.{standing, events_of}
@@ -35,7 +35,7 @@ pub record IsNext (old mid : BenchView) (front rest : List Stander) (x : Stander
   pub lawful : IsBench mid
 
 -- why a machine answers that no such event stands
-absent_reply : {s : Start} {st next : State} {call : Call} {r : Reply} (l : ℕ) → call ≡ Undo l → r ≡ NotStanding → Answers s st call r next → (y : Standing) → IsIn y st.standing → y.line ≡ l → ⊥
+absent_reply : {s : Start} {st next : State} {call : Call} {r : Reply} (l : ℕ) → call ≡ Undo l → r ≡ NotStanding → MachineStep s st call r next → (y : Standing) → IsIn y st.standing → y.line ≡ l → ⊥
 absent_reply l h e (not_active n) y i q = cc
 absent_reply l h e (deep a d) y i q = cc
 absent_reply l h e (full a d n) y i q = cc
@@ -54,7 +54,7 @@ record IsHeld (s : Start) (st : State) (l : ℕ) : Type 0 where
   cause : IsCause s (events st) second.event first.event
 
 -- why a machine answers that an event is held
-held_reply : {s : Start} {st next : State} {call : Call} {r : Reply} (l h : ℕ) → call ≡ Undo l → r ≡ Held h → Answers s st call r next → IsHeld s st l
+held_reply : {s : Start} {st next : State} {call : Call} {r : Reply} (l h : ℕ) → call ≡ Undo l → r ≡ Held h → MachineStep s st call r next → IsHeld s st l
 held_reply l k h e (not_active n) = cc
 held_reply l k h e (deep a d) = cc
 held_reply l k h e (full a d n) = cc

@@ -6,7 +6,7 @@ ghost use Rattle.ic_journal.specs.Reads.{StandsIn};
 ghost use Rattle.ic_undo.specs.Backwards.{AreIdsOfFree, AreUndoneBack, AreUndoneFrom, ArentUndoneBack};
 
 use ic_journal::{Bench, LinkStore, ReserveFault};
-use ic_name::{Event, EventId, EventName};
+use ic_name::{EventId, EventName};
 use std::alloc::{AllocError, Global};
 
 /// Why events aren't undone.
@@ -95,18 +95,5 @@ fn name_under<L: LinkStore>(bench: &Bench<L>, id: EventId) -> Result<EventName, 
     let Some(event) = bench.event_of(id)? else {
         unreachable!()
     };
-    name_of(&event)
-}
-
-/// The name of an event, whose two agents differ.
-pub(crate) fn name_of(event: &Event) -> Result<EventName, AllocError>
-    ensures { IfOk result (λ name. name ≡ pair event.now) }
-{
-    event.lawful();
-    let lead = event.lead().copy()?;
-    let other = event.other().copy()?;
-    let Some(name) = EventName::of(lead, other) else {
-        unreachable!()
-    };
-    Ok(name)
+    event.name()
 }

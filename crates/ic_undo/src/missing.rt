@@ -4,7 +4,6 @@ ghost use Rattle.ic_path.specs.Orders.{IsIn};
 ghost use Rattle.ic_roster.specs.Rosters.{Stander};
 ghost use Rattle.ic_undo.specs.GoingBack.{AreMissing};
 
-use crate::backwards::name_of;
 use crate::marks::Mark;
 use ic_journal::{Bench, LinkStore, Proposal};
 use ic_name::Event;
@@ -36,7 +35,7 @@ pub(crate) fn missing_events<L: LinkStore>(
 pub(crate) fn stands<L: LinkStore>(bench: &Bench<L>, event: &Event) -> Result<bool, AllocError>
     ensures { IfOk result (λ stands. IsTrue stands ↔ ((x : Stander) × IsIn x bench.now.events × (pair x.event ≡ pair event.now))) }
 {
-    let name = name_of(event)?;
+    let name = event.name()?;
     Ok(bench.event(&name).is_some())
 }
 

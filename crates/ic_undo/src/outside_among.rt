@@ -8,7 +8,6 @@ ghost use Rattle.ic_journal.specs.Views.{set_of};
 ghost use Rattle.ic_undo.specs.GoingBack.{IsOutside};
 ghost use Rattle.ic_undo.specs.Among.{AreOutsideIds, place_cmp};
 
-use crate::backwards::name_of;
 use crate::marks::Mark;
 use ic_journal::{Bench, LinkStore};
 use ic_name::{Event, EventId, EventName};
@@ -56,7 +55,7 @@ fn outside_ids<L: LinkStore>(
         if mark.place_of(event.lead()).is_some() {
             continue;
         }
-        let name = name_of(event)?;
+        let name = event.name()?;
         let Some(id) = bench.event(&name) else {
             continue;
         };

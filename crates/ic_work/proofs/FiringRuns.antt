@@ -10,7 +10,7 @@ use Rattle.ic_path.specs.Orders.{IsIn, here, Alike, more}
 use Rattle.ic_path.proofs.Alikes.{alike_self, alike_then}
 use Rattle.ic_path.proofs.Picks.{in_first, in_more, pick_behind}
 use Rattle.ic_theory.specs.Starts.{Start}
-use Rattle.ic_theory.specs.Machine.{State, events, Answers}
+use Rattle.ic_theory.specs.Machine.{State, events, MachineStep}
 use Rattle.ic_theory.specs.Machine as machine
 use Rattle.ic_reduce.specs.Continuing.{IsFire, fired_by, fired_lines}
 use Rattle.ic_reduce.specs.Reducing.{AreFiredInTurn}
@@ -36,7 +36,7 @@ no_event r n = refl
 
 module _ {s : Start} where
   -- a firing that says so adds its event
-  fired_adds : {st mid next : State} {e : Event} {n : ℕ} → Answers s st (Fire e) reply.Fired mid → Adds n mid next → Adds (n + 1) st next
+  fired_adds : {st mid next : State} {e : Event} {n : ℕ} → MachineStep s st (Fire e) reply.Fired mid → Adds n mid next → Adds (n + 1) st next
   fired_adds {st} {next = next} {e = e} (machine.fired a d f) k = record {
     fresh = e ∷ k.fresh;
     count = (let c = k.count in omega arith);
@@ -44,7 +44,7 @@ module _ {s : Start} where
   }
 
   -- any other call adds none
-  refused_adds : {st mid next : State} {e : Event} {r : Reply} {n : ℕ} → r ≢ reply.Fired → Answers s st (Fire e) r mid → Adds n mid next → Adds n st next
+  refused_adds : {st mid next : State} {e : Event} {r : Reply} {n : ℕ} → r ≢ reply.Fired → MachineStep s st (Fire e) r mid → Adds n mid next → Adds n st next
   refused_adds n (machine.not_active a) k = record { fresh = k.fresh; count = k.count; events = k.events }
   refused_adds n (machine.deep a d) k = record { fresh = k.fresh; count = k.count; events = k.events }
   refused_adds n (machine.full a d f) k = record { fresh = k.fresh; count = k.count; events = k.events }

@@ -26,12 +26,12 @@ then_stays a b = record {
 
 -- a run whose every step leaves it
 run_stays : {first : BenchView} {began : Hand} {had : List Receipt} {after : BenchView} {left : Hand} {pass : List Receipt} {calls : ℕ} {refused : Bool}
-    → Runs (λ h bench event k. Stays h k) (λ h answer k. Stays h k) first began had after left pass calls refused → Stays began left
+    → Runs (λ h bench pair k. Stays h k) (λ h answer k. Stays h k) first began had after left pass calls refused → Stays began left
 run_stays {began = began} begins = stays_so began
 run_stays (fires run chosen fired heard) = then_stays (then_stays (run_stays run) chosen) heard
 run_stays (chooses_none run chosen) = then_stays (run_stays run) chosen
 
 pub stays : {began left : Hand} {old new : List Receipt} {calls : ℕ} {refused : Bool}
-    → RunsForPass (λ h bench event k. Stays h k) (λ h answer k. Stays h k) began old left new calls refused → Stays began left
+    → RunsForPass (λ h bench pair k. Stays h k) (λ h answer k. Stays h k) began old left new calls refused → Stays began left
 stays (ran bench after run) = run_stays run
 stays {began = began} (lacked_memory same receipts count end) = subst (Stays began) (sym same) (stays_so began)

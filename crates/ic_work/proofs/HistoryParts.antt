@@ -4,7 +4,7 @@ use Rattle.ic_name.specs.declared.lines.Call.{Call}
 use Rattle.ic_name.specs.declared.lines.Line.{Line}
 use Rattle.ic_name.specs.declared.lines.Reply.{Reply}
 use Rattle.ic_theory.specs.Starts.{Start, IsProper}
-use Rattle.ic_theory.specs.Machine.{State, initial, Answers, IsHistory, begins, goes_on}
+use Rattle.ic_theory.specs.Machine.{State, initial, MachineStep, IsHistory, begins, goes_on}
 use Rattle.ic_theory.proofs.Machines.{history_kept}
 use Rattle.ic_work.proofs.SameStates.{AreSame, same_self, moved, one_next}
 
@@ -15,12 +15,12 @@ same_history {st = st} e f h = subst (λ (p : Start × List Line). IsHistory p.0
 -- lines that are answered in turn, from a state on
 pub data AreAnswered (s : Start) : List Line → State → State → Type 0 where
   none : {st : State} → AreAnswered s [] st st
-  more : {st mid next : State} {call : Call} {reply : Reply} {lines : List Line} → Answers s st call reply mid
+  more : {st mid next : State} {call : Call} {reply : Reply} {lines : List Line} → MachineStep s st call reply mid
       → AreAnswered s lines mid next → AreAnswered s (record { call = call; reply = reply } ∷ lines) st next
 
 module _ (s : Start) where
   -- one line more at the end
-  then_line : {st mid next : State} {call : Call} {reply : Reply} {lines : List Line} → AreAnswered s lines st mid → Answers s mid call reply next
+  then_line : {st mid next : State} {call : Call} {reply : Reply} {lines : List Line} → AreAnswered s lines st mid → MachineStep s mid call reply next
       → AreAnswered s (lines ++ record { call = call; reply = reply } ∷ []) st next
   then_line none a = more a none
   then_line (more b h) a = more b (then_line h a)

@@ -5,13 +5,13 @@ use Rattle.ic_name.specs.Events.{Event}
 use Rattle.ic_name.specs.declared.lines.Call.{Call}
 use Rattle.ic_name.specs.declared.lines.Call.TheVariants.{Fire}
 use Rattle.ic_name.specs.declared.lines.Reply.{Reply}
+use Rattle.ic_set.specs.declared.pairs.ActivePair.{ActivePair}
 use Rattle.ic_set.specs.declared.pairs.Fired.{Fired}
 use Rattle.ic_journal.specs.Views.{BenchView}
-use Rattle.ic_journal.specs.Calls.{id_answer}
-use Rattle.ic_journal.specs.declared.faults.FireFault.{FireFault}
+use Rattle.ic_journal.specs.declared.faults.PairFault.{PairFault}
 use Rattle.ic_reduce.specs.Continuing.{IsFire}
 use Rattle.ic_shared.specs.declared.receipts.Receipt.{Receipt}
-use Rattle.ic_shared.specs.CallLines.{fire_reply, lines_of}
+use Rattle.ic_shared.specs.CallLines.{pair_reply, lines_of}
 use Rattle.ic_shared.specs.Receipts.{receipts_of}
 use Rattle.ic_shared.specs.Runs.{FiresOn, fired_on, lacks_receipt, Runs, begins, fires, chooses_none, RunsForPass, ran, lacked_memory}
 use Rattle.ic_shared.specs.Settles.{lengths}
@@ -26,10 +26,10 @@ are_fires : (number : ℕ) (e : Event) (reply : Option Reply) → AreFires (rece
 are_fires number e None = All-nil (λ r. IsFire r.call)
 are_fires number e (Some reply) = All-cons (λ r. IsFire r.call) _ [] tt (All-nil (λ r. IsFire r.call))
 
--- an event that is fired
-fires_on : {old new : BenchView} {e : Event} {r : Result Fired FireFault} {pass pass' : List Receipt} → FiresOn old e r pass new pass' → MayFire 1 pass pass'
-fires_on {old} {e = e} {r = r} {pass = pass} (fired_on is_bench step awoken added) =
-    let reply = fire_reply (id_answer r) in
+-- an active pair that is fired
+fires_on : {old new : BenchView} {pair : ActivePair} {r : Result Fired PairFault} {pass pass' : List Receipt} → FiresOn old pair r pass new pass' → MayFire 1 pass pass'
+fires_on {old} {r = r} {pass = pass} (fired_on e is_bench of step added) =
+    let reply = pair_reply r in
     let more : List Receipt = receipts_of (length old.lines) (lines_of (Fire e) reply) in
     let whole = ap length added in
     let parts = length-append pass more in
@@ -40,8 +40,8 @@ fires_on {old} {e = e} {r = r} {pass = pass} (fired_on is_bench step awoken adde
     }
 fires_on {pass = pass} (lacks_receipt wanting bench same) = subst (MayFire 1 pass) (sym same) (record { few = omega arith; fires = λ before. before })
 
--- the events of a run
-run_fires : {C : Type 0} {chooses : C → BenchView → Option Event → C → Type 0} {hears : C → Result Fired FireFault → C → Type 0} {first : BenchView} {began : C} {had : List Receipt} {after : BenchView} {left : C} {pass : List Receipt} {calls : ℕ} {refused : Bool}
+-- the active pairs of a run
+run_fires : {C : Type 0} {chooses : C → BenchView → Option ActivePair → C → Type 0} {hears : C → Result Fired PairFault → C → Type 0} {first : BenchView} {began : C} {had : List Receipt} {after : BenchView} {left : C} {pass : List Receipt} {calls : ℕ} {refused : Bool}
     → Runs chooses hears first began had after left pass calls refused → MayFire calls had pass
 run_fires begins = record { few = omega arith; fires = λ before. before }
 run_fires (fires run chosen one heard) =
@@ -53,7 +53,7 @@ run_fires (fires run chosen one heard) =
 run_fires (chooses_none run chosen) = run_fires run
 
 -- what a run leaves in a pass
-pub may_fire : {C : Type 0} {chooses : C → BenchView → Option Event → C → Type 0} {hears : C → Result Fired FireFault → C → Type 0} {began left : C} {old new : List Receipt} {calls : ℕ} {refused : Bool}
+pub may_fire : {C : Type 0} {chooses : C → BenchView → Option ActivePair → C → Type 0} {hears : C → Result Fired PairFault → C → Type 0} {began left : C} {old new : List Receipt} {calls : ℕ} {refused : Bool}
     → RunsForPass chooses hears began old left new calls refused → MayFire calls old new
 may_fire (ran bench after run) = run_fires run
 may_fire {old = old} {calls = calls} (lacked_memory none same count end) = subst (MayFire calls old) (sym same) (record { few = omega arith; fires = λ before. before })

@@ -6,7 +6,7 @@ use Rattle.ic_name.specs.declared.lines.Reply.{Reply}
 use Rattle.ic_path.specs.Orders.{here, Alike, more}
 use Rattle.ic_path.proofs.Alikes.{alike_self, alike_back, alike_pick, alike_then, alike-in, alike-map}
 use Rattle.ic_theory.specs.Starts.{Start}
-use Rattle.ic_theory.specs.Machine.{Standing, State, events, noted, Answers, not_active, deep, full, fired, not_standing, held, undone}
+use Rattle.ic_theory.specs.Machine.{Standing, State, events, noted, MachineStep, not_active, deep, full, fired, not_standing, held, undone}
 use Rattle.ic_theory.proofs.Machines.{IsKept}
 use Rattle.ic_theory.proofs.Normal.{active-alike}
 use Rattle.ic_theory.proofs.Replies.{one_answer}
@@ -40,12 +40,12 @@ same_fired {st} {tt} e same = record {
 -- the same answer from another state, and the state that it leaves there
 pub record Moved (s : Start) (tt : State) (c : Call) (q : Reply) (next : State) : Type 0 where
   pub state : State
-  pub answer : Answers s tt c q state
+  pub answer : MachineStep s tt c q state
   pub same : AreSame next state
 
 module _ (s : Start) where
   -- what a call answers it answers from each state that is the same
-  pub moved : {st tt next : State} {c : Call} {q : Reply} → AreSame st tt → Answers s st c q next → Moved s tt c q next
+  pub moved : {st tt next : State} {c : Call} {q : Reply} → AreSame st tt → MachineStep s st c q next → Moved s tt c q next
   moved {tt = tt} same (not_active n) = record { state = noted tt; answer = not_active (λ a. n (active-alike s (alike_back (same_events same)) a)); same = same_noted same }
   moved {tt = tt} same (deep a d) = record { state = noted tt; answer = deep (active-alike s (same_events same) a) d; same = same_noted same }
   moved {tt = tt} same (full {e = e} a d f) = record { state = noted tt; answer = full (active-alike s (same_events same) a) d (full-alike s e (same_events same) f); same = same_noted same }
@@ -63,7 +63,7 @@ module _ (s : Start) where
   }
 
   -- it leaves one state
-  pub one_next : {st tt next after : State} (c : Call) {q : Reply} → IsKept s tt → AreSame st tt → Answers s st c q next → Answers s tt c q after → AreSame next after
+  pub one_next : {st tt next after : State} (c : Call) {q : Reply} → IsKept s tt → AreSame st tt → MachineStep s st c q next → MachineStep s tt c q after → AreSame next after
   one_next c kept same x y =
       let m = moved same x in
       let o = one_answer c kept m.answer y in

@@ -5,7 +5,7 @@ ghost use Rattle.ic_work.specs.Hands.{Stays};
 use crate::hints::put_out;
 use crossbeam_deque::Worker as Deque;
 use ic_claim::{CLAIM_WORDS, Claims, Seat};
-use ic_journal::{ActivePair, Bench, FireFault, Fired, Proposal, Store};
+use ic_journal::{ActivePair, Bench, Fired, PairFault, Store};
 use ic_shared::Chooser;
 
 /// What a worker chooses by: its hints, of which it has one in hand, or none; its seat holds the word of that one, and else
@@ -73,22 +73,26 @@ impl Chooser for Hand<'_> {
 
     ghost holds = { λ h. (h.seat.now.table ≡ h.claims.now.table) × Grips h.hint h.seat.now.view.held };
 
-    ghost chooses = { λ h bench event k. Stays h k };
+    ghost chooses = { λ h bench pair k. Stays h k };
 
     ghost hears = { λ h answer k. Stays h k };
 
-    /// The event of the hint in hand, or else of the next one of the worker's own. None comes where that one isn't active any
-    /// more or its word is busy, or memory is wanting.
-    fn choose(&mut self, bench: &Bench<Store>) -> Option<Proposal> {
+    /// The hint in hand, or else the next one of the worker's own. None comes where its word is busy or its pair isn't active
+    /// any more.
+    fn choose(&mut self, bench: &Bench<Store>) -> Option<ActivePair> {
         if self.hint.is_none() {
             self.reach();
         }
         let hint = self.hint?;
-        bench.propose(hint.lead, hint.other).ok()
+        let pair = bench.pair_with(hint.lead)?;
+        if pair != hint {
+            return None;
+        }
+        Some(pair)
     }
 
     /// Leaves the word of what was fired, and puts the pairs that became active by it out as hints.
-    fn hear(&mut self, answer: &Result<Fired, FireFault>) {
+    fn hear(&mut self, answer: &Result<Fired, PairFault>) {
         self.let_go();
         if let Ok(fired) = answer {
             put_out(self.hints, fired.awoken);

@@ -6,7 +6,7 @@ use Rattle.ic_journal.specs.declared.faults.FireFault.TheVariants as fault
 use Rattle.ic_command.specs.declared.command.Command.TheVariants.{Fire}
 use Rattle.ic_answer.specs.declared.refused.Refused.TheVariants as refused
 use Rattle.ic_answer.specs.Texts.{refusal_text}
-use Rattle.ic_answer.specs.Turns.{Turns}
+use Rattle.ic_answer.specs.Turns.{TurnsByCommand}
 use Rattle.ic_answer.proofs.TurnSteps.{told, told_same, tells_memory, stays_for_memory}
 use Rattle.ic_reduce.proofs.BenchSteps.{fault_known}
 use Rattle.ic_answer.proofs.FiringReplies.{lead_unknown, other_unknown, proposed_found, fires, fires_not_active, fires_deep, fires_full, tells_no_line}
@@ -29,7 +29,7 @@ returns-in_default-name_line-clause-turns g c = told c.args.bench.now (Fire c.ar
 pub returns-in-Ok-fired-clause-turns : goal.returns-in-Ok-fired-clause-turns
 returns-in-Ok-fired-clause-turns g c =
     let is = proposed_found c.args.bench.now c.args.event.now c.in-Ok.proposal c.in-Some.lead c.in-Some-agent.other c.lead.result.now c.other.result.now c.in-Some.ensures.found.0 c.in-Some-agent.ensures.found.0 c.lawful.ensures c.lawful-2.ensures c.lead.ensures c.other.ensures c.in-Some.ensures.found.1 c.in-Some-agent.ensures.found.1 c.in-Ok.ensures in
-    subst (λ (text : List ℕ). Turns c.args.bench.now (Fire c.args.event.now) text c.fire-fired.new.self) (sym c.in-Ok-name_line.ensures)
+    subst (λ (text : List ℕ). TurnsByCommand c.args.bench.now (Fire c.args.event.now) text c.fire-fired.new.self) (sym c.in-Ok-name_line.ensures)
     (fires c.args.bench.now c.fire-fired.new.self c.args.event.now c.in-Ok.proposal is c.lawful-3.ensures c.in-Ok-fired.ensures.0)
 
 pub returns-in-Err-NotActive-clause-turns : goal.returns-in-Err-NotActive-clause-turns

@@ -3,7 +3,7 @@ use Rattle.ic_journal.specs.declared.faults.UndoFault.TheVariants as fault
 use Rattle.ic_command.specs.declared.command.Command.TheVariants.{Undo}
 use Rattle.ic_answer.specs.declared.refused.Refused.TheVariants as refused
 use Rattle.ic_answer.specs.Texts.{answer_text, refusal_text}
-use Rattle.ic_answer.specs.Turns.{Turns}
+use Rattle.ic_answer.specs.Turns.{TurnsByCommand}
 use Rattle.ic_answer.proofs.TurnSteps.{told, told_same, tells_memory}
 use Rattle.ic_answer.proofs.UndoingReplies.{Stands, fault_known, tells_not_standing, tells_no_line, undoes, never_not_standing, undo_is_held}
 use Rattle.ic_answer.proofs.changing.undo.Goals as goal
@@ -18,7 +18,7 @@ pub returns-in-Ok-undone-clause-turns : goal.returns-in-Ok-undone-clause-turns
 returns-in-Ok-undone-clause-turns g c =
     let x = c.in-Some.ensures.found in
     let stands : Stands c.args.bench.now c.in-Some.id c.args.event.now x.0 = record { there = x.1; under = x.2; name = x.3 } in
-    subst (λ (text : List ℕ). Turns c.args.bench.now (Undo c.args.event.now) text c.undo-undone.new.self) (sym c.in-Ok.ensures)
+    subst (λ (text : List ℕ). TurnsByCommand c.args.bench.now (Undo c.args.event.now) text c.undo-undone.new.self) (sym c.in-Ok.ensures)
     (undoes c.args.bench.now c.undo-undone.new.self c.in-Some.id c.args.event.now x.0 stands c.lawful.ensures c.in-Ok-undone.ensures.0)
 
 pub returns-in-Err-NotStanding-clause-turns : goal.returns-in-Err-NotStanding-clause-turns

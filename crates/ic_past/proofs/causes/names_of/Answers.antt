@@ -1,6 +1,6 @@
-use Rattle.std.proofs.Common.{◌≡◌, List, [], ◌∷◌, ◌++◌, get_or, ◌⊎◌, inl, inr, Option, Some, sym, ap, subst, ◌∙◌}
+use Rattle.std.proofs.Common.{◌≡◌, List, [], ◌∷◌, ◌++◌, get_or, ◌⊎◌, inl, inr, sym, ap, subst, ◌∙◌}
 use Rattle.std.proofs.lemmas.List.{take_more, map-append}
-use Rattle.ic_name.specs.Events.{Pair, pair}
+use Rattle.ic_name.specs.Events.{pair}
 use Rattle.ic_name.specs.declared.ids.EventId.{EventId}
 use Rattle.ic_path.specs.Orders.{IsIn}
 use Rattle.ic_path.proofs.Picks.{in-cons_cases, none_in}
@@ -32,9 +32,7 @@ loop-id-preserved c =
     let ids = c.args.ids.now in
     let i = c.loop-id.id-index in
     let so_far = c.loop-id.invariant in
-    let one : ◌≡◌ {A = Option Pair} (Some (pair c.in_ok-event.event)) (Some c.in-Some-2.name) = sym c.in_ok-name.ensures ∙ c.in-Some-2.is in
-    let named : pair c.in_ok-event.event ≡ c.in-Some-2.name = cc in
-    let is = ap pair (sym c.in_ok-event.ensures) ∙ named in
+    let is = ap pair (sym c.in_ok-event.ensures) ∙ sym c.in_ok-name.ensures in
     let x : Stander = record { id = get_or ids i none; event = event_in c.args.roster.now.names c.in-Some.entry.interaction; rank = c.in-Some.entry.rank; born = c.in-Some.entry.born.now } in (
       so_far.0 ++ x ∷ [],
       at_end (λ (y : Stander). IsIn y c.args.roster.now.events) so_far.0 x so_far.1 c.in-Some.ensures.found,

@@ -6,7 +6,8 @@ use Rattle.ic_net.specs.Views.{shown_agent}
 use Rattle.ic_print.proofs.Numbering.{whole_view}
 use Rattle.ic_print.proofs.agents.put_named.Goals as goal
 
-pub put_named_line-requires : goal.put_named_line-requires
-put_named_line-requires c =
-    let all : All (λ (a : NetAgent). length a.partners ≡ arity a.kind + 1) (map shown_agent c.agents-agent-items.result.now) = rw c.agents-agent-items.ensures c.requires in
-    whole_view c.agents-agent-items.result.now c.loop-agent.agent-index c.agent-item.result c.loop-agent-test.true c.agent-item.is all
+pub put_named_line-requires-clause-whole : goal.put_named_line-requires-clause-whole
+put_named_line-requires-clause-whole c =
+    let views = c.agents-view-items.result.now in
+    let all : All (λ (a : NetAgent). length a.partners ≡ arity a.kind + 1) (map shown_agent views) = rw c.agents-view-items.ensures c.requires in
+    whole_view views c.loop-place.place c.view-item.result c.loop-place-test.true c.view-item.is all

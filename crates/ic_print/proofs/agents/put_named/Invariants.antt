@@ -6,5 +6,5 @@ use Rattle.ic_print.specs.Sheets.{wires_in}
 use Rattle.ic_net.specs.Views.{shown_agent}
 use Rattle.ic_print.proofs.agents.put_named.Given as goal
 
-abbrev pub invariant-loop-agent : goal.invariant-loop-agent
-invariant-loop-agent l = l.out.items ≡ l.fn.out.items ++ flat_map (named_line (texts l.names) (wires_in l.sheet)) (map shown_agent (take l.agent-index l.sheet.agents.now))
+abbrev pub invariant-loop-place : goal.invariant-loop-place
+invariant-loop-place l = l.out.items ≡ l.fn.out.items ++ flat_map (named_line (texts l.names) (wires_in l.sheet)) (map shown_agent (take l.place l.sheet.agents.now))

@@ -2,7 +2,6 @@ use Rattle.std.proofs.Common.{◌++◌, ◌∙◌, ap, sym}
 use Rattle.std.proofs.lemmas.Result.{IfOk-equal}
 use Rattle.ic_print.specs.Lines.{texts}
 use Rattle.ic_print.specs.NetText.{numbered, port_label}
-use Rattle.ic_print.specs.Ports.{port_of}
 use Rattle.ic_print.specs.Sheets.{wires_in}
 use Rattle.ic_net.specs.Views.{shown_agent}
 use Rattle.ic_print.proofs.Labels.{number_label}
@@ -12,7 +11,7 @@ pub returns-in-Of : goal.returns-in-Of
 returns-in-Of c =
     let names = texts c.args.names.now in
     let wires = wires_in c.args.sheet.now in
-    let agent = shown_agent c.args.agent.now in
+    let agent = shown_agent c.args.agent.now.view in
     let out = c.args.out.now.items in
-    let label = number_label names wires agent c.args.port c.in-Of.name c.in-Of.number (port_of c.wire_to.result) c.number.result (sym c.partner.ensures ∙ c.in-Of.is) c.wire_to.ensures c.number.ensures in
+    let label = number_label names wires agent c.args.port c.in-Of.field-0 c.in-Of.field-1 c.number.result (sym c.partner.ensures ∙ c.in-Of.is) c.number.ensures in
     IfOk-equal c.put_numbered.result c.put_numbered.new.out.items (out ++ numbered c.number.result) (out ++ port_label names wires agent c.args.port) c.put_numbered.ensures (ap (λ t. out ++ t) label)

@@ -7,7 +7,7 @@ use Rattle.ic_session.proofs.session.answer_all.Goals as goal
 pub loop-line-init : goal.loop-line-init
 loop-line-init g c = record {
   start = refl;
-  answered = λ st at. answered_none c.args.desk.bench.start c.args.mode st c.args.desk (left c.args.input.now (g.R.Read.remaining c.args.reader.now)) (g.W.Write.contents c.args.writer.now) at;
+  answered = λ st at. answered_none c.args.desk.bench.start c.args.setting.now.mode st c.args.desk (left c.args.input.now (g.R.Read.remaining c.args.reader.now)) (g.W.Write.contents c.args.writer.now) at;
   fewer = omega arith;
 }
 
@@ -18,7 +18,7 @@ loop-line-preserved g c =
     let fewer = c.in_ok-demand.ensures.fewer in
     record {
       start = done.turn.start ∙ c.loop-line.invariant.start;
-      answered = λ st at. answered_more c.args.desk.bench.start c.args.mode st c.loop-line.desk c.in_ok-desk-in-Some.desk
+      answered = λ st at. answered_more c.args.desk.bench.start c.args.setting.now.mode st c.loop-line.desk c.in_ok-desk-in-Some.desk
           (left c.args.input.now (g.R.Read.remaining c.args.reader.now)) (left c.loop-line.input (g.R.Read.remaining c.loop-line.reader)) (left c.next_demand.new.input (g.R.Read.remaining c.next_demand.new.reader))
           (g.W.Write.contents c.args.writer.now) (g.W.Write.contents c.loop-line.writer) (g.W.Write.contents c.answer.new.writer)
           c.in_ok-demand.field-0 c.in-Some.demand c.loop-line.invariant.start (c.loop-line.invariant.answered st at) c.in-Some.is c.in_ok-demand.ensures.taken done;
@@ -27,24 +27,24 @@ loop-line-preserved g c =
 
 pub returns-in-None-clause-answered : goal.returns-in-None-clause-answered
 returns-in-None-clause-answered g c =
-    all_answered c.args.mode (left c.args.input.now (g.R.Read.remaining c.args.reader.now)) c.args.desk (g.W.Write.contents c.args.writer.now) (g.W.Write.contents c.loop-line.writer) (λ st at.
-    answered_all c.args.desk.bench.start c.args.mode st c.loop-line.desk (left c.args.input.now (g.R.Read.remaining c.args.reader.now)) (left c.loop-line.input (g.R.Read.remaining c.loop-line.reader))
+    all_answered c.args.setting.now.mode (left c.args.input.now (g.R.Read.remaining c.args.reader.now)) c.args.desk (g.W.Write.contents c.args.writer.now) (g.W.Write.contents c.loop-line.writer) (λ st at.
+    answered_all c.args.desk.bench.start c.args.setting.now.mode st c.loop-line.desk (left c.args.input.now (g.R.Read.remaining c.args.reader.now)) (left c.loop-line.input (g.R.Read.remaining c.loop-line.reader))
     (left c.next_demand.new.input (g.R.Read.remaining c.next_demand.new.reader)) (g.W.Write.contents c.args.writer.now) (g.W.Write.contents c.loop-line.writer)
     c.in_ok-demand.field-0 (c.loop-line.invariant.answered st at) c.in-None.is c.in_ok-demand.ensures.taken)
 
 pub returns-in_err-demand-clause-begun : goal.returns-in_err-demand-clause-begun
 returns-in_err-demand-clause-begun g c =
     at_error c.from_residual.result
-    (all_begun c.args.mode (left c.args.input.now (g.R.Read.remaining c.args.reader.now)) c.args.desk (g.W.Write.contents c.args.writer.now) (g.W.Write.contents c.loop-line.writer) (λ st at.
-    answered_begun c.args.desk.bench.start c.args.mode st c.loop-line.desk (left c.args.input.now (g.R.Read.remaining c.args.reader.now)) (left c.loop-line.input (g.R.Read.remaining c.loop-line.reader))
+    (all_begun c.args.setting.now.mode (left c.args.input.now (g.R.Read.remaining c.args.reader.now)) c.args.desk (g.W.Write.contents c.args.writer.now) (g.W.Write.contents c.loop-line.writer) (λ st at.
+    answered_begun c.args.desk.bench.start c.args.setting.now.mode st c.loop-line.desk (left c.args.input.now (g.R.Read.remaining c.args.reader.now)) (left c.loop-line.input (g.R.Read.remaining c.loop-line.reader))
     (g.W.Write.contents c.args.writer.now) (g.W.Write.contents c.loop-line.writer) (c.loop-line.invariant.answered st at)))
 
 pub returns-in_err-desk-in-Some-clause-begun : goal.returns-in_err-desk-in-Some-clause-begun
 returns-in_err-desk-in-Some-clause-begun g c =
     let broken = c.in_err-desk-in-Some.ensures.begun in
     at_error c.from_residual-in_err-desk-in-Some.result
-    (all_begun c.args.mode (left c.args.input.now (g.R.Read.remaining c.args.reader.now)) c.args.desk (g.W.Write.contents c.args.writer.now) (g.W.Write.contents c.answer.new.writer) (λ st at.
-    answered_broken c.args.desk.bench.start c.args.mode st c.loop-line.desk
+    (all_begun c.args.setting.now.mode (left c.args.input.now (g.R.Read.remaining c.args.reader.now)) c.args.desk (g.W.Write.contents c.args.writer.now) (g.W.Write.contents c.answer.new.writer) (λ st at.
+    answered_broken c.args.desk.bench.start c.args.setting.now.mode st c.loop-line.desk
     (left c.args.input.now (g.R.Read.remaining c.args.reader.now)) (left c.loop-line.input (g.R.Read.remaining c.loop-line.reader)) (left c.next_demand.new.input (g.R.Read.remaining c.next_demand.new.reader))
     (g.W.Write.contents c.args.writer.now) (g.W.Write.contents c.loop-line.writer) (g.W.Write.contents c.answer.new.writer)
     c.in_ok-demand.field-0 c.in-Some.demand c.loop-line.invariant.start (c.loop-line.invariant.answered st at) c.in-Some.is c.in_ok-demand.ensures.taken

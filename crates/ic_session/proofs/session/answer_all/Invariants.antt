@@ -9,7 +9,7 @@ abbrev pub invariant-loop-line : goal.invariant-loop-line
 invariant-loop-line g l = record {
   start : l.desk.bench.start ≡ l.fn.desk.bench.start;
   answered : (st : State) → IsDeskAt l.fn.desk st
-      → HasAnswered l.fn.desk.bench.start l.fn.mode st l.desk (left l.fn.input (g.R.Read.remaining l.fn.reader)) (left l.input (g.R.Read.remaining l.reader)) (g.W.Write.contents l.fn.writer) (g.W.Write.contents l.writer);
+      → HasAnswered l.fn.desk.bench.start l.fn.setting.mode st l.desk (left l.fn.input (g.R.Read.remaining l.fn.reader)) (left l.input (g.R.Read.remaining l.reader)) (g.W.Write.contents l.fn.writer) (g.W.Write.contents l.writer);
   fewer : l.input.reads ≤ l.fn.input.reads;
 }
 

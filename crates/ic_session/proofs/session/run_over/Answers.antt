@@ -14,7 +14,7 @@ returns-in-TooLong-clause-written g c =
     let now = left c.read_net_text.new.input (g.R.Read.remaining c.read_net_text.new.reader) in
     let read = c.in_ok-read_net_text.ensures.read in
     IfOk-weaker c.refuse.result _ _
-    (wrote_too_long c.args.mode (left c.args.input.now (g.R.Read.remaining c.args.reader.now)) now (g.W.Write.contents c.args.writer.now) (g.W.Write.contents c.refuse.new.writer) c.in_ok-read_net_text.field-0 c.in-TooLong.is read)
+    (wrote_too_long c.args.setting.now.mode (left c.args.input.now (g.R.Read.remaining c.args.reader.now)) now (g.W.Write.contents c.args.writer.now) (g.W.Write.contents c.refuse.new.writer) c.in_ok-read_net_text.field-0 c.in-TooLong.is read)
     c.refuse.ensures.named
 
 pub returns-in-Err-Refused-clause-written : goal.returns-in-Err-Refused-clause-written
@@ -23,7 +23,7 @@ returns-in-Err-Refused-clause-written g c =
     let read = c.in_ok-read_net_text.ensures.read in
     let first = subst (λ bytes. IsFirstFault bytes c.in-Err-Refused.refusal) c.deref.ensures.value (c.read_net.ensures.fault c.in-Err-Refused.refusal (c.in-Err-Refused.is ∙ ap Err c.in-Err-Refused.field-0-is)) in
     IfOk-weaker c.refuse-in-Err-Refused.result _ _
-    (wrote_fault c.args.mode (left c.args.input.now (g.R.Read.remaining c.args.reader.now)) now (g.W.Write.contents c.args.writer.now) (g.W.Write.contents c.refuse-in-Err-Refused.new.writer)
+    (wrote_fault c.args.setting.now.mode (left c.args.input.now (g.R.Read.remaining c.args.reader.now)) now (g.W.Write.contents c.args.writer.now) (g.W.Write.contents c.refuse-in-Err-Refused.new.writer)
     c.in_ok-read_net_text.field-0 c.in-Whole.text c.in-Err-Refused.refusal c.in-Whole.is read first)
     c.refuse-in-Err-Refused.ensures.named
 
@@ -33,25 +33,25 @@ returns-clause-written g c =
     let read = c.in_ok-read_net_text.ensures.read in
     let denoted = subst (λ bytes. Denotes bytes c.in-Ok.start) c.deref.ensures.value c.in-Ok.ensures.found in
     let faultless = subst (λ bytes. (f : Refusal) → Stands bytes f → ⊥) c.deref.ensures.value c.in-Ok.ensures.faultless in
-    wrote_answers c.args.mode (left c.args.input.now (g.R.Read.remaining c.args.reader.now)) now (g.W.Write.contents c.args.writer.now) (g.W.Write.contents c.answer_all.new.writer)
+    wrote_answers c.args.setting.now.mode (left c.args.input.now (g.R.Read.remaining c.args.reader.now)) now (g.W.Write.contents c.args.writer.now) (g.W.Write.contents c.answer_all.new.writer)
     c.in_ok-read_net_text.field-0 c.in-Whole.text c.in-Ok.start c.in-Whole.is read denoted faultless
-    (opened_answers now c.in-Ok.start c.args.mode c.in_ok-desk.desk (g.W.Write.contents c.args.writer.now) (g.W.Write.contents c.answer_all.new.writer) c.in_ok-desk.ensures c.in_ok-answer_all.ensures.answered)
+    (opened_answers now c.in-Ok.start c.args.setting.now.mode c.in_ok-desk.desk (g.W.Write.contents c.args.writer.now) (g.W.Write.contents c.answer_all.new.writer) c.in_ok-desk.ensures c.in_ok-answer_all.ensures.answered)
 
 pub returns-in_err-read_net_text-clause-begun : goal.returns-in_err-read_net_text-clause-begun
 returns-in_err-read_net_text-clause-begun g c =
-    at_error c.from_residual.result (begun_nothing c.args.mode (left c.args.input.now (g.R.Read.remaining c.args.reader.now)) (g.W.Write.contents c.args.writer.now))
+    at_error c.from_residual.result (begun_nothing c.args.setting.now.mode (left c.args.input.now (g.R.Read.remaining c.args.reader.now)) (g.W.Write.contents c.args.writer.now))
 
 pub returns-in-TooLong-clause-begun : goal.returns-in-TooLong-clause-begun
 returns-in-TooLong-clause-begun g c =
     let now = left c.read_net_text.new.input (g.R.Read.remaining c.read_net_text.new.reader) in
     let read = c.in_ok-read_net_text.ensures.read in
     on_err_weaker c.refuse.result
-    (begun_too_long c.args.mode (left c.args.input.now (g.R.Read.remaining c.args.reader.now)) now (g.W.Write.contents c.args.writer.now) (g.W.Write.contents c.refuse.new.writer) c.in_ok-read_net_text.field-0 c.in-TooLong.is read)
+    (begun_too_long c.args.setting.now.mode (left c.args.input.now (g.R.Read.remaining c.args.reader.now)) now (g.W.Write.contents c.args.writer.now) (g.W.Write.contents c.refuse.new.writer) c.in_ok-read_net_text.field-0 c.in-TooLong.is read)
     c.refuse.ensures.front
 
 pub returns-in-Err-Memory-clause-begun : goal.returns-in-Err-Memory-clause-begun
 returns-in-Err-Memory-clause-begun g c =
-    begun_nothing c.args.mode (left c.args.input.now (g.R.Read.remaining c.args.reader.now)) (g.W.Write.contents c.args.writer.now)
+    begun_nothing c.args.setting.now.mode (left c.args.input.now (g.R.Read.remaining c.args.reader.now)) (g.W.Write.contents c.args.writer.now)
 
 pub returns-in-Err-Refused-clause-begun : goal.returns-in-Err-Refused-clause-begun
 returns-in-Err-Refused-clause-begun g c =
@@ -59,13 +59,13 @@ returns-in-Err-Refused-clause-begun g c =
     let read = c.in_ok-read_net_text.ensures.read in
     let first = subst (λ bytes. IsFirstFault bytes c.in-Err-Refused.refusal) c.deref.ensures.value (c.read_net.ensures.fault c.in-Err-Refused.refusal (c.in-Err-Refused.is ∙ ap Err c.in-Err-Refused.field-0-is)) in
     on_err_weaker c.refuse-in-Err-Refused.result
-    (begun_fault c.args.mode (left c.args.input.now (g.R.Read.remaining c.args.reader.now)) now (g.W.Write.contents c.args.writer.now) (g.W.Write.contents c.refuse-in-Err-Refused.new.writer)
+    (begun_fault c.args.setting.now.mode (left c.args.input.now (g.R.Read.remaining c.args.reader.now)) now (g.W.Write.contents c.args.writer.now) (g.W.Write.contents c.refuse-in-Err-Refused.new.writer)
     c.in_ok-read_net_text.field-0 c.in-Whole.text c.in-Err-Refused.refusal c.in-Whole.is read first)
     c.refuse-in-Err-Refused.ensures.front
 
 pub returns-in_err-desk-clause-begun : goal.returns-in_err-desk-clause-begun
 returns-in_err-desk-clause-begun g c =
-    at_error c.from_residual-in_err-desk.result (begun_nothing c.args.mode (left c.args.input.now (g.R.Read.remaining c.args.reader.now)) (g.W.Write.contents c.args.writer.now))
+    at_error c.from_residual-in_err-desk.result (begun_nothing c.args.setting.now.mode (left c.args.input.now (g.R.Read.remaining c.args.reader.now)) (g.W.Write.contents c.args.writer.now))
 
 pub returns-in_err-answer_all-clause-begun : goal.returns-in_err-answer_all-clause-begun
 returns-in_err-answer_all-clause-begun g c =
@@ -74,6 +74,6 @@ returns-in_err-answer_all-clause-begun g c =
     let denoted = subst (λ bytes. Denotes bytes c.in-Ok.start) c.deref.ensures.value c.in-Ok.ensures.found in
     let faultless = subst (λ bytes. (f : Refusal) → Stands bytes f → ⊥) c.deref.ensures.value c.in-Ok.ensures.faultless in
     at_error c.from_residual-in_err-answer_all.result
-    (begun_answers c.args.mode (left c.args.input.now (g.R.Read.remaining c.args.reader.now)) now (g.W.Write.contents c.args.writer.now) (g.W.Write.contents c.answer_all.new.writer)
+    (begun_answers c.args.setting.now.mode (left c.args.input.now (g.R.Read.remaining c.args.reader.now)) now (g.W.Write.contents c.args.writer.now) (g.W.Write.contents c.answer_all.new.writer)
     c.in_ok-read_net_text.field-0 c.in-Whole.text c.in-Ok.start c.in-Whole.is read denoted faultless
-    (opened_begun now c.in-Ok.start c.args.mode c.in_ok-desk.desk (g.W.Write.contents c.args.writer.now) (g.W.Write.contents c.answer_all.new.writer) c.in_ok-desk.ensures c.in_err-answer_all.ensures.begun))
+    (opened_begun now c.in-Ok.start c.args.setting.now.mode c.in_ok-desk.desk (g.W.Write.contents c.args.writer.now) (g.W.Write.contents c.answer_all.new.writer) c.in_ok-desk.ensures c.in_err-answer_all.ensures.begun))

@@ -12,6 +12,6 @@ unreachable-requires g c = found_under c.args.bench.now c.args.id c.in_ok-event.
 pub returns : goal.returns
 returns g c =
     let under : IsEventUnder c.args.bench.now c.args.id (Some c.in-Some.event) = rw c.in-Some.is at c.in_ok-event.ensures in
-    IfOk-weaker c.name_of.result (λ name. name ≡ pair c.in-Some.event) (λ name. (x : Stander) → StandsIn c.args.bench.now c.args.id x → name ≡ pair x.event)
+    IfOk-weaker c.name.result (λ name. name ≡ pair c.in-Some.event) (λ name. (x : Stander) → StandsIn c.args.bench.now c.args.id x → name ≡ pair x.event)
     (λ name h x s. h ∙ ap (λ (e : Event). pair e) (one_under c.args.bench.now c.args.id c.in-Some.event c.lawful.ensures.set.own_lines under x s))
-    c.name_of.ensures
+    c.name.ensures

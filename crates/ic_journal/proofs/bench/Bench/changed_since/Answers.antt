@@ -16,7 +16,7 @@ pub loop-number-preserved : goal.loop-number-preserved
 loop-number-preserved g c =
     let ahead = c.loop-number.invariant.0 in
     let each : (e : Event) → (c.in_ok-event.field-0 ≡ Some e) ↔ IsChangedIn c.args.self.now.lines c.loop-number.number e =
-    rw (← c.self.view_is) (subst (λ (names : List Name). (e : Event) → (c.in_ok-event.field-0 ≡ Some e) ↔ IsChangedIn (map (line_in names) c.self.inside.history.lines) c.loop-number.number e) c.roster-roster.ensures.names c.in_ok-event.ensures)
+    rw (← c.self.view_is, ← c.bare.ensures) (subst (λ (names : List Name). (e : Event) → (c.in_ok-event.field-0 ≡ Some e) ↔ IsChangedIn (map (line_in names) c.self.inside.history.lines) c.loop-number.number e) c.roster-roster.ensures.names c.in_ok-event.ensures)
     in
     elim c.match-branch-2.branch [
       | in-Some+in_ok-push w ↦

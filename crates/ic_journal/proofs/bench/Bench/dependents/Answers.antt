@@ -8,7 +8,7 @@ use Rattle.ic_journal.proofs.bench.Bench.dependents.Goals as goal
 pub returns-in_ok-dependents-in-Some : goal.returns-in_ok-dependents-in-Some
 returns-in_ok-dependents-in-Some g c =
     let x = c.in-Some.ensures.found in
-    rw (← c.self.view_is) (x.0, (subst (λ (xs : List Stander). IsIn x.0 xs) c.roster.ensures.events x.1, ap (λ (d : EventId). d.line) x.2 ∙ x.3), subst (λ d. AreInOrder c.self.inside.set.set (DependsOn c.self.inside.set.set d) c.in_ok-dependents-in-Some.field-0.items) (sym x.2) c.in_ok-dependents-in-Some.ensures)
+    rw (← c.self.view_is, ← c.bare-set.ensures) (x.0, (subst (λ (xs : List Stander). IsIn x.0 xs) c.roster.ensures.events x.1, ap (λ (d : EventId). d.line) x.2 ∙ x.3), subst (λ d. AreInOrder c.bare-set.result.now.set (DependsOn c.bare-set.result.now.set d) c.in_ok-dependents-in-Some.field-0.items) (sym x.2) c.in_ok-dependents-in-Some.ensures)
 
 pub returns-in-None : goal.returns-in-None
-returns-in-None g c = rw (← c.self.view_is) (subst (λ (xs : List Stander). (x : Stander) → IsIn x xs → x.id.line ≢ c.args.id.line) c.roster.ensures.events c.in-None.ensures.absent)
+returns-in-None g c = rw (← c.self.view_is, ← c.bare-set.ensures) (subst (λ (xs : List Stander). (x : Stander) → IsIn x xs → x.id.line ≢ c.args.id.line) c.roster.ensures.events c.in-None.ensures.absent)

@@ -5,4 +5,4 @@ use Rattle.ic_name.specs.Events.{pair}
 use Rattle.ic_journal.proofs.bench.Bench.event.Goals as goal
 
 pub returns-clause-absent : goal.returns-clause-absent
-returns-clause-absent g c = rw (← c.self.view_is) (subst (λ (xs : List Stander). IfNone c.find_event.result ((x : Stander) → IsIn x xs → pair x.event ≢ c.args.name.now)) c.roster.ensures.events c.find_event.ensures.absent)
+returns-clause-absent g c = rw (← c.self.view_is, ← c.bare.ensures) (subst (λ (xs : List Stander). IfNone c.find_event.result ((x : Stander) → IsIn x xs → pair x.event ≢ c.args.name.now)) c.roster.ensures.events c.find_event.ensures.absent)

@@ -21,8 +21,8 @@ name_under v m there ns k inside named (Some n) same =
 pub returns-in-Some : goal.returns-in-Some
 returns-in-Some g c =
     let m : Member = record { id = c.args.id; name = name_at c.roster-roster.result.now.names c.in-Some.agent.name.place; kind = c.in-Some.agent.kind } in
-    let there : IsIn m c.self.inside.set.set.agents = subst (λ (ms : List Member). IsIn m ms) c.roster-roster.ensures.agents c.in-Some.ensures.found in
-    rw (← c.self.view_is) (IfOk-weaker c.name.result _ _ (λ name same. name_under (view_of c.self.inside.set c.self.inside.history) m there c.roster-roster.result.now.names c.in-Some.agent.name.place c.in-Some.ensures.inside refl name same) (rw c.names.ensures at c.name.ensures))
+    let there : IsIn m c.bare.result.now.set.agents = subst (λ (ms : List Member). IsIn m ms) c.roster-roster.ensures.agents c.in-Some.ensures.found in
+    rw (← c.self.view_is, ← c.bare.ensures) (IfOk-weaker c.name.result _ _ (λ name same. name_under (view_of c.bare.result.now c.self.inside.history) m there c.roster-roster.result.now.names c.in-Some.agent.name.place c.in-Some.ensures.inside refl name same) (rw c.names.ensures at c.name.ensures))
 
 pub returns-in-None : goal.returns-in-None
-returns-in-None g c = rw (← c.self.view_is) (subst (λ (ms : List Member). (m : Member) → IsIn m ms → m.id ≢ c.args.id) c.roster-roster.ensures.agents c.in-None.ensures.absent)
+returns-in-None g c = rw (← c.self.view_is, ← c.bare.ensures) (subst (λ (ms : List Member). (m : Member) → IsIn m ms → m.id ≢ c.args.id) c.roster-roster.ensures.agents c.in-None.ensures.absent)

@@ -1,6 +1,6 @@
 use Rattle.std.proofs.Common.{◌≡◌, IsSome, true, false, sym, ap, subst, ◌∙◌}
 use Rattle.std.proofs.lemmas.Option.{get_or_from_slice_get}
-use Rattle.ic_name.specs.Names.{Name, start_name}
+use Rattle.ic_name.specs.Names.{start_name}
 use Rattle.ic_name.specs.Events.{pair}
 use Rattle.ic_name.proofs.NameOrder.{name_less_apart}
 use Rattle.ic_names.specs.Tables.{name_at}
@@ -29,6 +29,6 @@ returns g c =
     let first : c.in-Some.lead ≡ name_at ns i.lead.place = sym (get_or_from_slice_get ns i.lead.place c.in-Some.lead (start_name 0) (sym c.in_ok-lead.ensures ∙ c.in-Some.is)) in
     let second : c.in-Some-2.other ≡ name_at ns i.other.place = sym (get_or_from_slice_get ns i.other.place c.in-Some-2.other (start_name 0) (sym c.in_ok-other.ensures ∙ c.in-Some-2.is)) in
     λ e p. (
-    let own : IsPairOf c.self.inside.set.set e c.args.pair = subst (λ v. IsPairOf (set_of v) e c.args.pair) (sym c.self.view_is) p in
+    let own : IsPairOf c.bare-set.result.now.set e c.args.pair = rw c.bare-set.ensures (subst (λ v. IsPairOf (set_of v) e c.args.pair) (sym c.self.view_is) p) in
     let event = subst (λ ms. event_in ms i ≡ e) (sym (c.names-names.ensures ∙ c.roster.ensures.names)) (c.interaction_of-event.ensures.event e own) in
     c.in-Some-of.ensures.pair ∙ named_in ns i named c.in-Some.lead c.in-Some-2.other first second ∙ ap pair event)

@@ -4,12 +4,12 @@ use Rattle.ic_roster.specs.Rosters.{event_in, Stander}
 use Rattle.ic_journal.proofs.bench.Bench.rank.Goals as goal
 
 pub returns-in_default : goal.returns-in_default
-returns-in_default g c = rw (← c.self.view_is) (subst (λ (xs : List Stander). (x : Stander) → IsIn x xs → x.id.line ≢ c.args.id.line) c.roster-roster.ensures.events c.in_default.ensures.absent)
+returns-in_default g c = rw (← c.self.view_is, ← c.bare-set.ensures) (subst (λ (xs : List Stander). (x : Stander) → IsIn x xs → x.id.line ≢ c.args.id.line) c.roster-roster.ensures.events c.in_default.ensures.absent)
 
 pub unreachable-requires : goal.unreachable-requires
 unreachable-requires g c = c.in_default-event.ensures.absent c.in-Some.ensures.found.0 c.in-Some.ensures.found.1 c.in-Some.ensures.found.2
 
 pub returns : goal.returns
 returns g c =
-    let there : IsIn (record { id = c.in-Some.standing; event = event_in c.roster-roster.result.now.names c.in-Some-event.entry.interaction; rank = c.in-Some-event.entry.rank; born = c.in-Some-event.entry.born.now }) c.self.inside.set.set.events = subst (λ (xs : List Stander). IsIn (record { id = c.in-Some.standing; event = event_in c.roster-roster.result.now.names c.in-Some-event.entry.interaction; rank = c.in-Some-event.entry.rank; born = c.in-Some-event.entry.born.now }) xs) c.roster-roster.ensures.events c.in-Some-event.ensures.found in
-    rw (← c.self.view_is) (record { id = c.in-Some.standing; event = event_in c.roster-roster.result.now.names c.in-Some-event.entry.interaction; rank = c.in-Some-event.entry.rank; born = c.in-Some-event.entry.born.now }, (there, c.in-Some.ensures.found.3), λ rank h. c.lawful.ensures.set.ranks rank h (record { id = c.in-Some.standing; event = event_in c.roster-roster.result.now.names c.in-Some-event.entry.interaction; rank = c.in-Some-event.entry.rank; born = c.in-Some-event.entry.born.now }) there)
+    let there : IsIn (record { id = c.in-Some.standing; event = event_in c.roster-roster.result.now.names c.in-Some-event.entry.interaction; rank = c.in-Some-event.entry.rank; born = c.in-Some-event.entry.born.now }) c.bare-set.result.now.set.events = subst (λ (xs : List Stander). IsIn (record { id = c.in-Some.standing; event = event_in c.roster-roster.result.now.names c.in-Some-event.entry.interaction; rank = c.in-Some-event.entry.rank; born = c.in-Some-event.entry.born.now }) xs) c.roster-roster.ensures.events c.in-Some-event.ensures.found in
+    rw (← c.self.view_is, ← c.bare-set.ensures) (record { id = c.in-Some.standing; event = event_in c.roster-roster.result.now.names c.in-Some-event.entry.interaction; rank = c.in-Some-event.entry.rank; born = c.in-Some-event.entry.born.now }, (there, c.in-Some.ensures.found.3), λ rank h. c.lawful.ensures.set.ranks rank h (record { id = c.in-Some.standing; event = event_in c.roster-roster.result.now.names c.in-Some-event.entry.interaction; rank = c.in-Some-event.entry.rank; born = c.in-Some-event.entry.born.now }) there)

@@ -4,6 +4,7 @@ use Rattle.ic_name.specs.Names.{start_name}
 use Rattle.ic_names.specs.Tables.{name_at}
 use Rattle.ic_names.specs.Rows.{names_of}
 use Rattle.ic_names.proofs.KeyOrders.{name_proper}
+use Rattle.ic_names.proofs.Grown.{stands_old}
 use Rattle.ic_names.proofs.RowNames.{counted, place_inside}
 use Rattle.ic_names.proofs.PutRows.{new_entry, parent_read, parent_written, put_child_names, put_child_rows}
 use Rattle.ic_names.proofs.rows.Rows.put_child.Goals as goal
@@ -48,9 +49,11 @@ invariant_of-self c =
     let few = rw (← c.self.view_is) at c.requires.few in
     let proper = name_proper _ (c.self.invariant.table.proper c.args.parent (start_name 0) inside) in
     let key = c.child-key.ensures (name_at (names_of es) c.args.parent) proper (ap (λ e. e.key.0) read ∙ c.self.invariant.keys c.args.parent within) in
+    let block = rw (← c.self.view_is) at c.child_block-block.ensures in
+    let anchor = rw (← c.self.view_is) at c.child_anchor-anchor.ensures in
     let parent = parent_read es c.push.new.self.items c.args.parent c.new-entry.result c.index_mut-entry.result.now c.in-Ok.ensures.items within c.index_mut-entry.ensures.value in
     put_child_rows es c.push.new.self.items c.self.inside.starts.items c.args.parent c.args.digit c.new-entry.result _ c.self.invariant c.in-Ok.ensures.items within c.requires.small shallow
-    (new_entry _ _ _ _ c.new-entry.ensures key)
+    (new_entry _ _ _ _ _ _ c.new-entry.ensures key block (stands_old _ _ _ _ (anchor c.args.digit)))
     (parent_written c.index_mut-entry.result.now _ c.from.result c.args.digit _ c.some.result parent c.from.ensures (c.some.ensures ∙ ap Some (c.len-place.ensures ∙ c.self.inside.entries.ok.0)))
     absent few
 

@@ -1,6 +1,6 @@
 use Rattle.std.proofs.Common.{◌∙◌, ap, arith, Some}
 use Rattle.ic_names.proofs.RowNames.{counted}
-use Rattle.ic_names.proofs.PutRows.{new_entry, put_start_names, put_start_rows}
+use Rattle.ic_names.proofs.PutRows.{new_entry, start_anchor, put_start_names, put_start_rows}
 use Rattle.ic_names.proofs.rows.Rows.put_start.Goals as goal
 
 pub overflow_cast-place : goal.overflow_cast-place
@@ -20,8 +20,9 @@ invariant_of-self c =
     let absent = rw (← c.self.view_is) at c.requires.absent in
     let few = rw (← c.self.view_is) at c.requires.few in
     let reserved = rw (← c.self.view_is) at c.requires.reserved in
+    let place = counted es c.len-place.result _ c.len-place.ensures c.self.inside.entries.ok.0 in
     put_start_rows es c.push.new.self.items c.self.inside.starts.items c.args.number c.from.result c.some.result c.new-entry.result c.self.invariant c.in-Ok.ensures.items
-    (new_entry _ _ _ _ c.new-entry.ensures c.start.ensures) c.requires.proper absent few reserved c.from.ensures
+    (new_entry _ _ _ _ _ _ c.new-entry.ensures c.start-key.ensures (c.start.ensures c.args.number) (start_anchor _ c.args.number _ place)) c.requires.proper absent few reserved c.from.ensures
     (c.some.ensures ∙ ap Some (c.len-place.ensures ∙ c.self.inside.entries.ok.0))
 
 pub returns-clause-names : goal.returns-clause-names

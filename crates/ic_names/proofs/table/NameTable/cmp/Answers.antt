@@ -1,4 +1,4 @@
-use Rattle.std.proofs.Common.{◌≡◌, ◌≢◌, ◌∙◌, sym, arith}
+use Rattle.std.proofs.Common.{◌≡◌, ◌∙◌, sym, arith}
 use Rattle.ic_names.specs.Keys.{key_of}
 use Rattle.ic_names.specs.Tables.{name_at}
 use Rattle.ic_names.proofs.KeyOrders.{key_less, key_greater, key_tied, tied_order}
@@ -47,6 +47,14 @@ digit_order-requires-clause-depth c =
     let right = rw (← c.self.view_is) at c.key-2.ensures in
     let same : key_of (name_at ns c.args.a.place) ≡ key_of (name_at ns c.args.b.place) = omega (arith, left, right, c.number-left.ensures, c.number-right.ensures, c.if-left-right.false, c.if-right-left.false) in
     (key_tied _ _ (place_proper ns c.lawful.ensures c.args.a.place) (place_proper ns c.lawful.ensures c.args.b.place) same).0
+
+pub digit_order-requires-clause-start : goal.digit_order-requires-clause-start
+digit_order-requires-clause-start c =
+    let ns = c.self.inside.rows.names in
+    let left = rw (← c.self.view_is) at c.key.ensures in
+    let right = rw (← c.self.view_is) at c.key-2.ensures in
+    let same : key_of (name_at ns c.args.a.place) ≡ key_of (name_at ns c.args.b.place) = omega (arith, left, right, c.number-left.ensures, c.number-right.ensures, c.if-left-right.false, c.if-right-left.false) in
+    (key_tied _ _ (place_proper ns c.lawful.ensures c.args.a.place) (place_proper ns c.lawful.ensures c.args.b.place) same).1
 
 pub returns : goal.returns
 returns c =

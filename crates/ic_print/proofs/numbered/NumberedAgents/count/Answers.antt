@@ -9,4 +9,4 @@ returns-clause-few c =
     let views = c.args.self.now.agents.now in
     let few = few_numbers (map shown_agent views) in
     let many = length-map views shown_agent in
-    omega (arith, c.args.self.now.numbering.count, c.len.ensures.len)
+    omega (arith, c.args.self.now.numbering.count, c.count.ensures)

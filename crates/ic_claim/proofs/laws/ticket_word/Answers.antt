@@ -1,5 +1,0 @@
-use Rattle.ic_claim.proofs.Consequences.{bounded_tickets}
-use Rattle.ic_claim.proofs.laws.ticket_word.Goals as goal
-
-pub returns : goal.returns
-returns c = bounded_tickets

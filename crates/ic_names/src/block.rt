@@ -1,0 +1,41 @@
+ghost use Rattle.std.specs.Prelude.{◌≡◌, ◌<◌, ℕ};
+ghost use Rattle.ic_name.specs.Names.{Name, depth as depth_of, start_name, child_name};
+ghost use Rattle.ic_names.specs.Keys.{IsProper};
+ghost use Rattle.ic_names.specs.Blocks.{block_of};
+
+/// The number of digits in a block, at most: so many fit in 64 bits. At each multiple of it there is an anchor.
+pub const BLOCK: u64 = 32;
+
+/// A block of digits: those of a name behind its anchor, in one number. The anchor is the nearest ancestor at a depth that is
+/// a multiple of 32; that of a start agent's name is the name itself. Names of one depth and one anchor are in the order of
+/// their blocks.
+#[derive(Clone, Copy)]
+pub struct Block(u64);
+
+impl Block {
+    /// The block of a start agent's name, in which there are no digits.
+    pub fn start() -> Block
+        ensures { (k : ℕ) → result.0 ≡ block_of (start_name k) }
+    {
+        Block(0)
+    }
+
+    /// The number.
+    pub fn number(self) -> u64
+        ensures { result ≡ self.0 }
+    {
+        self.0
+    }
+
+    /// The block of the child with this digit, for a name of this depth and block.
+    pub fn child(self, depth: u64, digit: u8) -> Block
+        requires small { digit < 4 }
+        requires block { (n : Name) × IsProper n × (depth ≡ depth_of n) × (self.0 ≡ block_of n) }
+        ensures { (n : Name) → IsProper n → depth ≡ depth_of n → self.0 ≡ block_of n → result.0 ≡ block_of (child_name n digit) }
+    {
+        if depth % BLOCK == 0 {
+            return Block(u64::from(digit));
+        }
+        Block(4 * self.0 + u64::from(digit))
+    }
+}

@@ -1,0 +1,4 @@
+pub mod TakenElements
+pub mod Awakened
+pub mod PairsAdmitted
+pub mod PairsLeft

@@ -1,0 +1,45 @@
+use Rattle.std.proofs.Common.{◌<◌, length, arith, subst, ◌∙◌}
+use Rattle.std.proofs.lemmas.List.{length-map}
+use Rattle.ic_path.proofs.Alikes.{alike-length}
+use Rattle.ic_queue.specs.Queues.{place_of}
+use Rattle.ic_queue.proofs.Heaps.{one_least, queued_inside}
+use Rattle.ic_set.specs.Queues.{Leads}
+use Rattle.ic_set.proofs.QueuedLeads.{never, others_lead, takes_front}
+use Rattle.ic_standing.proofs.queue.drop_stale.Goals as goal
+
+pub is_lead-requires : goal.is_lead-requires
+is_lead-requires g c =
+    let heap = c.loop-name.invariant.heap in
+    queued_inside heap.named (c.in-Some.ensures.least c.args.set.now.names heap).present
+
+pub loop-name-smaller : goal.loop-name-smaller
+loop-name-smaller g c =
+    let heap = c.loop-name.invariant.heap in
+    let names = c.names.ensures ∙ c.roster.ensures.names in
+    let least = rw names at c.take_least.ensures.least in
+    let taken = takes_front c.args.set.now.names _ _ c.in-Some.name.place c.take_least.result c.lawful.ensures.table heap (c.in-Some.ensures.least c.args.set.now.names heap) least c.take_least.ensures.others c.take_least.ensures.none in
+    let fewer = alike-length taken in
+    let before = length-map c.loop-name.queue.leads place_of in
+    let after = length-map c.take_least.new.self.leads place_of in
+    let smaller : length c.take_least.new.self.leads < length c.loop-name.queue.leads = omega arith in
+    smaller
+
+pub loop-name-preserved : goal.loop-name-preserved
+loop-name-preserved g c =
+    let heap = c.loop-name.invariant.heap in
+    let names = c.names.ensures ∙ c.roster.ensures.names in
+    let least = rw names at c.take_least.ensures.least in
+    let taken = takes_front c.args.set.now.names _ _ c.in-Some.name.place c.take_least.result c.lawful.ensures.table heap (c.in-Some.ensures.least c.args.set.now.names heap) least c.take_least.ensures.others c.take_least.ensures.none in
+    let before = c.loop-name.invariant.room in
+    let after = c.take_least.ensures.room in
+    record {
+      heap = rw names at c.take_least.ensures.heap;
+      each = others_lead c.args.set.now _ _ c.in-Some.name.place c.loop-name.invariant.each (λ l. never c.is_lead.result c.if-is_lead.false (c.is_lead.ensures.1 l)) taken;
+      room = omega arith;
+    }
+
+pub returns-then-is_lead-clause-front : goal.returns-then-is_lead-clause-front
+returns-then-is_lead-clause-front g c =
+    let heap = c.loop-name.invariant.heap in
+    let least = c.in-Some.ensures.least c.args.set.now.names heap in
+    λ n also. subst (Leads c.args.set.now) (one_least c.args.set.now.names _ c.in-Some.name.place n c.lawful.ensures.table heap least also) (c.is_lead.ensures.0 c.if-is_lead.true)

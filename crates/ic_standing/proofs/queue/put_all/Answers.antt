@@ -1,0 +1,25 @@
+use Rattle.std.proofs.Common.{inl, inr, arith}
+use Rattle.std.proofs.lemmas.List.{take_all}
+use Rattle.ic_path.proofs.Picks.{none_in}
+use Rattle.ic_standing.proofs.TakenElements.{in_taken}
+use Rattle.ic_standing.proofs.queue.put_all.Goals as goal
+
+pub loop-agent-init : goal.loop-agent-init
+loop-agent-init g c = record { heap = c.requires.heap; stay = λ n i. i; led = λ e p h i. absurd (none_in i); room = omega arith }
+
+pub loop-agent-preserved : goal.loop-agent-preserved
+loop-agent-preserved g c =
+    let i = c.loop-agent.invariant in
+    let before = i.room in
+    let after = c.put.ensures.room in
+    record {
+      heap = c.put.ensures.heap;
+      stay = λ n j. c.put.ensures.stay n (i.stay n j);
+      led = λ e p h j. elim (in_taken c.args.agents.now c.loop-agent.agent-index _ c.loop-agent-test.true j) [ inl k ↦ c.put.ensures.stay e.lead (i.led e p h k) | inr same ↦ c.put.ensures.led e p h same ];
+      room = omega arith;
+    }
+
+pub returns-clause-led : goal.returns-clause-led
+returns-clause-led g c =
+    let all = take_all c.loop-agent.agent-index c.args.agents.now c.loop-agent-test.false in
+    rw all at c.loop-agent.invariant.led

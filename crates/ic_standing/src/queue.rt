@@ -1,0 +1,139 @@
+ghost use Rattle.std.specs.Prelude.{◌≡◌, ◌<◌, ◌≤◌, ◌↔◌, IsTrue, Some, IfSome, length};
+ghost use Rattle.ic_name.specs.Names.{Name};
+ghost use Rattle.ic_name.specs.Events.{Event as AnEvent};
+ghost use Rattle.ic_names.specs.Tables.{name_at};
+ghost use Rattle.ic_path.specs.Orders.{IsIn};
+ghost use Rattle.ic_queue.specs.Queues.{IsHeap};
+ghost use Rattle.ic_set.specs.declared.pairs.ActivePair.{ActivePair as APair};
+ghost use Rattle.ic_set.specs.Pairs.{IsPairOf, IsActivePair};
+ghost use Rattle.ic_set.specs.Queues.{Leads, IsQueued, HasLeads, FrontLeads};
+
+use ic_link::LinkStore;
+use ic_name::AgentId;
+use ic_names::NameId;
+use ic_queue::LeadQueue;
+use ic_set::{ActivePair, BareSet};
+
+/// Puts in each of these agents that leads an active pair. There is room for every name.
+pub(crate) fn put_all<L: LinkStore>(queue: &mut LeadQueue, set: &BareSet<L>, agents: &[AgentId])
+    requires heap { IsHeap set.now.names queue.old.leads }
+    requires room { length set.now.names ≤ queue.old.room }
+    ensures heap { IsHeap set.now.names queue.new.leads }
+    ensures stay { (n : Name) → IsQueued set.now.names queue.old.leads n → IsQueued set.now.names queue.new.leads n }
+    ensures led { (e : AnEvent) (p : APair) → IsPairOf set.now.set e p → IsIn p.lead agents.now → IsQueued set.now.names queue.new.leads e.lead }
+    ensures room { queue.old.room ≤ queue.new.room }
+{
+    for agent in agents {
+        put(queue, set, *agent);
+    }
+}
+
+/// Puts in the lead of each of these pairs. There is room for every name.
+pub(crate) fn put_leads<L: LinkStore>(
+    queue: &mut LeadQueue,
+    set: &BareSet<L>,
+    pairs: &[Option<ActivePair>],
+)
+    requires active { (p : APair) → IsIn (Some p) pairs.now → IsActivePair set.now.set p }
+    requires heap { IsHeap set.now.names queue.old.leads }
+    requires room { length set.now.names ≤ queue.old.room }
+    ensures heap { IsHeap set.now.names queue.new.leads }
+    ensures stay { (n : Name) → IsQueued set.now.names queue.old.leads n → IsQueued set.now.names queue.new.leads n }
+    ensures led { (e : AnEvent) (p : APair) → IsPairOf set.now.set e p → IsIn (Some p) pairs.now → IsQueued set.now.names queue.new.leads e.lead }
+    ensures room { queue.old.room ≤ queue.new.room }
+{
+    for pair in pairs {
+        put_pair(queue, set, *pair);
+    }
+}
+
+/// Puts in the agent whose name is at this place, if it leads an active pair. There is room for every name.
+pub(crate) fn put_lead<L: LinkStore>(queue: &mut LeadQueue, set: &BareSet<L>, name: NameId)
+    requires inside { name.place < length set.now.names }
+    requires heap { IsHeap set.now.names queue.old.leads }
+    requires room { length set.now.names ≤ queue.old.room }
+    ensures heap { IsHeap set.now.names queue.new.leads }
+    ensures stay { (n : Name) → IsQueued set.now.names queue.old.leads n → IsQueued set.now.names queue.new.leads n }
+    ensures led { (e : AnEvent) (p : APair) → IsPairOf set.now.set e p → e.lead ≡ name_at set.now.names name.place → IsQueued set.now.names queue.new.leads e.lead }
+    ensures room { queue.old.room ≤ queue.new.room }
+{
+    set.lawful();
+    if is_lead(set, name) {
+        queue.put(set.roster().names(), name);
+    }
+}
+
+/// Puts in the lead of the pair, if there is one. There is room for every name.
+fn put_pair<L: LinkStore>(queue: &mut LeadQueue, set: &BareSet<L>, pair: Option<ActivePair>)
+    requires active { IfSome pair (λ p. IsActivePair set.now.set p) }
+    requires heap { IsHeap set.now.names queue.old.leads }
+    requires room { length set.now.names ≤ queue.old.room }
+    ensures heap { IsHeap set.now.names queue.new.leads }
+    ensures stay { (n : Name) → IsQueued set.now.names queue.old.leads n → IsQueued set.now.names queue.new.leads n }
+    ensures led { (e : AnEvent) (p : APair) → IsPairOf set.now.set e p → Some p ≡ pair → IsQueued set.now.names queue.new.leads e.lead }
+    ensures room { queue.old.room ≤ queue.new.room }
+{
+    set.lawful();
+    let Some(pair) = pair else {
+        return;
+    };
+    let Some(entry) = set.roster().agent(pair.lead) else {
+        unreachable!()
+    };
+    queue.put(set.roster().names(), entry.name);
+}
+
+/// Puts in the agent, if it leads an active pair. There is room for every name.
+fn put<L: LinkStore>(queue: &mut LeadQueue, set: &BareSet<L>, agent: AgentId)
+    requires heap { IsHeap set.now.names queue.old.leads }
+    requires room { length set.now.names ≤ queue.old.room }
+    ensures heap { IsHeap set.now.names queue.new.leads }
+    ensures stay { (n : Name) → IsQueued set.now.names queue.old.leads n → IsQueued set.now.names queue.new.leads n }
+    ensures led { (e : AnEvent) (p : APair) → IsPairOf set.now.set e p → p.lead ≡ agent → IsQueued set.now.names queue.new.leads e.lead }
+    ensures room { queue.old.room ≤ queue.new.room }
+{
+    set.lawful();
+    let Some(pair) = set.pair_with(agent) else {
+        return;
+    };
+    if pair.lead != agent {
+        return;
+    }
+    let Some(entry) = set.roster().agent(agent) else {
+        unreachable!()
+    };
+    queue.put(set.roster().names(), entry.name);
+}
+
+/// Names at the front whose agents lead no active pair go. It takes no memory.
+pub(crate) fn drop_stale<L: LinkStore>(queue: &mut LeadQueue, set: &BareSet<L>)
+    requires heap { IsHeap set.now.names queue.old.leads }
+    requires each { HasLeads set.now queue.old.leads }
+    ensures heap { IsHeap set.now.names queue.new.leads }
+    ensures each { HasLeads set.now queue.new.leads }
+    ensures front { FrontLeads set.now queue.new.leads }
+    ensures room { queue.old.room ≤ queue.new.room }
+{
+    set.lawful();
+    while let Some(name) = queue.least() {
+        if is_lead(set, name) {
+            break;
+        }
+        queue.take_least(set.roster().names());
+    }
+}
+
+/// Whether the agent whose name is at this place leads an active pair.
+fn is_lead<L: LinkStore>(set: &BareSet<L>, name: NameId) -> bool
+    requires { name.place < length set.now.names }
+    ensures { IsTrue result ↔ Leads set.now name.place }
+{
+    set.lawful();
+    let Some(agent) = set.roster().named(name) else {
+        return false;
+    };
+    let Some(pair) = set.pair_with(agent) else {
+        return false;
+    };
+    pair.lead == agent
+}
