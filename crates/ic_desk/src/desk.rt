@@ -4,7 +4,7 @@ ghost use Rattle.ic_answer.specs.Texts.{answer_text};
 ghost use Rattle.ic_command.specs.declared.command.Command.TheVariants.{Reduce};
 ghost use Rattle.ic_command.specs.declared.request.Request.TheVariants as request;
 ghost use Rattle.ic_desk.specs.declared.fault.DeskFault.TheVariants.{Settle};
-ghost use Rattle.ic_desk.specs.ManyWorkers.{TurnsWith};
+ghost use Rattle.ic_desk.specs.ManyWorkers.{IsReduction, TurnsWith};
 ghost use Rattle.ic_desk.specs.Views.{IsOver, TurnsByRequest};
 
 use crate::absorbing::absorb_events;
@@ -87,7 +87,7 @@ impl Desk<Store> {
     /// the desk comes back with the answer.
     ///
     /// `DeskFault::Memory` where the history has grown and there is no memory for the answer, and `DeskFault::Settle` where
-    /// the workers' receipts aren't what the history says, which takes two workers or more; the desk is gone then.
+    /// the workers' receipts aren't what the history says, which takes a `reduce` and two workers or more; the desk is gone then.
     pub fn carry_out_with<T: Threads + Wait + Sync, G: Gate>(
         mut self,
         threads: &T,
@@ -98,7 +98,7 @@ impl Desk<Store> {
     ) -> Result<(Desk<Store>, Answer), DeskFault>
         requires { (0 < workers) × (workers ≤ MAX_WORKERS) }
         ensures turns { IfOk result (λ r. TurnsWith workers self request (answer_text r.1) r.0) }
-        ensures settle { IfErr result (λ fault. fault ≡ Settle → 1 < workers) }
+        ensures settle { IfErr result (λ fault. fault ≡ Settle → (1 < workers) × IsReduction request) }
     {
         match request {
             Request::Bench(Command::Reduce(most))
