@@ -9,6 +9,7 @@ begins. The last line counts the cases that passed and failed.
 import os
 import pathlib
 import random
+import resource
 import subprocess
 import sys
 import tempfile
@@ -122,6 +123,21 @@ def are_wrong_words(program):
     return True
 
 
+def are_threads_that_cannot_start(program):
+    """With room for the stacks of a few of 63 threads, the others aren't started, and the answer is the same."""
+
+    def leave_little_room():
+        resource.setrlimit(resource.RLIMIT_AS, (32 << 20, 32 << 20))
+
+    status, out, said = run(
+        program,
+        ["--workers", "64"],
+        b"E = E;\n" * 200 + b"---\nreduce 1000\nnet\n",
+        preexec_fn=leave_little_room,
+    )
+    return (status, out, said) == (0, b"reduced 200 normal\n# agents 0 wires 0 rings 0\n", b"")
+
+
 CASES = [
     ("a folder as input", is_a_folder_as_input),
     ("a closed input", is_a_closed_input),
@@ -134,6 +150,7 @@ CASES = [
     ("random bytes", are_random_bytes),
     ("100 MB of comments", is_much_comment),
     ("wrong command lines", are_wrong_words),
+    ("threads that can't be started", are_threads_that_cannot_start),
 ]
 
 

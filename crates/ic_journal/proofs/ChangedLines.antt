@@ -4,16 +4,15 @@ use Rattle.std.proofs.lemmas.Bool.{cases_lt}
 use Rattle.std.proofs.lemmas.Option.{slice_get-map, slice_get_read, slice_get_within}
 use Rattle.ic_name.specs.Names.{Name}
 use Rattle.ic_name.specs.Events.{Event}
-use Rattle.ic_name.specs.declared.lines.Call.{Call}
 use Rattle.ic_name.specs.declared.lines.Call.TheVariants.{Fire, Undo}
-use Rattle.ic_name.specs.declared.lines.Reply.{Reply}
-use Rattle.ic_name.specs.declared.lines.Reply.TheVariants.{Fired, Undone}
+use Rattle.ic_name.specs.declared.lines.Reply.TheVariants.{Undone}
 use Rattle.ic_name.specs.declared.lines.Line.{Line}
 use Rattle.ic_path.specs.Orders.{IsIn}
 use Rattle.ic_path.proofs.Picks.{none_in, in_first, in-cons_cases, pick_before}
 use Rattle.ic_shown.proofs.Elements.{in_behind, in-append_cases}
 use Rattle.ic_journal.specs.declared.kept.KeptLine.{KeptLine}
-use Rattle.ic_journal.specs.Kept.{call_in, line_in}
+use Rattle.ic_journal.specs.declared.kept.KeptLine.TheVariants as kept
+use Rattle.ic_journal.specs.Kept.{line_in}
 use Rattle.ic_journal.specs.Changed.{IsFiredIn, IsChangedIn, IsChanged}
 
 -- the line that is read at a place, by the names
@@ -22,17 +21,22 @@ line_read names ls read k l same in_range is =
     let found : slice_get ls k ≡ Some l = subst (λ (xs : List KeptLine). slice_get xs k ≡ Some l) same (slice_get_read read _ k l refl (ltb-true _ _ (sym in_range)) is) in
     slice_get-map (line_in names) ls k ∙ ap (option_map (line_in names)) found
 
--- with its call and its reply
-pub line_as : (names : List Name) (lines : List Line) (k : ℕ) (l : KeptLine) (call : Call) (reply : Reply) → l.reply ≡ reply → call_in names l.call ≡ call → slice_get lines k ≡ Some (line_in names l) → slice_get lines k ≡ Some (record { call = call; reply = reply })
-line_as names lines k l call reply r c at = at ∙ λ i. Some (record { call = c i; reply = r i })
-
 -- the lines that stand at one place are one
 one_line : (lines : List Line) (k : ℕ) (x y : Line) → slice_get lines k ≡ Some x → slice_get lines k ≡ Some y → x ≡ y
 one_line lines k x y a b = cc
 
--- a line whose reply isn't that of an undo has changed what it fired
-pub only_fired : (lines : List Line) (k : ℕ) (x : Line) (P : Event → Type 0) → slice_get lines k ≡ Some x → x.reply ≢ Undone → ((e : Event) → P e ↔ IsFiredIn lines k e) → (e : Event) → P e ↔ IsChangedIn lines k e
-only_fired lines k x P at other each e = (λ p. inl ((each e).0 p), λ h. elim h [ inl f ↦ (each e).1 f | inr u ↦ absurd (other (ap (λ (l : Line). l.reply) (one_line lines k x _ at u.1))) ])
+-- a line that undid a firing is kept as one that did
+kept_undone : (names : List Name) (l : KeptLine) (n : ℕ) → line_in names l ≡ record { call = Undo n; reply = Undone } → l ≡ kept.Undone n
+kept_undone names (kept.Fired i) n same = (let call = ap (λ (x : Line). x.call) same in absurd cc)
+kept_undone names (kept.Limited limit i) n same = (let call = ap (λ (x : Line). x.call) same in absurd cc)
+kept_undone names (kept.Refused p) n same = (let call = ap (λ (x : Line). x.call) same in absurd cc)
+kept_undone names (kept.Undone m) n same = (let call = ap (λ (x : Line). x.call) same in cc)
+kept_undone names (kept.NotStanding m) n same = (let reply = ap (λ (x : Line). x.reply) same in absurd cc)
+kept_undone names (kept.Held m by) n same = (let reply = ap (λ (x : Line). x.reply) same in absurd cc)
+
+-- a line that undid nothing has changed what it fired
+pub only_fired : (names : List Name) (lines : List Line) (k : ℕ) (l : KeptLine) (P : Event → Type 0) → slice_get lines k ≡ Some (line_in names l) → ((n : ℕ) → l ≢ kept.Undone n) → ((e : Event) → P e ↔ IsFiredIn lines k e) → (e : Event) → P e ↔ IsChangedIn lines k e
+only_fired names lines k l P at other each e = (λ p. inl ((each e).0 p), λ h. elim h [ inl f ↦ (each e).1 f | inr u ↦ absurd (other u.0 (kept_undone names l u.0 (one_line lines k _ _ at u.1))) ])
 
 -- the line of an undo that was done has changed what the line fired that it names
 pub only_undone : (lines : List Line) (k l : ℕ) (P : Event → Type 0) → slice_get lines k ≡ Some (record { call = Undo l; reply = Undone }) → ((e : Event) → P e ↔ IsFiredIn lines l e) → (e : Event) → P e ↔ IsChangedIn lines k e
@@ -46,11 +50,6 @@ only_undone lines k l P at each e = (
         (each e).1 (subst (λ (n : ℕ). IsFiredIn lines n e) number u.2)
   ],
 )
-
--- a firing that wasn't done has changed nothing
-pub none_changed : (lines : List Line) (k : ℕ) (f : Event) → slice_get lines k ≡ Some (record { call = Fire f; reply = Undone }) → (e : Event) → IsChangedIn lines k e → ⊥
-none_changed lines k f at e (inl d) = let same : Undone ≡ Fired = ap (λ (x : Line). x.reply) (one_line lines k _ _ at d) in absurd cc
-none_changed lines k f at e (inr u) = let same : Fire f ≡ Undo u.0 = ap (λ (x : Line). x.call) (one_line lines k _ _ at u.1) in absurd cc
 
 -- a line between these two fired or undid the event
 abbrev pub IsChangedBetween : List Line → ℕ → ℕ → Event → Type 0

@@ -1,5 +1,5 @@
 -- What is kept of a bench through a call.
-use Rattle.std.proofs.Common.{◌≡◌, ℕ, ◌+◌, ◌≤◌, List, [], ◌∷◌, ◌++◌, map, length, refl, sym, ap, arith, ◌∙◌, subst}
+use Rattle.std.proofs.Common.{◌≡◌, ℕ, ◌+◌, ◌≤◌, List, [], ◌∷◌, ◌++◌, map, length, Ok, refl, sym, ap, arith, ◌∙◌, subst}
 use Rattle.std.proofs.lemmas.List.{length-map}
 use Rattle.ic_name.specs.Names.{Name}
 use Rattle.ic_name.specs.Events.{Event}
@@ -13,18 +13,19 @@ use Rattle.ic_theory.specs.Active.{IsActive}
 use Rattle.ic_theory.specs.Machine.{State, noted, MachineStep, IsDeep, IsFull}
 use Rattle.ic_roster.specs.declared.interaction.Interaction.{Interaction}
 use Rattle.ic_roster.specs.Rosters.{event_in, IsNamed}
+use Rattle.ic_set.specs.declared.pairs.Fired.{Fired}
 use Rattle.ic_set.specs.Changes.{IsSame, Admits, TakesOut}
 use Rattle.ic_set.specs.Entering.{GrowsBy}
 use Rattle.ic_set.specs.Removal.{IsFree}
 use Rattle.ic_set.specs.Views.{NamedView, standing}
 use Rattle.ic_set.proofs.GrownNames.{Keeps, grown_keeps, kept_event}
-use Rattle.ic_journal.specs.declared.kept.KeptCall.TheVariants as kept
 use Rattle.ic_journal.specs.declared.kept.KeptLine.{KeptLine}
-use Rattle.ic_journal.specs.Kept.{line_in, IsCallNamed, AreLinesNamed}
+use Rattle.ic_journal.specs.declared.kept.KeptLine.TheVariants as kept
+use Rattle.ic_journal.specs.Kept.{line_in, IsLineNamed, AreLinesNamed}
 use Rattle.ic_journal.specs.Histories.{HistoryView}
-use Rattle.ic_journal.specs.Views.{view_of}
+use Rattle.ic_journal.specs.Views.{BenchView, set_of, view_of}
 use Rattle.ic_journal.specs.Benches.{IsAt, IsKept}
-use Rattle.ic_journal.specs.Calls.{Steps, Refuses, Stays}
+use Rattle.ic_journal.specs.Calls.{Steps, Refuses, Stays, FiresPair}
 use Rattle.ic_journal.proofs.Answering.{running, more_serials, left_serials, same_running, refused, refused_running}
 use Rattle.ic_journal.proofs.KeptLines.{still_named, kept_lines, more_lines, more_named}
 use Rattle.ic_journal.proofs.MachineSteps.{fired_step, undone_step}
@@ -54,8 +55,27 @@ module _ (s t : NamedView) (h k : HistoryView) (is : IsKept s h) (same : IsSame 
   pub same_stays : h.room ≤ k.room → Stays (view_of s h) (view_of t k)
   same_stays more = record { same = same; lines = shown; room = more }
 
+-- where only room for lines was made before
+module _ (s : NamedView) (h k : HistoryView) (lines : k.lines ≡ h.lines) (more : h.room ≤ k.room) where
+  -- the lines show the same
+  same_lines : (view_of s k).lines ≡ (view_of s h).lines
+  same_lines = ap (map (line_in s.names)) lines
+
+  -- a step is one of the machine without that room
+  roomier_steps : (new : BenchView) (call : Call) (answer : Reply) → Steps (view_of s k) call answer new → Steps (view_of s h) call answer new
+  roomier_steps new call answer steps = record {
+    start = steps.start;
+    lines = steps.lines ∙ ap (λ ls. ls ++ record { call = call; reply = answer } ∷ []) same_lines;
+    room = (let less = steps.room in omega (arith, more, less));
+    step = λ st at. steps.step st (record { history = rw same_lines at.history; standing = at.standing });
+  }
+
+  -- so a firing is one
+  pub roomier_fires : (new : BenchView) (e : Event) (fired : Fired) → FiresPair (view_of s k) e (Ok fired) new → FiresPair (view_of s h) e (Ok fired) new
+  roomier_fires new e fired f = ((roomier_steps new (Fire e) reply.Fired f.0.0, subst (λ ls. Admits s.set e (length ls) fired.id (set_of new)) same_lines f.0.1), f.1)
+
 -- where a refused call is noted
-module _ (s : NamedView) (h k : HistoryView) (is : IsKept s h) (l : KeptLine) (call : Call) (answer : Reply) (more : k.lines ≡ h.lines ++ l ∷ []) (named : IsCallNamed s.names l.call)
+module _ (s : NamedView) (h k : HistoryView) (is : IsKept s h) (l : KeptLine) (call : Call) (answer : Reply) (more : k.lines ≡ h.lines ++ l ∷ []) (named : IsLineNamed s.names l)
     (line : line_in s.names l ≡ record { call = call; reply = answer }) (answers : (st : State) → IsAt (view_of s h) st → MachineStep s.set.start st call answer (noted st)) where
   -- its line is there
   noted_line : (view_of s k).lines ≡ (view_of s h).lines ++ record { call = call; reply = answer } ∷ []
@@ -74,7 +94,7 @@ module _ (s : NamedView) (h k : HistoryView) (is : IsKept s h) (l : KeptLine) (c
 
 -- where an event is fired
 module _ (s t : NamedView) (h k : HistoryView) (is : IsKept s h) (grown : GrowsBy 4 s.names t.names) (i : Interaction) (named : IsNamed s.names i) (e : Event) (its : event_in s.names i ≡ e)
-    (more : k.lines ≡ h.lines ++ record { call = kept.Fired i; reply = reply.Fired } ∷ []) (n : ℕ) (count : n ≡ length h.lines) (id : EventId) (admits : Admits s.set e n id t.set)
+    (more : k.lines ≡ h.lines ++ kept.Fired i ∷ []) (n : ℕ) (count : n ≡ length h.lines) (id : EventId) (admits : Admits s.set e n id t.set)
     (active : IsActive s.set.start (standing s.set) e) (shallow : ¬ (IsDeep e)) (few : ¬ (IsFull s.set.start (standing s.set) e)) (room : h.room ≤ k.room + 1) where
   -- names are kept
   keeps : Keeps s.names t.names
@@ -83,7 +103,7 @@ module _ (s t : NamedView) (h k : HistoryView) (is : IsKept s h) (grown : GrowsB
   -- its line is there
   fired_line : (view_of t k).lines ≡ (view_of s h).lines ++ record { call = Fire e; reply = reply.Fired } ∷ []
   fired_line =
-      more_lines s.names t.names keeps h.lines k.lines (record { call = kept.Fired i; reply = reply.Fired }) _ is.named more
+      more_lines s.names t.names keeps h.lines k.lines (kept.Fired i) _ is.named more
       (λ u. record { call = Fire ((kept_event s.names t.names keeps i named ∙ its) u); reply = reply.Fired })
 
   -- it is admitted under the number of its line
@@ -98,23 +118,23 @@ module _ (s t : NamedView) (h k : HistoryView) (is : IsKept s h) (grown : GrowsB
   pub fired_kept : length k.lines + k.room ≤ MAX_LINES → IsKept t k
   fired_kept short = record {
     running = running (view_of s h) (view_of t k) (Fire e) reply.Fired is.running fired_steps (few_lines t.names k.lines k.room short) (more_serials (view_of s h) (view_of t k) e id is.running fired_admits);
-    named = more_named s.names t.names keeps h.lines k.lines (record { call = kept.Fired i; reply = reply.Fired }) is.named more (still_named s.names t.names keeps i named);
+    named = more_named s.names t.names keeps h.lines k.lines (kept.Fired i) is.named more (still_named s.names t.names keeps i named);
   }
 
 -- where a firing is undone
 module _ (s t : NamedView) (h k : HistoryView) (is : IsKept s h) (names : t.names ≡ s.names) (d : EventId) (out : TakesOut s.set d t.set) (free : IsFree s.set d)
-    (more : k.lines ≡ h.lines ++ record { call = kept.Undo d.line; reply = reply.Undone } ∷ []) (room : h.room ≤ k.room + 1) where
+    (more : k.lines ≡ h.lines ++ kept.Undone d.line ∷ []) (room : h.room ≤ k.room + 1) where
   -- names are kept
   keeps_all : Keeps s.names t.names
   keeps_all = subst (Keeps s.names) (sym names) (keeps_self s.names)
 
   -- the step of the machine
   pub undone_steps : Steps (view_of s h) (Undo d.line) reply.Undone (view_of t k)
-  undone_steps = undone_step (view_of s h) (view_of t k) d out free (more_lines s.names t.names keeps_all h.lines k.lines (record { call = kept.Undo d.line; reply = reply.Undone }) _ is.named more refl) room
+  undone_steps = undone_step (view_of s h) (view_of t k) d out free (more_lines s.names t.names keeps_all h.lines k.lines (kept.Undone d.line) _ is.named more refl) room
 
   -- the bench is kept
   pub undone_kept : length k.lines + k.room ≤ MAX_LINES → IsKept t k
   undone_kept short = record {
     running = running (view_of s h) (view_of t k) (Undo d.line) reply.Undone is.running undone_steps (few_lines t.names k.lines k.room short) (left_serials (view_of s h) (view_of t k) d is.running out);
-    named = more_named s.names t.names keeps_all h.lines k.lines (record { call = kept.Undo d.line; reply = reply.Undone }) is.named more tt;
+    named = more_named s.names t.names keeps_all h.lines k.lines (kept.Undone d.line) is.named more tt;
   }

@@ -6,12 +6,12 @@ ghost use Rattle.ic_journal.specs.Calls.{id_answer, Fires, Undoes, Reserves};
 
 use crate::faults::{FireFault, ReserveFault, UndoFault};
 use crate::history::History;
-use crate::kept::KeptCall;
+use crate::kept::{KeptLine, RefusedProposal};
 use crate::proposal::Proposal;
 use crate::verdict::judge;
 use ic_link::LinkStore;
+use ic_name::EventId;
 use ic_name::limits::MAX_LINES;
-use ic_name::{EventId, Reply};
 use ic_set::Fired;
 use ic_standing::StandingSet;
 use ic_start::Start;
@@ -114,25 +114,22 @@ impl<L: LinkStore> Bench<L> {
         let Ok(()) = self.history.reserve(1) else {
             return Err(FireFault::Memory(proposal));
         };
-        let set = self.set.bare();
-        set.lawful();
-        let pair = match judge(set, proposal.event()) {
+        let pair = match judge(self.set.bare(), proposal.event()) {
             Ok(pair) => pair,
             Err(refusal) => {
-                let kept = match Box::new(self.alloc, proposal) {
+                let refused = RefusedProposal { proposal, refusal };
+                let kept = match Box::new(self.alloc, refused) {
                     Ok(kept) => kept,
-                    Err(failed) => return Err(FireFault::Memory(failed.value)),
+                    Err(failed) => return Err(FireFault::Memory(failed.value.proposal)),
                 };
-                self.history.note(KeptCall::Refused(kept), refusal.reply());
+                self.history.note(KeptLine::Refused(kept));
                 return Err(refusal.fault());
             }
         };
-        let event = set.interaction_of(pair);
-        let Ok(fired) = self.set.admit(pair, line as u32) else {
-            return Err(FireFault::Memory(proposal));
-        };
-        self.history.note(KeptCall::Fired(event), Reply::Fired);
-        Ok(fired)
+        match self.admit_noted(pair) {
+            Ok(fired) => Ok(fired),
+            Err(_) => Err(FireFault::Memory(proposal)),
+        }
     }
 
     /// Undoes the firing of the event whose firing is the line of the id: one step of the machine, which adds a line. The
@@ -151,20 +148,22 @@ impl<L: LinkStore> Bench<L> {
         let Ok(()) = self.history.reserve(1) else {
             return Err(UndoFault::Memory);
         };
-        let call = KeptCall::Undo(id.line);
         let set = self.set.bare();
         let Some(standing) = set.roster().at_line(id.line) else {
-            self.history.note(call, Reply::NotStanding);
+            self.history.note(KeptLine::NotStanding(id.line));
             return Err(UndoFault::NotStanding);
         };
         match set.least_dependent(standing) {
             Some(holder) => {
-                self.history.note(call, Reply::Held(holder.line));
+                self.history.note(KeptLine::Held {
+                    line: id.line,
+                    by: holder.line,
+                });
                 Err(UndoFault::Held(holder))
             }
             None => {
                 self.set.take_out(standing);
-                self.history.note(call, Reply::Undone);
+                self.history.note(KeptLine::Undone(id.line));
                 Ok(())
             }
         }

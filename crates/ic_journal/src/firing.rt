@@ -1,16 +1,18 @@
+ghost use Rattle.std.specs.Prelude.{◌≤◌, None, Ok, IfOk, OnErr};
 ghost use Rattle.ic_name.specs.Events.{Event as AnEvent};
 ghost use Rattle.ic_set.specs.Pairs.{IsActivePair, IsPairOf};
-ghost use Rattle.ic_journal.specs.Calls.{FiresPair};
+ghost use Rattle.ic_journal.specs.Calls.{FiresPair, Stays};
+ghost use Rattle.ic_journal.specs.Verdicts.{Meets};
 ghost use Rattle.ic_journal.specs.Views.{set_of};
 
 use crate::bench::Bench;
 use crate::faults::PairFault;
-use crate::kept::KeptCall;
+use crate::kept::KeptLine;
 use crate::verdict::limit_of;
 use ic_link::LinkStore;
-use ic_name::Reply;
 use ic_name::limits::MAX_LINES;
 use ic_set::{ActivePair, Fired};
+use std::alloc::AllocError;
 
 impl<L: LinkStore> Bench<L> {
     /// Fires an active pair as `fire` does the proposal of its agents, but makes and looks up no name: one step of the
@@ -32,17 +34,31 @@ impl<L: LinkStore> Bench<L> {
             return Err(PairFault::Memory);
         };
         let set = self.set.bare();
-        set.lawful();
         let event = set.interaction_of(pair);
         if let Some(limit) = limit_of(set, event) {
-            self.history
-                .note(KeptCall::Fired(event), limit.refusal().reply());
+            self.history.note(KeptLine::Limited(limit, event));
             return Err(limit.fault());
         }
-        let Ok(fired) = self.set.admit(pair, line as u32) else {
-            return Err(PairFault::Memory);
-        };
-        self.history.note(KeptCall::Fired(event), Reply::Fired);
+        match self.admit_noted(pair) {
+            Ok(fired) => Ok(fired),
+            Err(_) => Err(PairFault::Memory),
+        }
+    }
+
+    /// Admits an active pair that meets no limit, and notes the line of its firing, for which there is room. At an error
+    /// memory ran out, no line was added, and nothing that stands changed.
+    pub(crate) fn admit_noted(&mut self, pair: ActivePair) -> Result<Fired, AllocError>
+        requires room { 1 ≤ self.old.room }
+        requires active { (e : AnEvent) × IsPairOf (set_of self.old) e pair × Meets (set_of self.old) e None }
+        ensures fired { IfOk result (λ fired. (e : AnEvent) → IsPairOf (set_of self.old) e pair → FiresPair self.old e (Ok fired) self.new) }
+        ensures wanting { OnErr result (Stays self.old self.new) }
+    {
+        let set = self.set.bare();
+        set.lawful();
+        let event = set.interaction_of(pair);
+        let line = self.history.len();
+        let fired = self.set.admit(pair, line as u32)?;
+        self.history.note(KeptLine::Fired(event));
         Ok(fired)
     }
 }

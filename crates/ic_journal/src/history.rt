@@ -4,7 +4,7 @@ ghost use Rattle.ic_name.specs.Events.{Event as AnEvent};
 ghost use Rattle.ic_journal.specs.Changed.{IsChangedIn, IsFiredIn};
 ghost use Rattle.ic_journal.specs.Kept.{line_in, AreLinesNamed};
 
-use crate::kept::{KeptCall, KeptLine};
+use crate::kept::KeptLine;
 use ic_name::limits::MAX_LINES;
 use ic_name::{Call, Event, Line, Reply};
 use ic_names::NameTable;
@@ -41,13 +41,6 @@ impl History {
         }
     }
 
-    /// What holds of every history.
-    pub fn lawful(&self)
-        ensures { length self.now.lines + self.now.room ≤ MAX_LINES }
-    {
-        let _ = &self.lines;
-    }
-
     /// The number of lines.
     pub fn len(&self) -> usize
         ensures count { result ≡ length self.now.lines }
@@ -62,7 +55,7 @@ impl History {
         ensures { IsTrue result ↔ (slice_get (map (line_in names.now) self.now.lines) number ≡ Some (record { call = call.now; reply = reply })) }
     {
         match self.lines.get(number) {
-            Some(line) => line.call.is(names, call) && line.reply == reply,
+            Some(line) => line.has_call(names, call) && line.reply() == reply,
             None => false,
         }
     }
@@ -88,14 +81,14 @@ impl History {
         Ok(())
     }
 
-    /// Notes a call with its reply, where there is room. It takes no memory.
-    pub fn note(&mut self, call: KeptCall, reply: Reply)
+    /// Notes a line, where there is room. It takes no memory.
+    pub fn note(&mut self, line: KeptLine)
         requires { 1 ≤ self.old.room }
-        ensures lines { self.new.lines ≡ self.old.lines ++ record { call = call; reply = reply } ∷ [] }
+        ensures lines { self.new.lines ≡ self.old.lines ++ line ∷ [] }
         ensures room { self.old.room ≡ self.new.room + 1 }
         ensures few { length self.new.lines + self.new.room ≤ MAX_LINES }
     {
-        self.lines.push_reserved(KeptLine { call, reply });
+        self.lines.push_reserved(line);
     }
 
     /// The lines with the names of a roster. At an error memory ran out.
@@ -118,12 +111,9 @@ impl History {
         let Some(line) = self.lines.get(number) else {
             return Ok(None);
         };
-        if line.reply != Reply::Undone {
-            return self.fired_in(roster, number);
-        }
-        match &line.call {
-            KeptCall::Undo(fired) => self.fired_in(roster, *fired as usize),
-            KeptCall::Fired(_) | KeptCall::Refused(_) => Ok(None),
+        match line {
+            KeptLine::Undone(fired) => self.fired_in(roster, *fired as usize),
+            _ => self.fired_in(roster, number),
         }
     }
 
@@ -132,15 +122,9 @@ impl History {
         requires { AreLinesNamed roster.now.names self.now.lines }
         ensures { IfOk result (λ event. (e : AnEvent) → (event ≡ Some e) ↔ IsFiredIn (map (line_in roster.now.names) self.now.lines) number e) }
     {
-        let Some(line) = self.lines.get(number) else {
-            return Ok(None);
-        };
-        if line.reply != Reply::Fired {
-            return Ok(None);
-        }
-        match line.call.read(roster)? {
-            Call::Fire(event) => Ok(Some(event)),
-            Call::Undo(_) => Ok(None),
+        match self.lines.get(number) {
+            Some(KeptLine::Fired(kept)) => Ok(Some(roster.read(*kept)?)),
+            _ => Ok(None),
         }
     }
 }

@@ -9,7 +9,7 @@ use Rattle.ic_names.specs.Blocks.{anchor_depth, anchor_of, number_of, block_of}
 use Rattle.ic_names.proofs.Fronts.{front_below, front-nil}
 
 -- a number of digits with one more behind them
-number-push : (ds : List ℕ) (d : ℕ) → number_of (ds ++ d ∷ []) ≡ 4 * number_of ds + d
+pub number-push : (ds : List ℕ) (d : ℕ) → number_of (ds ++ d ∷ []) ≡ 4 * number_of ds + d
 unfolding front_of
 number-push [] d = omega arith
 number-push (x ∷ ds) d =

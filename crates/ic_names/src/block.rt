@@ -1,7 +1,7 @@
-ghost use Rattle.std.specs.Prelude.{◌≡◌, ◌<◌, ℕ};
+ghost use Rattle.std.specs.Prelude.{◌≡◌, ◌<◌, ◌≤◌, ◌++◌, ℕ, length, drop};
 ghost use Rattle.ic_name.specs.Names.{Name, depth as depth_of, start_name, child_name};
 ghost use Rattle.ic_names.specs.Keys.{IsProper};
-ghost use Rattle.ic_names.specs.Blocks.{block_of};
+ghost use Rattle.ic_names.specs.Blocks.{anchor_depth, block_of};
 
 /// The number of digits in a block, at most: so many fit in 64 bits. At each multiple of it there is an anchor.
 pub const BLOCK: u64 = 32;
@@ -37,5 +37,25 @@ impl Block {
             return Block(u64::from(digit));
         }
         Block(4 * self.0 + u64::from(digit))
+    }
+
+    /// Puts the digits behind the anchor of a name of this depth and block at their places among the name's digits, and gives
+    /// the depth of the anchor.
+    pub fn put_digits(self, digits: &mut [u8], depth: usize) -> usize
+        requires some { 0 < depth }
+        requires inside { depth ≤ length digits.old }
+        ensures anchor { (n : Name) → depth ≡ depth_of n → result ≡ anchor_depth n }
+        ensures put { (n : Name) → IsProper n → depth ≡ depth_of n → self.0 ≡ block_of n → drop result digits.new ≡ drop result n.digits ++ drop depth digits.old }
+        ensures same_length { length digits.new ≡ length digits.old }
+    {
+        let first = (depth - 1) / BLOCK as usize * BLOCK as usize;
+        let mut number = self.0;
+        let mut at = depth;
+        while at > first {
+            at -= 1;
+            digits[at] = (number % 4) as u8;
+            number /= 4;
+        }
+        first
     }
 }

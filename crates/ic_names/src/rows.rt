@@ -289,15 +289,13 @@ impl Rows {
         let mut behind = self.key(place).depth() as usize;
         let mut digits = SmallVec::from_elem(self.alloc(), 0, behind)?;
         let mut at = place;
-        loop {
-            match self.origin(at) {
-                Origin::Start(number) => return Ok(AgentName::of_digits(number, digits)),
-                Origin::Child { digit, parent } => {
-                    behind -= 1;
-                    digits[behind] = digit;
-                    at = parent;
-                }
-            }
+        while behind > 0 {
+            behind = self.block(at).put_digits(&mut digits, behind);
+            at = self.anchor(at);
         }
+        let Origin::Start(number) = self.origin(at) else {
+            unreachable!()
+        };
+        Ok(AgentName::of_digits(number, digits))
     }
 }

@@ -45,7 +45,7 @@ impl Past {
     pub fn over(alloc: Global, start: &Start) -> Result<Past, AllocError>
         ensures { IfOk result (λ past. past ≡ record { start = start.now; events = [] }) }
     {
-        let start = start.copy(alloc)?;
+        let start = start.copy()?;
         let set = BareSet::over(alloc, start)?;
         set.lawful();
         Ok(Past {

@@ -1,11 +1,10 @@
 -- What a queue has: places of names, and the order in which it keeps them.
-use Rattle.std.specs.Prelude.{◌≡◌, ◌≢◌, ℕ, ◌+◌, ◌*◌, ◌<◌, List, length, map, Option, Some, slice_index_or}
+use Rattle.std.specs.Prelude.{◌≡◌, ◌≢◌, ℕ, ◌+◌, ◌*◌, ◌<◌, ◌↔◌, Bool, false, IsTrue, List, length, map, slice_index_or}
 use Rattle.std.specs.declared.cmp.Ordering.TheVariants.{Less}
 use Rattle.ic_path.specs.Orders.{IsIn}
 use Rattle.ic_name.specs.Names.{Name, name_cmp}
 use Rattle.ic_names.specs.Keys.{key_of}
 use Rattle.ic_names.specs.Tables.{name_at}
-use Rattle.ic_slots.specs.Slots.{slot_of}
 use Rattle.ic_queue.specs.declared.queue.Lead.{Lead}
 
 -- the leads as they lie in the heap, and for how many names there is room
@@ -40,14 +39,14 @@ pub record IsHeap (ns : List Name) (ls : List Lead) : Type 0 where
   pub left : (k : ℕ) → 2 * k + 1 < length ls → name_cmp (name_of ns ls (2 * k + 1)) (name_of ns ls k) ≢ Less
   pub right : (k : ℕ) → 2 * k + 2 < length ls → name_cmp (name_of ns ls (2 * k + 2)) (name_of ns ls k) ≢ Less
 
--- each name stands in the queue once at most, and the index says at which place of the heap
-pub record ArePlaced (ls : List Lead) (index : List (Option ℕ)) : Type 0 where
-  pub placed : (k : ℕ) → k < length ls → slot_of index (place_of (lead_at ls k)) ≡ Some k
-  pub there : (n k : ℕ) → slot_of index n ≡ Some k → (k < length ls) × (place_of (lead_at ls k) ≡ n)
-
 -- no name stands in the queue twice
 abbrev pub StandOnce : List Lead → Type 0
 StandOnce ls = (i j : ℕ) → i < length ls → j < length ls → place_of (lead_at ls i) ≡ place_of (lead_at ls j) → i ≡ j
+
+-- no name stands in the queue twice, and the flag of a place is true exactly where the name stands in the queue
+pub record AreFlagged (ls : List Lead) (queued : List Bool) : Type 0 where
+  pub once : StandOnce ls
+  pub flags : (n : ℕ) → IsTrue (slice_index_or queued n false) ↔ IsIn n (places ls)
 
 -- the place is one of the queue's, and none of its names is less than the one there
 pub record IsLeast (ns : List Name) (ls : List Lead) (n : ℕ) : Type 0 where

@@ -5,26 +5,25 @@ ghost use Rattle.ic_queue.specs.Queues.{places, lead_at, StandOnce};
 
 use crate::queue::Lead;
 use ic_names::NameId;
-use ic_slots::SlotIndex;
 use std::alloc::{AllocError, Global};
 use std::marker::Model;
 
-/// Leads in a list, each name once, and for each name where it stands in the list.
+/// Leads in a list, each name once, and for each name whether it stands in the list.
 #[derive(Drop)]
 pub struct PlacedLeads {
     leads: Vec<Lead>,
-    index: SlotIndex,
+    queued: Vec<bool>,
 }
 
 impl Model for PlacedLeads {
     ghost use Rattle.std.specs.Prelude.{length, min, vec_capacity};
-    ghost use Rattle.ic_queue.specs.Queues.{QueueView, ArePlaced};
+    ghost use Rattle.ic_queue.specs.Queues.{QueueView, AreFlagged};
 
     ghost Value = { QueueView };
 
-    ghost view = { λ p. record { leads = p.leads.items; room = min (vec_capacity p.leads) (length p.index) } };
+    ghost view = { λ p. record { leads = p.leads.items; room = min (vec_capacity p.leads) (length p.queued.items) } };
 
-    ghost invariant = { λ p. ArePlaced p.leads.items p.index };
+    ghost invariant = { λ p. AreFlagged p.leads.items p.queued.items };
 }
 
 impl PlacedLeads {
@@ -34,7 +33,7 @@ impl PlacedLeads {
     {
         PlacedLeads {
             leads: Vec::new(alloc),
-            index: SlotIndex::new(alloc),
+            queued: Vec::new(alloc),
         }
     }
 
@@ -56,7 +55,10 @@ impl PlacedLeads {
     pub fn has(&self, name: NameId) -> bool
         ensures { IsTrue result ↔ IsIn name.place (places self.now.leads) }
     {
-        self.index.get(name.place).is_some()
+        self.queued
+            .get(name.place as usize)
+            .copied()
+            .unwrap_or(false)
     }
 
     /// The lead at this index.
@@ -74,18 +76,12 @@ impl PlacedLeads {
         ensures kept { self.old.room ≤ self.new.room }
         ensures reserved { OnOk result (names ≤ self.new.room) }
     {
-        let Ok(count) = u32::try_from(names) else {
+        if names > u32::MAX as usize {
             return Err(AllocError);
-        };
-        if count == 0 {
-            return Ok(());
         }
-        self.index.reserve(count - 1)?;
-        let queued = self.leads.len();
-        if names <= queued {
-            return Ok(());
-        }
-        self.leads.reserve(names - queued)
+        let places = names.max(self.queued.len());
+        self.queued.resize(places, false)?;
+        self.leads.reserve(names.saturating_sub(self.leads.len()))
     }
 
     /// A lead whose name doesn't stand in the list comes in at its end. It takes no memory.
@@ -93,30 +89,25 @@ impl PlacedLeads {
         requires fresh { IsIn lead.name.place (places self.old.leads) → ⊥ }
         requires room { length self.old.leads < self.old.room }
         requires inside { lead.name.place < self.old.room }
-        requires small { length self.old.leads < u32.MAX }
         ensures pushed { self.new.leads ≡ self.old.leads ++ lead ∷ [] }
         ensures room { self.old.room ≤ self.new.room }
     {
-        let at = self.leads.len();
         let Ok(_) = self.leads.push(lead) else {
             unreachable!()
         };
-        self.index.put(lead.name.place, at as u32);
+        self.queued[lead.name.place as usize] = true;
     }
 
     /// The leads at two indices change places.
     pub fn swap(&mut self, a: usize, b: usize)
         requires first { a < length self.old.leads }
         requires second { b < length self.old.leads }
-        requires small { length self.old.leads ≤ u32.MAX }
         ensures swapped { SwappedAt self.old.leads self.new.leads a b }
         ensures alike { Alike (places self.old.leads) (places self.new.leads) }
         ensures same_length { length self.new.leads ≡ length self.old.leads }
         ensures room { self.new.room ≡ self.old.room }
     {
         self.leads.swap(a, b);
-        self.index.put(self.leads[a].name.place, a as u32);
-        self.index.put(self.leads[b].name.place, b as u32);
     }
 
     /// The last lead goes.
@@ -128,7 +119,7 @@ impl PlacedLeads {
         let Some(lead) = self.leads.pop() else {
             unreachable!()
         };
-        self.index.take(lead.name.place);
+        self.queued[lead.name.place as usize] = false;
         lead
     }
 }

@@ -81,7 +81,6 @@ impl LeadQueue {
         if self.heap.has(name) {
             return;
         }
-        names.lawful();
         self.heap.lawful();
         let at = self.heap.len();
         let key = names.key(name);
@@ -112,7 +111,6 @@ impl LeadQueue {
         ensures unchanged { IfNone result (self.new ≡ self.old) }
     {
         names.lawful();
-        self.heap.lawful();
         let least = self.least()?;
         let last = self.heap.len() - 1;
         self.heap.swap(0, last);

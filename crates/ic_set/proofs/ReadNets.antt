@@ -1,12 +1,11 @@
 -- The net of a standing set, read off its agents and the links by ids.
-use Rattle.std.proofs.Common.{◌≡◌, ◌≢◌, ℕ, zero, suc, ◌+◌, ◌<◌, ◌≤◌, Bool, true, false, List, [], ◌∷◌, ◌++◌, map, length, ◌⊎◌, inl, inr, Option, Some, None, eqb, refl, sym, ap, arith, subst, ◌∙◌}
-use Rattle.std.specs.Prelude.{if◌then◌else◌, option_map, slice_get, leb, Result, Ok, Err, IfOk}
+use Rattle.std.proofs.Common.{◌≡◌, ◌≢◌, ℕ, zero, suc, ◌+◌, ◌<◌, ◌≤◌, Bool, true, false, List, [], ◌∷◌, ◌++◌, length, ◌⊎◌, inl, inr, Option, Some, None, eqb, refl, sym, ap, arith, subst, ◌∙◌}
+use Rattle.std.specs.Prelude.{if◌then◌else◌, option_map, leb, Result, Ok, Err, IfOk}
 use Rattle.std.specs.BTreeMap.{insert_entry}
 use Rattle.std.specs.Ordering.{nat_cmp}
-use Rattle.std.proofs.lemmas.Bool.{eq-eqb, ne_eqb, eqb-true, eqb-false, leb-true}
+use Rattle.std.proofs.lemmas.Bool.{ne_eqb, eqb-true, eqb-false, leb-true}
 use Rattle.std.proofs.lemmas.Option.{same_Some, slice_get_past}
 use Rattle.ic_name.specs.Names.{Name}
-use Rattle.ic_name.specs.Events.{Event}
 use Rattle.ic_name.specs.Kinds.{arity}
 use Rattle.ic_name.specs.Same.{same_name}
 use Rattle.ic_name.proofs.SameFacts.{same_name_true, same_name_self}
@@ -21,7 +20,7 @@ use Rattle.ic_name.specs.declared.ports.Port.{Port}
 use Rattle.ic_name.specs.declared.ports.Port.TheVariants as port
 use Rattle.ic_path.specs.FarEnds.{far as far_of}
 use Rattle.ic_path.specs.Links.{degree}
-use Rattle.ic_path.specs.Orders.{Alike, IsIn}
+use Rattle.ic_path.specs.Orders.{IsIn}
 use Rattle.ic_path.specs.Rings.{rings}
 use Rattle.ic_path.proofs.Alikes.{alike-in}
 use Rattle.ic_path.proofs.Orders.{degree-alike}
@@ -29,17 +28,17 @@ use Rattle.ic_path.proofs.Picks.{none_in, in-cons_cases}
 use Rattle.ic_link.specs.Links.{shape, IsFar, Joins}
 use Rattle.ic_link.specs.declared.store.Far.{Far}
 use Rattle.ic_link.specs.declared.store.Far.TheVariants as far
-use Rattle.ic_theory.specs.Born.{born_agents, born_links}
+use Rattle.ic_theory.specs.Born.{born_links}
 use Rattle.ic_theory.specs.Listed.{NetAgent as Listed, agent_among, free_among, shown}
-use Rattle.ic_theory.specs.Nets.{IsSameNet, has_port, kind_of, net_of}
-use Rattle.ic_theory.specs.Sets.{agents, links, consumed_times}
-use Rattle.ic_theory.specs.Starts.{Start, start_agents, start_links, net_shape}
+use Rattle.ic_theory.specs.Nets.{IsSameNet, has_port, kind_of}
+use Rattle.ic_theory.specs.Sets.{links, consumed_times}
+use Rattle.ic_theory.specs.Starts.{start_links, net_shape}
 use Rattle.ic_theory.specs.Wires.{IsLoose}
 use Rattle.ic_theory.proofs.Counts.{free_degree}
-use Rattle.ic_theory.proofs.Future.{made_alike, in_alike}
+use Rattle.ic_theory.proofs.Future.{made_alike}
 use Rattle.ic_theory.proofs.Loose.{loose_degree}
 use Rattle.ic_theory.proofs.NameKinds.{kind_parts}
-use Rattle.ic_theory.proofs.Ranks.{consumed-alike, sound_order}
+use Rattle.ic_theory.proofs.Ranks.{sound_order}
 use Rattle.ic_shown.specs.Naming.{port_of}
 use Rattle.ic_shown.proofs.ByPorts.{trail_held}
 use Rattle.ic_shown.proofs.Elements.{in-map, in-append_cases}
@@ -47,7 +46,7 @@ use Rattle.ic_shown.proofs.FarSpots.{loose-alike, sound_partner}
 use Rattle.ic_shown.proofs.OnePort.{HasSpot}
 use Rattle.ic_shown.proofs.SameEnds.{degree_is, rings_are}
 use Rattle.ic_cause.specs.Dependents.{Causes}
-use Rattle.ic_net.specs.Makings.{NetParts, with_agent, listed_parts}
+use Rattle.ic_net.specs.Makings.{NetParts, listed_parts}
 use Rattle.ic_net.proofs.Makings.{found_with, found_free_with, length-with_free, parts_show}
 use Rattle.ic_roster.specs.Rosters.{Member, AreByName}
 use Rattle.ic_set.specs.Reading.{net_in, IsPortAt, IsLiving, ArePartners, AreNetAgents, AreNetFrees, IsPut}

@@ -1,7 +1,6 @@
 -- What is read off a standing set for its net.
-use Rattle.std.specs.Prelude.{◌≡◌, ℕ, ◌≤◌, ◌⊎◌, List, option_map, Option, Some, slice_get}
+use Rattle.std.specs.Prelude.{◌≡◌, ℕ, ◌⊎◌, List, option_map, Some, slice_get}
 use Rattle.ic_name.specs.Names.{Name}
-use Rattle.ic_name.specs.Kinds.{arity}
 use Rattle.ic_name.specs.declared.ids.AgentId.{AgentId}
 use Rattle.ic_name.specs.declared.ids.Spot.{Spot}
 use Rattle.ic_name.specs.declared.ids.Spot.TheVariants as spot

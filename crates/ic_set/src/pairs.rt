@@ -46,9 +46,12 @@ impl<L: LinkStore> BareSet<L> {
         ensures absent { IfNone result ((partner : AnAgentId) → AreJoined self.now.set agent partner → ⊥) }
     {
         let entry = self.roster.agent(agent)?;
+        if self.roster.led_by(entry.name).is_some() {
+            return None;
+        }
         let partner = principal_end(self.store.far(Spot::Agent(agent, 0)))?;
         let other = self.roster.agent(partner)?;
-        if self.roster.led_by(entry.name).is_some() || self.roster.led_by(other.name).is_some() {
+        if self.roster.led_by(other.name).is_some() {
             return None;
         }
         Some(partner)

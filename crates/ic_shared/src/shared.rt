@@ -37,7 +37,7 @@ pub fn share<B: Ledger>(
     ensures passes { IfOk result (λ r. r.2.items ≡ replicate passes []) }
     ensures err { IfErr result (λ b. b ≡ bench) }
 {
-    let Ok(start) = bench.start().copy(alloc) else {
+    let Ok(start) = bench.start().copy() else {
         return Err(bench);
     };
     let Ok(lines) = bench.history() else {

@@ -5,7 +5,7 @@ use crate::{Opening, Pass, SettleFault, Shared, settle, share};
 use ic_journal::{Bench, Store};
 use ic_name::{EventId, Profile, Reply};
 use ic_start::Start;
-use std::alloc::Global;
+use std::alloc::{AllocError, Global};
 use std::marker::Brand;
 use std::sync::Wait;
 use std::sync::ledger::{Blank, Ledger};
@@ -15,14 +15,15 @@ use std::test::Fail;
 const NOTHING: EventId = EventId { slot: 0, line: 0 };
 
 /// The start without agents.
-fn empty_start(alloc: Global, profile: Profile) -> Start {
+fn empty_start(alloc: Global, profile: Profile) -> Result<Start, AllocError> {
     let (kinds, links, names) = (Vec::new(alloc), Vec::new(alloc), Vec::new(alloc));
-    Start::make(kinds, links, names, profile)
+    Start::make(alloc, kinds, links, names, profile)
 }
 
 /// A bench with one line in its history: an undo that was refused.
 fn begun(alloc: Global) -> Option<Bench<Store>> {
-    let mut bench = Bench::over(alloc, empty_start(alloc, Profile::Classic)).ok()?;
+    let start = empty_start(alloc, Profile::Classic).ok()?;
+    let mut bench = Bench::over(alloc, start).ok()?;
     let _ = bench.undo(NOTHING);
     Some(bench)
 }
@@ -44,7 +45,7 @@ fn change_one<B: Ledger>(
 ) -> Option<()> {
     match change {
         Change::OtherReply => pass.receipts.last_mut()?.reply = Reply::Undone,
-        Change::OtherStart => opening.start = empty_start(alloc, Profile::Straight),
+        Change::OtherStart => opening.start = empty_start(alloc, Profile::Straight).ok()?,
         Change::DroppedLine => opening.lines.clear(),
     }
     Some(())

@@ -9,7 +9,7 @@ ghost use Rattle.ic_set.specs.Entering.{GrowsBy};
 ghost use Rattle.ic_set.specs.Pairs.{IsPairOf, IsActivePair, Awakes};
 ghost use Rattle.ic_set.specs.Removal.{Stands, IsFree};
 
-use crate::queue::{drop_stale, put_lead, put_leads};
+use crate::queue::{drop_stale, put_leads};
 use crate::set::StandingSet;
 use ic_link::LinkStore;
 use ic_name::EventId;
@@ -57,7 +57,7 @@ impl<L: LinkStore> StandingSet<L> {
         self.bare.lawful();
         let lead = self.bare.take_out(id);
         self.bare.lawful();
-        put_lead(&mut self.queue, &self.bare, lead);
+        self.queue.put(self.bare.roster().names(), lead);
         drop_stale(&mut self.queue, &self.bare);
     }
 }

@@ -47,22 +47,6 @@ pub(crate) fn put_leads<L: LinkStore>(
     }
 }
 
-/// Puts in the agent whose name is at this place, if it leads an active pair. There is room for every name.
-pub(crate) fn put_lead<L: LinkStore>(queue: &mut LeadQueue, set: &BareSet<L>, name: NameId)
-    requires inside { name.place < length set.now.names }
-    requires heap { IsHeap set.now.names queue.old.leads }
-    requires room { length set.now.names ≤ queue.old.room }
-    ensures heap { IsHeap set.now.names queue.new.leads }
-    ensures stay { (n : Name) → IsQueued set.now.names queue.old.leads n → IsQueued set.now.names queue.new.leads n }
-    ensures led { (e : AnEvent) (p : APair) → IsPairOf set.now.set e p → e.lead ≡ name_at set.now.names name.place → IsQueued set.now.names queue.new.leads e.lead }
-    ensures room { queue.old.room ≤ queue.new.room }
-{
-    set.lawful();
-    if is_lead(set, name) {
-        queue.put(set.roster().names(), name);
-    }
-}
-
 /// Puts in the lead of the pair, if there is one. There is room for every name.
 fn put_pair<L: LinkStore>(queue: &mut LeadQueue, set: &BareSet<L>, pair: Option<ActivePair>)
     requires active { IfSome pair (λ p. IsActivePair set.now.set p) }

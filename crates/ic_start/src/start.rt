@@ -7,12 +7,20 @@ use ic_name::limits::MAX_START_AGENTS;
 use ic_name::{Kind, Link, Profile};
 use std::alloc::{AllocError, Global};
 use std::marker::Model;
+use std::sync::Arc;
 
 /// What a text denotes: the kinds of its agents, its links, the texts of its names, and its profile.
 ///
 /// Agent k has the id with slot k and serial 0. Each port of an agent has one end of a link, each name one or two.
+/// Copies of a start share its parts.
 #[derive(Drop)]
 pub struct Start {
+    parts: Arc<Parts>,
+}
+
+/// What the copies of a start share.
+#[derive(Drop)]
+struct Parts {
     kinds: Vec<Kind>,
     links: Vec<Link>,
     names: Vec<Vec<u8>>,
@@ -21,29 +29,38 @@ pub struct Start {
 
 impl Model for Start {
     ghost use Rattle.std.specs.Prelude.{map};
+    ghost use Rattle.std.specs.Arc.{arc_value};
     ghost use Rattle.ic_theory.specs.Starts.{Start};
 
     ghost Value = { Start };
 
     ghost use Rattle.ic_start.specs.Starts.{IsStart, start_of};
 
-    ghost view = { λ s. start_of s.kinds.items s.links.items (map (λ t. t.items) s.names.items) s.profile };
+    ghost view = { λ s. let parts = arc_value s.parts in start_of parts.kinds.items parts.links.items (map (λ t. t.items) parts.names.items) parts.profile };
 
-    ghost invariant = { λ s. IsStart s.kinds.items s.links.items (map (λ t. t.items) s.names.items) s.profile };
+    ghost invariant = { λ s. let parts = arc_value s.parts in IsStart parts.kinds.items parts.links.items (map (λ t. t.items) parts.names.items) parts.profile };
 }
 
 impl Start {
-    /// The start of these kinds, links and texts of names.
-    pub fn make(kinds: Vec<Kind>, links: Vec<Link>, names: Vec<Vec<u8>>, profile: Profile) -> Start
+    /// The start of these kinds, links and texts of names; an error where memory is wanting.
+    pub fn make(
+        alloc: Global,
+        kinds: Vec<Kind>,
+        links: Vec<Link>,
+        names: Vec<Vec<u8>>,
+        profile: Profile,
+    ) -> Result<Start, AllocError>
         requires { IsStart kinds.items links.items (map (λ t. t.items) names.items) profile }
-        ensures { result ≡ start_of kinds.items links.items (map (λ t. t.items) names.items) profile }
+        ensures { IfOk result (λ start. start ≡ start_of kinds.items links.items (map (λ t. t.items) names.items) profile) }
     {
-        Start {
+        let parts = Parts {
             kinds,
             links,
             names,
             profile,
-        }
+        };
+        let parts = Arc::new(alloc, parts)?;
+        Ok(Start { parts })
     }
 
     /// What holds of every start, for whoever has to show it.
@@ -52,53 +69,48 @@ impl Start {
         ensures few_agents { length self.now.kinds ≤ MAX_START_AGENTS }
         ensures few_names { length self.now.names < 2 ^ 32 }
     {
-        let _ = &self.kinds;
+        let _ = &self.parts.kinds;
     }
 
     /// Whether two starts are one. It takes no memory.
     pub fn same(&self, other: &Start) -> bool
         ensures { IsTrue result ↔ (self.now ≡ other.now) }
     {
-        self.kinds == other.kinds
-            && same_links(&self.links, &other.links)
-            && self.names == other.names
-            && self.profile == other.profile
+        let (left, right) = (&*self.parts, &*other.parts);
+        left.kinds == right.kinds
+            && same_links(&left.links, &right.links)
+            && left.names == right.names
+            && left.profile == right.profile
     }
 
-    /// The start once more.
-    pub fn copy(&self, alloc: Global) -> Result<Start, AllocError>
+    /// The start once more, which shares its parts: it takes no memory. An error comes only where there are as many copies as
+    /// can be counted.
+    pub fn copy(&self) -> Result<Start, AllocError>
         ensures { IfOk result (λ copy. copy ≡ self.now) }
     {
-        let kinds = Vec::from_slice(alloc, &self.kinds)?;
-        let links = Vec::from_slice(alloc, &self.links)?;
-        let names = copy_texts(alloc, &self.names)?;
-        Ok(Start {
-            kinds,
-            links,
-            names,
-            profile: self.profile,
-        })
+        let parts = Arc::try_clone(&self.parts)?;
+        Ok(Start { parts })
     }
 
     /// The kind of the agent of this number, where there is one.
     pub fn kind(&self, number: usize) -> Option<Kind>
         ensures { result ≡ slice_get self.now.kinds number }
     {
-        self.kinds.get(number).copied()
+        self.parts.kinds.get(number).copied()
     }
 
     /// The kinds of the agents, by number.
     pub fn kinds(&self) -> &[Kind]
         ensures { result.now ≡ self.now.kinds }
     {
-        &self.kinds
+        &self.parts.kinds
     }
 
     /// The number of agents.
     pub fn agents(&self) -> usize
         ensures { result ≡ length self.now.kinds }
     {
-        self.kinds.len()
+        self.parts.kinds.len()
     }
 
     /// The links, by place.
@@ -106,31 +118,20 @@ impl Start {
         ensures joins { map join_of result.now ≡ self.now.joins }
         ensures placed { AreStartLinks (length self.now.kinds) (length self.now.names) 0 result.now }
     {
-        &self.links
+        &self.parts.links
     }
 
     /// The texts of the names, by number.
     pub fn names(&self) -> &[Vec<u8>]
         ensures { map (λ t. t.items) result.now ≡ self.now.names }
     {
-        &self.names
+        &self.parts.names
     }
 
     /// Which ports an annihilation of two gammas joins.
     pub fn profile(&self) -> Profile
         ensures { result ≡ self.now.profile }
     {
-        self.profile
+        self.parts.profile
     }
-}
-
-/// The texts once more.
-fn copy_texts(alloc: Global, texts: &[Vec<u8>]) -> Result<Vec<Vec<u8>>, AllocError>
-    ensures { IfOk result (λ copies. map (λ t. t.items) copies.items ≡ map (λ t. t.items) texts.now) }
-{
-    let mut copies = Vec::with_capacity(alloc, texts.len())?;
-    for text in texts {
-        copies.push(Vec::from_slice(alloc, text)?)?;
-    }
-    Ok(copies)
 }

@@ -14,6 +14,7 @@ pub mod Unnamed
 pub mod OwnSlots
 pub mod RecordWalks
 pub mod SameSlots
+pub mod GivenEnds
 pub mod ShownLinks
 pub mod CutLinks
 pub mod PartSlots

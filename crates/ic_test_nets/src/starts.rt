@@ -48,7 +48,7 @@ pub(crate) fn two_agents(alloc: Global) -> Result<Start, AllocError> {
         link(3, port(1, 1), Spot::Name(0)),
         link(4, port(1, 2), Spot::Name(2)),
     ]?;
-    Ok(Start::make(kinds, links, names, Profile::Straight))
+    Start::make(alloc, kinds, links, names, Profile::Straight)
 }
 
 #[test]

@@ -125,7 +125,7 @@ fn two_gammas(alloc: Global) -> Result<Start, AllocError> {
         link(3, port(1, 1), Spot::Name(0)),
         link(4, port(1, 2), Spot::Name(1)),
     ]?;
-    Ok(Start::make(kinds, links, names, Profile::Straight))
+    Start::make(alloc, kinds, links, names, Profile::Straight)
 }
 
 /// The net of two gammas after they met.

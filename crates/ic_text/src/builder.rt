@@ -264,7 +264,7 @@ impl<'a> Builder<'a> {
         }
         let names = self.names.texts(alloc)?;
         let links = self.links.into_vec();
-        Ok(Start::make(self.kinds, links, names, self.profile))
+        Ok(Start::make(alloc, self.kinds, links, names, self.profile)?)
     }
 }
 

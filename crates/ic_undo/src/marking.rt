@@ -12,7 +12,7 @@ pub fn mark<L: LinkStore>(alloc: Global, bench: &Bench<L>) -> Result<Mark, Alloc
     ensures { IfOk result (λ mark. Marks bench.now mark) }
 {
     bench.lawful();
-    let start = bench.start().copy(alloc)?;
+    let start = bench.start().copy()?;
     start.lawful();
     let events = without_ranks(alloc, bench.ranked()?)?;
     let places = places_of(alloc, &events)?;

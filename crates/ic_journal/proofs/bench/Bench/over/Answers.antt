@@ -1,6 +1,6 @@
 use Rattle.std.proofs.Common.{ap, map}
 use Rattle.std.proofs.lemmas.List.Elements.{All-nil}
-use Rattle.ic_journal.specs.Kept.{line_in, IsCallNamed}
+use Rattle.ic_journal.specs.Kept.{line_in, IsLineNamed}
 use Rattle.ic_journal.specs.Views.{view_of}
 use Rattle.ic_journal.proofs.Answering.{opened}
 use Rattle.ic_journal.proofs.bench.Bench.over.Goals as goal
@@ -14,5 +14,5 @@ invariant_of-result g c = record {
     room = c.new.ensures.room;
     serials = c.in_ok-set.ensures.serials;
   });
-  named = rw c.new.ensures.lines (All-nil (λ l. IsCallNamed c.in_ok-set.set.names l.call));
+  named = rw c.new.ensures.lines (All-nil (IsLineNamed c.in_ok-set.set.names));
 }

@@ -1,9 +1,15 @@
-use Rattle.std.proofs.Common.{subst}
-use Rattle.ic_queue.specs.Queues.{ArePlaced}
-use Rattle.ic_queue.proofs.PlacedFacts.{popped_placed}
+use Rattle.std.proofs.Common.{subst, arith}
+use Rattle.ic_queue.specs.Queues.{AreFlagged}
+use Rattle.ic_queue.proofs.Flags.{last_inside, popped_flagged}
 use Rattle.ic_queue.proofs.placed.PlacedLeads.pop.Goals as goal
+
+pub index_mut-requires : goal.index_mut-requires
+index_mut-requires c =
+    let queued = c.self.inside.queued.items in
+    let room = last_inside c.pop.new.self.items c.in-Some.lead queued (subst (λ ls. AreFlagged ls queued) c.in-Some.ensures.items c.self.invariant) in
+    omega (arith, room, c.self.inside.queued.ok.0)
 
 pub invariant_of-self : goal.invariant_of-self
 invariant_of-self c =
-    let is = c.in-Some.ensures.items in
-    popped_placed c.pop.new.self.items c.in-Some.lead c.self.inside.index c.take.new.self (subst (λ ls. ArePlaced ls c.self.inside.index) is c.self.invariant) c.take.ensures.taken
+    let queued = c.self.inside.queued.items in
+    popped_flagged c.pop.new.self.items c.in-Some.lead queued (subst (λ ls. AreFlagged ls queued) c.in-Some.ensures.items c.self.invariant)

@@ -1,10 +1,11 @@
-use Rattle.std.proofs.Common.{sym, subst}
-use Rattle.ic_queue.specs.Queues.{ArePlaced}
-use Rattle.ic_queue.proofs.PlacedFacts.{kept_placed}
+use Rattle.std.proofs.Common.{sym, subst, arith}
+use Rattle.ic_queue.specs.Queues.{AreFlagged}
+use Rattle.ic_queue.proofs.Flags.{resized_flagged}
 use Rattle.ic_queue.proofs.placed.PlacedLeads.reserve.Goals as goal
 
-pub invariant_of-self-then-names-queued : goal.invariant_of-self-then-names-queued
-invariant_of-self-then-names-queued c = kept_placed c.self.invariant c.reserve.ensures.kept
-
 pub invariant_of-self-2 : goal.invariant_of-self-2
-invariant_of-self-2 c = subst (λ ls. ArePlaced ls c.reserve.new.self) (sym c.reserve-2.ensures.items) (kept_placed c.self.invariant c.reserve.ensures.kept)
+invariant_of-self-2 c =
+    let ls = c.self.inside.leads.items in
+    let queued = c.resize.new.self.items in
+    subst (λ ls. AreFlagged ls queued) (sym c.reserve.ensures.items)
+    (resized_flagged _ ls c.self.inside.queued.items queued c.max-places.result _ c.self.invariant c.resize.ensures.items c.self.inside.queued.ok.0 (omega (arith, c.len.ensures, c.max-places.ensures)))

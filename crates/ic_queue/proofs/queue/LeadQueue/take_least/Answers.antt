@@ -1,29 +1,20 @@
-use Rattle.std.proofs.Common.{◌≡◌, ℕ, ◌+◌, ◌-◌, ◌<◌, ◌≤◌, List, [], ◌∷◌, ◌++◌, length, refl, sym, subst, ap, ◌∙◌, arith}
+use Rattle.std.proofs.Common.{◌≡◌, ℕ, ◌+◌, ◌-◌, ◌<◌, List, [], ◌∷◌, ◌++◌, length, refl, sym, subst, ap, ◌∙◌, arith}
 use Rattle.std.specs.List.{SwappedAt}
 use Rattle.ic_path.specs.Orders.{Alike}
 use Rattle.ic_path.proofs.Alikes.{alike_then, alike-cons}
 use Rattle.ic_name.specs.Names.{Name}
 use Rattle.ic_names.specs.Tables.{IsTable}
 use Rattle.ic_queue.specs.declared.queue.Lead.{Lead}
-use Rattle.ic_queue.specs.Queues.{place_of, places, lead_at, IsHeap, IsLeast, StandOnce}
+use Rattle.ic_queue.specs.Queues.{place_of, places, lead_at, IsHeap, IsLeast}
 use Rattle.ic_queue.specs.Sifting.{IsSinking}
 use Rattle.ic_queue.proofs.QueuedPlaces.{in-places, last-alike}
 use Rattle.ic_queue.proofs.PlacedFacts.{swapped_leads, lead_at-last, length-one_more}
-use Rattle.ic_queue.proofs.Heaps.{few_leads, one_least, top_least, popped_sinking}
+use Rattle.ic_queue.proofs.Heaps.{one_least, top_least, popped_sinking}
 use Rattle.ic_queue.proofs.queue.LeadQueue.take_least.Goals as goal
 
 -- a list with a least name isn't empty
 some : (ns : List Name) (ls qs : List Lead) (n : ℕ) → ls ≡ qs → IsLeast ns qs n → 0 < length ls
 some ns ls qs n e least = let r = in-places qs least.present in let h = r.1 in let f = ap length e in omega (arith, h)
-
--- there are no more leads than names
-few : (ns : List Name) (ls qs : List Lead) → ls ≡ qs → IsHeap ns qs → StandOnce ls → length ls ≤ length ns
-few ns ls qs e heap once = let same = subst (IsHeap ns) (sym e) heap in few_leads ns ls same.named once
-
-pub swap-requires-clause-small : goal.swap-requires-clause-small
-swap-requires-clause-small c =
-    let low = few c.args.names.now c.self.inside.heap.leads c.args.self.now.leads (ap (λ v. v.leads) c.self.view_is) c.requires.heap c.lawful-2.ensures in
-    omega (arith, c.lawful.ensures.few)
 
 pub pop-requires : goal.pop-requires
 pop-requires c =
@@ -42,19 +33,15 @@ sinking ns ls qs ms fs l last d heap s len e f =
     let swapped = subst (λ xs. SwappedAt ls xs 0 (length fs)) e (subst (λ k. SwappedAt ls ms 0 k) end s) in
     popped_sinking ns ls fs l (subst (IsHeap ns) (sym d) heap) (swapped_leads ls (fs ++ l ∷ []) 0 (length fs) swapped) (ap length (sym e) ∙ len)
 
-pub lower-requires-clause-sinking : goal.lower-requires-clause-sinking
-lower-requires-clause-sinking c =
+pub lower-requires : goal.lower-requires
+lower-requires c =
     let least = c.in_ok-least.ensures.least c.args.names.now c.requires.heap in
     let same = ap (λ v. v.leads) c.self.view_is in
     let more = some c.args.names.now c.self.inside.heap.leads c.args.self.now.leads c.in_ok-least.least.place same least in
-    sinking c.args.names.now c.self.inside.heap.leads c.args.self.now.leads c.swap.new.self.leads c.pop.new.self.leads c.pop.result (c.len-last.result - 1) same c.requires.heap
-    c.swap.ensures.swapped c.swap.ensures.same_length c.pop.ensures.popped (omega (arith, c.len-last.ensures))
-
-pub lower-requires-clause-small : goal.lower-requires-clause-small
-lower-requires-clause-small c =
-    let low = few c.args.names.now c.self.inside.heap.leads c.args.self.now.leads (ap (λ v. v.leads) c.self.view_is) c.requires.heap c.lawful-2.ensures in
-    let long = ap length c.pop.ensures.popped ∙ length-one_more c.pop.new.self.leads c.pop.result in
-    omega (arith, c.lawful.ensures.few, c.swap.ensures.same_length)
+    record {
+      sinking = sinking c.args.names.now c.self.inside.heap.leads c.args.self.now.leads c.swap.new.self.leads c.pop.new.self.leads c.pop.result (c.len-last.result - 1) same c.requires.heap
+          c.swap.ensures.swapped c.swap.ensures.same_length c.pop.ensures.popped (omega (arith, c.len-last.ensures));
+    }
 
 -- the least name and what is left
 others : (ns : List Name) (ls qs ms fs rs : List Lead) (l : Lead) (last n : ℕ) → ls ≡ qs → IsTable ns → IsHeap ns qs → IsLeast ns qs n → SwappedAt ls ms 0 last → length ms ≡ length ls → ms ≡ fs ++ l ∷ [] → last + 1 ≡ length ls

@@ -1,4 +1,4 @@
-use Rattle.std.proofs.Common.{◌≡◌, None, Some, sym, ap, subst, ◌∙◌}
+use Rattle.std.proofs.Common.{◌≡◌, None, Some, sym, subst}
 use Rattle.ic_name.specs.declared.ports.Port.TheVariants as port
 use Rattle.ic_cause.specs.Dependents.{causes_in}
 use Rattle.ic_set.specs.Reading.{net_in, IsPortAt}

@@ -1,4 +1,4 @@
-use Rattle.std.proofs.Common.{◌≡◌, Some, ap, arith, ◌∙◌}
+use Rattle.std.proofs.Common.{Some, ap, arith, ◌∙◌}
 use Rattle.ic_set.proofs.ReadNets.{living_kind, one_partner, three_partners, two_arms}
 use Rattle.ic_set.proofs.bare.BareSet.partners.Goals as goal
 

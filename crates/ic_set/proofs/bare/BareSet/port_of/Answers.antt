@@ -1,8 +1,7 @@
-use Rattle.std.proofs.Common.{◌≡◌, refl, sym, ap, subst, ◌∙◌}
+use Rattle.std.proofs.Common.{refl, sym, ap, subst, ◌∙◌}
 use Rattle.ic_name.specs.declared.ports.Port.TheVariants as port
 use Rattle.ic_names.specs.Tables.{name_at}
 use Rattle.ic_path.specs.Orders.{IsIn}
-use Rattle.ic_roster.specs.Rosters.{Member}
 use Rattle.ic_set.specs.Reading.{IsPortAt}
 use Rattle.ic_set.specs.Views.{NamedView}
 use Rattle.ic_set.proofs.bare.BareSet.port_of.Goals as goal

@@ -1,4 +1,4 @@
-use Rattle.std.proofs.Common.{◌≡◌, inl, refl, sym, ap, subst, ◌∙◌}
+use Rattle.std.proofs.Common.{inl, refl, sym, ap, subst, ◌∙◌}
 use Rattle.ic_names.specs.Tables.{name_at}
 use Rattle.ic_path.specs.Orders.{IsIn}
 use Rattle.ic_roster.specs.Rosters.{Member}

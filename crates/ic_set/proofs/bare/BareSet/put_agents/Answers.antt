@@ -1,9 +1,9 @@
-use Rattle.std.proofs.Common.{◌≡◌, refl, subst, ◌∙◌}
+use Rattle.std.proofs.Common.{refl, subst, ◌∙◌}
 use Rattle.std.proofs.lemmas.List.{take_more, take_all}
 use Rattle.ic_name.specs.declared.ids.AgentId.{AgentId}
 use Rattle.ic_roster.specs.Rosters.{AreByName}
 use Rattle.ic_set.specs.Views.{NamedView}
-use Rattle.ic_set.proofs.ReadNets.{HaveCome, none_come, one_more, all_come}
+use Rattle.ic_set.proofs.ReadNets.{none_come, one_more, all_come}
 use Rattle.ic_set.proofs.bare.BareSet.put_agents.Goals as goal
 
 -- an id, where there is none

@@ -1,32 +1,48 @@
-use Rattle.std.proofs.Common.{◌≡◌, ◌≤◌, length, arith, ap}
+use Rattle.std.proofs.Common.{◌≡◌, ◌≤◌, length, inl, inr, refl, sym, arith, ap}
 use Rattle.ic_set.specs.Queues.{HasLeads, KeepsQueue}
 use Rattle.ic_set.specs.Removal.{Stands}
 use Rattle.ic_set.specs.Sets.{IsStandingSet}
+use Rattle.ic_set.proofs.QueuedLeads.{still_queued}
 use Rattle.ic_standing.proofs.PairsLeft.{left_each}
 use Rattle.ic_standing.proofs.set.StandingSet.take_out.Goals as goal
 
 pub take_out-lead-requires-clause-free : goal.take_out-lead-requires-clause-free
 take_out-lead-requires-clause-free g c = rw (c.deref_mut.ensures.value, c.self.view_is) c.requires.free
 
-pub put_lead-requires-clause-inside : goal.put_lead-requires-clause-inside
-put_lead-requires-clause-inside g c =
+pub put-requires-clause-inside : goal.put-requires-clause-inside
+put-requires-clause-inside g c =
     let stands : Stands c.deref_mut.result.now.set c.args.id = rw (c.deref_mut.ensures.value, c.self.view_is) c.requires.standing in
-    rw c.deref-3.ensures ((c.take_out-lead.ensures.lead stands.0 stands.1 stands.2).within)
+    rw (c.names.ensures, c.roster.ensures.names, c.deref-3.ensures) ((c.take_out-lead.ensures.lead stands.0 stands.1 stands.2).within)
+
+pub put-requires-clause-heap : goal.put-requires-clause-heap
+put-requires-clause-heap g c = rw (c.names.ensures, c.roster.ensures.names, c.deref-3.ensures, c.take_out-lead.ensures.names, c.deref_mut.ensures.value) c.self.invariant.heap
+
+pub put-requires-clause-room : goal.put-requires-clause-room
+put-requires-clause-room g c = rw (c.names.ensures, c.roster.ensures.names, c.deref-3.ensures, c.take_out-lead.ensures.names, c.deref_mut.ensures.value) c.self.invariant.room
+
+pub drop_stale-requires-clause-heap : goal.drop_stale-requires-clause-heap
+drop_stale-requires-clause-heap g c =
+    let heap = c.put.ensures.heap in
+    rw c.deref-4.ensures (rw (c.names.ensures, c.roster.ensures.names, c.deref-3.ensures) at heap)
 
 pub drop_stale-requires-clause-each : goal.drop_stale-requires-clause-each
 drop_stale-requires-clause-each g c =
     let stands : Stands c.deref_mut.result.now.set c.args.id = rw (c.deref_mut.ensures.value, c.self.view_is) c.requires.standing in
+    let names = c.take_out-lead.new.self.names in
+    let place = c.take_out-lead.result.place in
     let lead = c.take_out-lead.ensures.lead stands.0 stands.1 stands.2 in
     let each : HasLeads c.deref_mut.result.now c.self.inside.queue.leads = rw c.deref_mut.ensures.value c.self.invariant.each in
     let before : IsStandingSet c.deref_mut.result.now.set = rw (c.deref_mut.ensures.value, ← c.deref.ensures) c.lawful.ensures.set in
     let after : IsStandingSet c.take_out-lead.new.self.set = rw (← c.deref-2.ensures) c.lawful-2.ensures.set in
     rw c.deref-4.ensures (left_each c.deref_mut.result.now c.take_out-lead.new.self before after c.args.id c.take_out-lead.ensures.out stands.0 stands.1 stands.2
-    c.self.inside.queue.leads c.put_lead.new.queue.leads c.take_out-lead.result.place c.take_out-lead.ensures.names lead each (rw c.deref-3.ensures at c.put_lead.ensures.stay) (rw c.deref-3.ensures at c.put_lead.ensures.led))
+    c.self.inside.queue.leads c.put.new.self.leads place c.take_out-lead.ensures.names lead each
+    (still_queued names _ _ (λ n i. (c.put.ensures.entered n).1 (inr i)))
+    (λ f q h same. (place, record { within = lead.within; named = sym same }, (c.put.ensures.entered place).1 (inl refl))))
 
 pub invariant_of-self : goal.invariant_of-self
 invariant_of-self g c =
     let room = c.self.invariant.room in
-    let more = c.put_lead.ensures.room in
+    let more = c.put.ensures.room in
     let left = c.drop_stale.ensures.room in
     let names : length c.take_out-lead.new.self.names ≡ length c.self.inside.bare.value.names = rw c.deref_mut.ensures.value at (ap length c.take_out-lead.ensures.names) in
     let enough : length c.take_out-lead.new.self.names ≤ c.drop_stale.new.queue.room = omega (arith, room, more, left, names) in

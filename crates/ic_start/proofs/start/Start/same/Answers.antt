@@ -6,30 +6,30 @@ use Rattle.ic_start.proofs.SameStarts.{texts, texts_decide, same_start}
 use Rattle.ic_start.proofs.start.Start.same.Goals as goal
 use Rattle.ic_start.proofs.start.Start.same.Goals.{Joined-eq, Joined-same_links, then-eq, else-eq, then-same_links, else-same_links}
 
-kinds_and_links : (c : Joined-eq) → Decides c.if-eq.value ((c.self.inside.kinds.items ≡ c.other.inside.kinds.items) × (c.self.inside.links.items ≡ c.other.inside.links.items))
+kinds_and_links : (c : Joined-eq) → Decides c.if-eq.value ((c.deref.result.now.kinds.items ≡ c.deref-2.result.now.kinds.items) × (c.deref.result.now.links.items ≡ c.deref-2.result.now.links.items))
 kinds_and_links c =
-    let kinds : Decides c.eq.result (c.self.inside.kinds.items ≡ c.other.inside.kinds.items) = slice_eq-Decides (λ a b. search rules) _ _ _ c.eq.ensures in
+    let kinds : Decides c.eq.result (c.deref.result.now.kinds.items ≡ c.deref-2.result.now.kinds.items) = slice_eq-Decides (λ a b. search rules) _ _ _ c.eq.ensures in
     elim c.if-eq.branch [
-      | then-eq w ↦ decides_then c.eq.result w.same_links.result c.if-eq.value w.if-eq.true w.value-is kinds (rw (← w.deref.ensures.value, ← w.deref-then-eq.ensures.value) w.same_links.ensures)
+      | then-eq w ↦ decides_then c.eq.result w.same_links.result c.if-eq.value w.if-eq.true w.value-is kinds (rw (← w.deref-then-eq.ensures.value, ← w.deref-then-eq-2.ensures.value) w.same_links.ensures)
       | else-eq w ↦ decides_else c.eq.result c.if-eq.value w.if-eq.false (w.value-is ∙ w.if-eq.false) kinds
     ]
 
 names_too : (c : Joined-same_links)
-    → Decides c.if-same_links.value (((c.self.inside.kinds.items ≡ c.other.inside.kinds.items) × (c.self.inside.links.items ≡ c.other.inside.links.items)) × (texts c.self.inside.names.items ≡ texts c.other.inside.names.items))
+    → Decides c.if-same_links.value (((c.deref.result.now.kinds.items ≡ c.deref-2.result.now.kinds.items) × (c.deref.result.now.links.items ≡ c.deref-2.result.now.links.items)) × (texts c.deref.result.now.names.items ≡ texts c.deref-2.result.now.names.items))
 names_too c =
     elim c.if-same_links.branch [
       | then-same_links w ↦
-          decides_then c.if-eq.value w.eq-then-same_links.result c.if-same_links.value w.if-same_links.true w.value-is (kinds_and_links c.before) (texts_decide c.self.inside.names.items c.other.inside.names.items _ w.eq-then-same_links.ensures)
+          decides_then c.if-eq.value w.eq-then-same_links.result c.if-same_links.value w.if-same_links.true w.value-is (kinds_and_links c.before) (texts_decide c.deref.result.now.names.items c.deref-2.result.now.names.items _ w.eq-then-same_links.ensures)
       | else-same_links w ↦ decides_else c.if-eq.value c.if-same_links.value w.if-same_links.false (w.value-is ∙ w.if-same_links.false) (kinds_and_links c.before)
     ]
 
 pub returns-then-eq-2 : goal.returns-then-eq-2
 returns-then-eq-2 c =
-    let profiles : Decides c.eq-then-eq-2.result (c.self.inside.profile ≡ c.other.inside.profile) = rw c.eq-then-eq-2.ensures (search rules) in
-    rw (← c.self.view_is, ← c.other.view_is)
-    (same_start _ _ _ _ _ _ _ _ c.eq-then-eq-2.result c.self.invariant c.other.invariant (decides_then c.if-same_links.value _ _ c.if-eq-2.true refl (names_too (goal.at.returns-then-eq-2 c).Joined-same_links) profiles))
+    let profiles : Decides c.eq-then-eq-2.result (c.deref.result.now.profile ≡ c.deref-2.result.now.profile) = rw c.eq-then-eq-2.ensures (search rules) in
+    rw (← c.self.view_is, ← c.other.view_is, ← c.deref.ensures, ← c.deref-2.ensures)
+    (same_start _ _ _ _ _ _ _ _ c.eq-then-eq-2.result (rw c.deref.ensures c.self.invariant) (rw c.deref-2.ensures c.other.invariant) (decides_then c.if-same_links.value _ _ c.if-eq-2.true refl (names_too (goal.at.returns-then-eq-2 c).Joined-same_links) profiles))
 
 pub returns-else-eq-2 : goal.returns-else-eq-2
 returns-else-eq-2 c =
-    rw (← c.self.view_is, ← c.other.view_is)
-    (same_start _ _ _ _ _ _ _ _ c.if-same_links.value c.self.invariant c.other.invariant (decides_else c.if-same_links.value _ c.if-eq-2.false c.if-eq-2.false (names_too (goal.at.returns-else-eq-2 c).Joined-same_links)))
+    rw (← c.self.view_is, ← c.other.view_is, ← c.deref.ensures, ← c.deref-2.ensures)
+    (same_start _ _ _ _ _ _ _ _ c.if-same_links.value (rw c.deref.ensures c.self.invariant) (rw c.deref-2.ensures c.other.invariant) (decides_else c.if-same_links.value _ c.if-eq-2.false c.if-eq-2.false (names_too (goal.at.returns-else-eq-2 c).Joined-same_links)))

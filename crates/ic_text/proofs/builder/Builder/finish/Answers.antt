@@ -30,4 +30,4 @@ returns c =
     let joins = c.into_vec-links.ensures.joins in
     let texts = c.in_ok-names.ensures in
     let done = finishes (length c.args.text.now) s c.into_vec-links.result.items (map (λ t. t.items) c.in_ok-names.names.items) rest none few joins texts in
-    done ∙ ap Ok (sym c.make.ensures)
+    done ∙ ap Ok (sym c.in_ok-make.ensures)

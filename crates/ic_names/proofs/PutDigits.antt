@@ -1,0 +1,54 @@
+-- Digits of a block that are put at their places, the last one first.
+use Rattle.std.proofs.Common.{◌≡◌, ℕ, ◌+◌, ◌-◌, ◌*◌, ◌/◌, ◌%◌, ◌<◌, ◌≤◌, List, [], ◌∷◌, ◌++◌, length, take, drop, set, sym, ◌∙◌, ap, arith}
+use Rattle.std.specs.List.{refill}
+use Rattle.std.proofs.Math.ListN.{get_or}
+use Rattle.std.proofs.Math.Seq.{take-append_seam}
+use Rattle.std.proofs.lemmas.List.{take_more, take_all, take-append-drop, append_assoc, drop_more, drop_all, drop-set, get_or-drop, length-drop}
+use Rattle.std.proofs.lemmas.List.Elements.{All-get_or}
+use Rattle.ic_name.specs.Names.{Name, depth}
+use Rattle.ic_names.specs.Keys.{IsProper}
+use Rattle.ic_names.specs.Blocks.{anchor_depth, number_of, block_of}
+use Rattle.ic_names.proofs.Blocks.{number-push}
+
+-- the digits from `at` on stand at their places, and those before it, from `first` on, are the number
+pub record ArePut (n : Name) (first at deep number : ℕ) (digits old : List ℕ) : Type 0 where
+  pub left : number ≡ number_of (take (at - first) (drop first n.digits))
+  pub put : drop at digits ≡ drop at n.digits ++ drop deep old
+
+-- at first none is put
+pub none_put : (n : Name) (first at number : ℕ) (old : List ℕ) → at ≡ depth n → first ≡ anchor_depth n → number ≡ block_of n → ArePut n first at at number old old
+none_put n first at number old deep anchor is = record {
+  left = is ∙ ap (λ k. number_of (drop k n.digits)) (sym anchor) ∙ ap number_of (sym (take_all (at - first) (drop first n.digits) (omega (arith, length-drop first n.digits, deep))));
+  put = ap (λ ds. ds ++ drop at old) (sym (drop_all at n.digits (omega (arith, deep))));
+}
+
+-- one digit more
+pub one_put : (n : Name) (first at deep number : ℕ) (digits old : List ℕ) → IsProper n → first ≤ at → at < depth n → at < length digits
+    → ArePut n first (at + 1) deep number digits old → ArePut n first at deep (number / 4) (set digits at (number % 4)) old
+one_put n first at deep number digits old is low high inside are =
+    let xs = drop first n.digits in
+    let k = at - first in
+    let long : k < length xs = omega (arith, length-drop first n.digits, low, high) in
+    let more : take (k + 1) xs ≡ take k xs ++ get_or xs k 0 ∷ [] = take_more xs k 0 long in
+    let count : at + 1 - first ≡ k + 1 = omega (arith, low) in
+    let at_k : first + k ≡ at = omega (arith, low) in
+    let same : get_or xs k 0 ≡ get_or n.digits at 0 = get_or-drop first n.digits k 0 ∙ ap (λ i. get_or n.digits i 0) at_k in
+    let small : get_or xs k 0 < 4 = let h = All-get_or (λ d. d < 4) n.digits at 0 high is.digit in omega (arith, same, h) in
+    let number_is : number ≡ 4 * number_of (take k xs) + get_or xs k 0 =
+    are.left ∙ ap (λ i. number_of (take i xs)) count ∙ ap number_of more ∙ number-push (take k xs) (get_or xs k 0) in
+    let rest : number / 4 ≡ number_of (take k xs) = omega (arith, number_is, small) in
+    let digit : number % 4 ≡ get_or n.digits at 0 = omega (arith, number_is, small, same) in
+    record {
+      left = rest;
+      put = drop-set digits at (number % 4) inside ∙ ap (λ ds. number % 4 ∷ ds) are.put ∙ ap (λ d. d ∷ (drop (at + 1) n.digits ++ drop deep old)) digit
+          ∙ ap (λ ds. ds ++ drop deep old) (sym (drop_more n.digits at 0 high));
+    }
+
+-- the digits of a name before a place, and those from there on with others behind them, are its digits with the others behind
+pub joined_digits : (n : Name) (k : ℕ) (digits rest : List ℕ) → digits ≡ drop k n.digits ++ rest → take k n.digits ++ digits ≡ n.digits ++ rest
+joined_digits n k digits rest are =
+    ap (λ ds. take k n.digits ++ ds) are ∙ sym (append_assoc (take k n.digits) (drop k n.digits) rest) ∙ ap (λ ds. ds ++ rest) (take-append-drop k n.digits)
+
+-- a list that is filled anew with one as long
+pub refilled : (old new : List ℕ) → length new ≡ length old → refill (length old) old new ≡ new
+refilled old new same = ap (λ k. take k (new ++ drop (length new) old)) (sym same) ∙ take-append_seam new (drop (length new) old)
