@@ -10,6 +10,8 @@ pub enum Difference {
     Fault(Fault),
     /// The first line that isn't written as it is stored, counted from 1.
     Line(usize),
+    /// The first line that isn't said as it is stored, by a session that explains itself, counted from 1.
+    Said(usize),
 }
 
 impl fmt::Display for Difference {
@@ -18,6 +20,7 @@ impl fmt::Display for Difference {
             Difference::Status(status) => write!(f, "the status is {status:?}"),
             Difference::Fault(fault) => write!(f, "the session failed: {fault:?}"),
             Difference::Line(number) => write!(f, "line {number} differs"),
+            Difference::Said(number) => write!(f, "line {number} of what is said differs"),
         }
     }
 }
@@ -37,7 +40,7 @@ pub fn first_difference(
 }
 
 /// The number of the first line that differs, counted from 1.
-fn different_line(written: &[u8], wanted: &[u8]) -> Option<usize> {
+pub fn different_line(written: &[u8], wanted: &[u8]) -> Option<usize> {
     if written == wanted {
         return None;
     }

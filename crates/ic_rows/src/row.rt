@@ -10,6 +10,8 @@ const MAX_WORKERS: u8 = 64;
 pub enum Stores {
     /// The fast store alone.
     Fast,
+    /// The fast store alone, by a session that explains itself.
+    Explained,
     /// The fast store and the plain one.
     Both,
 }
@@ -70,6 +72,7 @@ fn status_of(column: &str) -> Option<Status> {
 fn stores_of(column: &str) -> Option<Stores> {
     match column {
         "fast" => Some(Stores::Fast),
+        "explained" => Some(Stores::Explained),
         "both" => Some(Stores::Both),
         _ => None,
     }

@@ -1,8 +1,8 @@
-use crate::compare::{Difference, first_difference};
+use crate::compare::{Difference, different_line, first_difference};
 use crate::plain::run_plain_session;
 use crate::row::{Row, Stores};
 use anyhow::{Context, Result};
-use ic_session::run_session;
+use ic_session::{Mode, NoGate, Setting, run_in, run_session};
 use std::alloc::Global;
 use std::fs;
 use std::rt::Files;
@@ -16,22 +16,31 @@ pub fn passes<R: Files + Print + AllocGlobal + Threads + Wait + Sync>(
 ) -> Result<bool> {
     let input = stored(rt, row.name, "in")?;
     let wanted = stored(rt, row.name, "out")?;
-    let fast = is_same(
-        rt,
-        row.name,
-        "fast",
-        on_fast(rt, rt.alloc(), row, &input, &wanted),
-    )?;
-    let plain = match row.stores {
-        Stores::Fast => true,
-        Stores::Both => is_same(
-            rt,
-            row.name,
-            "plain",
-            on_plain(rt.alloc(), row, &input, &wanted),
-        )?,
-    };
-    Ok(fast && plain)
+    match row.stores {
+        Stores::Fast => passes_fast(rt, row, &input, &wanted),
+        Stores::Explained => {
+            let said = stored(rt, row.name, "errors")?;
+            let found = on_explained(rt, rt.alloc(), row, &input, &wanted, &said);
+            is_same(rt, row.name, "fast", found)
+        }
+        Stores::Both => {
+            let fast = passes_fast(rt, row, &input, &wanted)?;
+            let found = on_plain(rt.alloc(), row, &input, &wanted);
+            let plain = is_same(rt, row.name, "plain", found)?;
+            Ok(fast && plain)
+        }
+    }
+}
+
+/// Whether the session of a row is answered as is stored over the fast store.
+fn passes_fast<R: Print + AllocGlobal + Threads + Wait + Sync>(
+    rt: &R,
+    row: &Row<'_>,
+    input: &[u8],
+    wanted: &[u8],
+) -> Result<bool> {
+    let found = on_fast(rt, rt.alloc(), row, input, wanted);
+    is_same(rt, row.name, "fast", found)
 }
 
 /// What stands in the session's file of this ending.
@@ -67,6 +76,35 @@ fn on_fast<T: Threads + Wait + Sync>(
         row.budget,
     );
     first_difference(ended, row.status, &written, wanted)
+}
+
+/// What differs over the fast store where the session explains itself, in what it writes or in what it says.
+fn on_explained<T: Threads + Wait + Sync>(
+    threads: &T,
+    alloc: Global,
+    row: &Row<'_>,
+    input: &[u8],
+    wanted: &[u8],
+    said: &[u8],
+) -> Option<Difference> {
+    let mut reader = input;
+    let mut written = Vec::new(alloc);
+    let mut errors = Vec::new(alloc);
+    let setting = Setting {
+        threads,
+        alloc,
+        gate: &NoGate,
+        mode: Mode {
+            workers: row.workers,
+            budget: row.budget,
+            explains: true,
+        },
+    };
+    let ended = run_in(&setting, &mut reader, &mut written, &mut errors);
+    match first_difference(ended, row.status, &written, wanted) {
+        None => different_line(&errors, said).map(Difference::Said),
+        found => found,
+    }
 }
 
 /// What differs over the plain store.
