@@ -1,56 +1,239 @@
 #!/usr/bin/env python3
-"""Refuses each growth of memory in turn, and looks whether the calls then leave all as it was and can be made again.
+"""Refuses each growth of memory in turn, and looks whether all is as it was and the same call can be made again.
 
-    python3 bench/refused_growth.py [HOW_MANY] [CRATE..]
+    python3 bench/refused_growth.py [WORD..]
 
-Runs the tests of three crates so often, each time with another one of the first allocations of each test refused (40 of
-them if no number is given); with crates named, it runs those of these alone. Each test passes whichever allocation is
-refused: it looks at what is left where a call is answered by want of memory, and makes the call again. It takes about a
-minute for each number and crate.
+It runs what `rt ci` has built: each test below and each worked session again and again, the first time with the first
+allocation refused, then with the second one, and so on until a run meets none that is refused. With words given, only tests
+and sessions whose names contain one of them are run. It needs a C compiler, for the few lines that refuse. All of it takes
+about two minutes.
+
+Tests: each passes whichever allocation is refused. It looks at what is left where a call is answered by want of memory,
+and makes the call again.
+
+Sessions: where no answer can be given, the program ends with status 3, and what it wrote is a front of what it writes with
+memory. Where a command is answered by `refused 25`, it is given once more, with the same allocation refused: then the first
+of both answers is the refusal, the second what is wanting of the worked answer, and all others are the worked ones. With
+several workers, of which no two runs take memory in one order, what was written up to the refusal is looked at alone.
+Sessions that take memory thousands of times have some of these refused, from the first to the last.
 """
+import os
 import pathlib
 import re
+import struct
 import subprocess
 import sys
+import tempfile
+import time
 
 CRATES = pathlib.Path(__file__).resolve().parent.parent / "crates"
+ROWS = CRATES / "ic_rows" / "data"
+PROGRAM = CRATES / "ic_bench" / "out" / "ic_bench"
 
-# The modules whose tests pass whichever allocation is refused, by crate: links of the fast store; calls of desks over both
-# stores, sessions of one and two workers, and undos with room; firings of a shared bench.
-MODULES = {
+# The tests that pass whichever allocation is refused, by crate: links of the fast store; calls of desks over both stores,
+# sessions of one and two workers, and undos with room; firings and sweeps of a shared bench.
+TESTS = {
     "ic_test_nets": ["growth"],
     "ic_test_sessions": ["refused_growth", "repeated_lines", "undos_with_room"],
     "ic_test_threads": ["refused_growth"],
 }
 
+# A session that takes memory more often than MANY times has so many of its allocations refused as take about these seconds.
+MANY = 1500
+SECONDS = 4
 
-def outcomes(crate, refused):
-    """Which tests of the modules passed, by name, where the allocation of this number is refused; empty if none ran."""
-    ran = subprocess.run(
-        ["rt", "try", "--test", "--seconds", "20", "--fail-alloc", str(refused)],
-        cwd=CRATES / crate,
-        capture_output=True,
-        text=True,
-    )
-    modules = "|".join(MODULES[crate])
-    lines = re.findall(rf"^test ((?:{modules})::\w+) \.\.\. (\w+)$", ran.stdout + ran.stderr, re.M)
-    return {name: told == "ok" for name, told in lines}
+STATUS_OF_NO_MEMORY = 3
+
+# Refuses the allocation of the number REFUSED, and counts them in the file ASKED.
+REFUSER = r"""
+#include <errno.h>
+#include <fcntl.h>
+#include <stdatomic.h>
+#include <stdlib.h>
+#include <sys/mman.h>
+#include <unistd.h>
+
+extern void *__libc_malloc(size_t);
+extern void *__libc_realloc(void *, size_t);
+
+static atomic_long here;
+static atomic_long *asked = &here;
+static long refused;
+
+__attribute__((constructor)) static void begin(void) {
+    refused = atol(getenv("REFUSED"));
+    int file = open(getenv("ASKED"), O_RDWR | O_CREAT | O_TRUNC, 0600);
+    if (file < 0 || ftruncate(file, sizeof here)) return;
+    void *shared = mmap(NULL, sizeof here, PROT_READ | PROT_WRITE, MAP_SHARED, file, 0);
+    if (shared != MAP_FAILED) asked = shared;
+}
+
+static int refuse(void) {
+    if (atomic_fetch_add(asked, 1) + 1 != refused) return 0;
+    errno = ENOMEM;
+    return 1;
+}
+
+void *malloc(size_t size) { return refuse() ? NULL : __libc_malloc(size); }
+void *realloc(void *old, size_t size) { return refuse() ? NULL : __libc_realloc(old, size); }
+"""
+
+
+class Refuser:
+    """Runs commands with one allocation refused."""
+
+    def __init__(self, folder):
+        self.asked = folder / "asked"
+        self.library = folder / "refuser.so"
+        source = folder / "refuser.c"
+        source.write_text(REFUSER)
+        subprocess.run(["cc", "-O2", "-shared", "-fPIC", "-o", self.library, source], check=True)
+
+    def run(self, command, refused, given=b""):
+        """Status and output with the allocation of this number refused, and how many there were; 0 refuses none."""
+        env = {**os.environ, "LD_PRELOAD": str(self.library), "REFUSED": str(refused), "ASKED": str(self.asked)}
+        ran = subprocess.run(command, input=given, capture_output=True, env=env, timeout=60)
+        return ran.returncode, ran.stdout, struct.unpack("l", self.asked.read_bytes())[0]
+
+
+def fails_in_test(refuser, command):
+    """At which allocations a test fails, and how many there are."""
+    failed, refused = [], 0
+    while True:
+        refused += 1
+        status, _, asked = refuser.run(command, refused)
+        if status != 0:
+            failed.append(refused)
+        if asked < refused:
+            return failed, refused - 1
+
+
+class Session:
+    """A worked session: its net, its commands, each with the lines that belong to it, and how it is answered."""
+
+    def __init__(self, line):
+        self.name, self.workers, self.budget, self.status, stores, _ = line.split("\t")
+        self.command = [str(PROGRAM), "--workers", self.workers, "--budget", self.budget]
+        if stores == "explained":
+            self.command.append("--explain")
+        self.text = (ROWS / f"{self.name}.in").read_bytes()
+        self.answer = (ROWS / f"{self.name}.out").read_bytes()
+        bar = re.search(rb"^---\r?(\n|\Z)", self.text, re.M)
+        self.net, rest = (self.text[: bar.end()], self.text[bar.end() :]) if bar else (self.text, b"")
+        lines = rest.splitlines(keepends=True)
+        if lines and not lines[-1].endswith(b"\n"):
+            lines[-1] += b"\n"
+        self.commands = []
+        while lines:
+            taken = re.fullmatch(rb"absorb (\d{1,4})\n", lines[0])
+            count = 1 + (int(taken[1]) if taken else 0)
+            self.commands.append(b"".join(lines[:count]))
+            lines = lines[count:]
+
+    def front(self, count):
+        """The session with so many of its commands."""
+        return self.net + b"".join(self.commands[:count])
+
+    def places(self, refuser):
+        """How long the answers to the first commands are, for each number of them."""
+        return [len(refuser.run(self.command, 0, self.front(k))[1]) for k in range(len(self.commands) + 1)]
+
+
+def what_is_wanting(command, refusal, whole):
+    """The command that does the rest of one that was refused so, and the answer to it; None where that isn't known."""
+    if refusal in (b"refused 25 memory\n", b"refused 25 memory after 0\n", b"refused 25 memory after 0 undone 0 fired\n"):
+        return command, whole
+    done = re.fullmatch(rb"refused 25 memory after (\d+)\n", refusal)
+    asked = re.fullmatch(rb"reduce (\d+)\n", command)
+    told = re.fullmatch(rb"reduced (\d+) (\w+)\n", whole)
+    if done and asked and told:
+        rest = int(told[1]) - int(done[1])
+        most = rest if told[2] == b"budget" else int(asked[1])
+        return b"reduce %d\n" % most, b"reduced %d %s\n" % (rest, told[2])
+    done = re.fullmatch(rb"refused 25 memory after (\d+) undone (\d+) fired\n", refusal)
+    told = re.fullmatch(rb"(back \S+) undone (\d+) fired (\d+)\n", whole)
+    if done and told:
+        undone, fired = int(told[2]) - int(done[1]), int(told[3]) - int(done[2])
+        return command, b"%s undone %d fired %d\n" % (told[1], undone, fired)
+    return None
+
+
+def is_right(refuser, session, places, refused, status, written):
+    """Whether a run of a session with this allocation refused ended and wrote as it should."""
+    if status == STATUS_OF_NO_MEMORY:
+        return session.answer.startswith(written)
+    if status != int(session.status):
+        return False
+    if written == session.answer:
+        return True
+    found = re.search(rb"^refused 25 memory.*\n", written, re.M)
+    if found is None or not session.answer.startswith(written[: found.start()]):
+        return False
+    if session.workers != "1":
+        return True
+    place = max(k for k in range(len(session.commands)) if places[k] == found.start())
+    command, whole = session.commands[place], session.answer[places[place] : places[place + 1]]
+    again = what_is_wanting(command, found[0], whole)
+    if again is None:
+        return False
+    text = session.front(place + 1) + again[0] + b"".join(session.commands[place + 1 :])
+    answer = session.answer[: places[place]] + found[0] + again[1] + session.answer[places[place + 1] :]
+    return refuser.run(session.command, refused, text)[:2] == (status, answer)
+
+
+def fails_in_session(refuser, session):
+    """At which allocations a session ends or writes something wrong, how many were refused, and how many there are."""
+    begun = time.perf_counter()
+    _, written, asked = refuser.run(session.command, 0, session.text)
+    taken = time.perf_counter() - begun
+    if written != session.answer:
+        return ["none"], 0, asked
+    places = session.places(refuser) if session.workers == "1" and asked <= MANY else []
+    step = 1 if asked <= MANY else max(1, int(asked * taken / SECONDS))
+    failed, tried = [], 0
+    for refused in range(1, asked + 1, step):
+        status, written, _ = refuser.run(session.command, refused, session.text)
+        tried += 1
+        if places or session.workers != "1":
+            right = is_right(refuser, session, places, refused, status, written)
+        else:
+            right = is_begun(session, status, written)
+        if not right:
+            failed.append(refused)
+    return failed, tried, asked
+
+
+def is_begun(session, status, written):
+    """Whether a long session wrote as it should up to a refusal, if there is one."""
+    if status not in (STATUS_OF_NO_MEMORY, int(session.status)):
+        return False
+    front = re.split(rb"^refused 25 memory.*\n", written, maxsplit=1, flags=re.M)[0]
+    return session.answer.startswith(front)
 
 
 def main():
-    count = int(sys.argv[1]) if len(sys.argv) > 1 else 40
-    bad = []
-    for crate in sys.argv[2:] or MODULES:
-        tests = set()
-        for refused in range(1, count + 1):
-            told = outcomes(crate, refused)
-            tests.update(told)
-            failed = [name for name, passed in told.items() if not passed]
-            bad += [f"{crate} {name} at {refused}" for name in failed]
-            if not told:
-                bad.append(f"{crate} ran no test at {refused}")
-        print(f"{crate}: refused each of the first {count} allocations of {len(tests)} tests", flush=True)
-    print(f"failed: {', '.join(bad) or 'none'}")
+    words = sys.argv[1:]
+    wanted = lambda name: not words or any(word in name for word in words)
+    bad, met = [], 0
+    with tempfile.TemporaryDirectory() as folder:
+        refuser = Refuser(pathlib.Path(folder))
+        for crate, modules in TESTS.items():
+            program = CRATES / crate / "out" / f"{crate}_tests"
+            listed = subprocess.run([program, "--list"], capture_output=True, text=True, check=True).stdout
+            for name in re.findall(r"^(\S+): test$", listed, re.M):
+                if name.split("::")[0] in modules and wanted(name):
+                    failed, asked = fails_in_test(refuser, [program, name])
+                    met += asked
+                    bad += [f"{crate} {name} at {number}" for number in failed]
+                    print(f"{crate} {name}: each of {asked} allocations refused", flush=True)
+        for line in (ROWS / "index.tsv").read_text().splitlines()[1:]:
+            session = Session(line)
+            if wanted(session.name):
+                failed, tried, asked = fails_in_session(refuser, session)
+                met += tried
+                bad += [f"{session.name} at {number}" for number in failed]
+                print(f"session {session.name}: {tried} of {asked} allocations refused", flush=True)
+    print(f"{met} runs, failed: {', '.join(bad) or 'none'}")
     return 1 if bad else 0
 
 

@@ -6,13 +6,12 @@ ghost use Rattle.ic_link.specs.Links.{shape, Joins};
 ghost use Rattle.ic_cause.specs.Makers.{AreMakers};
 
 use ic_link::LinkStore;
-use ic_name::{AgentId, EventId, LinkId, MakerId, Spot};
-use std::alloc::{AllocError, Global};
+use ic_name::{AgentId, EventId, Spot};
+use std::alloc::AllocError;
 
 /// The direct causes of an event of two agents whose principal ports a path of the store joins: the events that made
 /// links of the path, each once (Danos and Krivine 2004).
 pub fn direct_causes<L: LinkStore>(
-    alloc: Global,
     store: &L,
     a: AgentId,
     b: AgentId,
@@ -22,21 +21,8 @@ pub fn direct_causes<L: LinkStore>(
     ensures { IfOk result (λ causes. (ids : List ALinkId) × Joins (L.links store.now) (spots.Agent a 0) ids (spots.Agent b 0) × AreMakers ids causes.items) }
 {
     store.lawful();
-    let ids = store.path(Spot::Agent(a, 0))?;
-    makers_of(alloc, ids.as_slice())
-}
-
-/// The events that made the links of these ids, each once.
-fn makers_of(alloc: Global, ids: &[LinkId]) -> Result<Vec<EventId>, AllocError>
-    ensures { IfOk result (λ makers. AreMakers ids.now makers.items) }
-{
-    let mut makers = Vec::new(alloc);
-    for id in ids {
-        if let MakerId::Event(event) = id.maker {
-            makers.push(event)?;
-        }
-    }
-    makers.sort_unstable();
-    makers.dedup();
-    Ok(makers)
+    let mut causes = store.makers(Spot::Agent(a, 0))?;
+    causes.sort_unstable();
+    causes.dedup();
+    Ok(causes)
 }

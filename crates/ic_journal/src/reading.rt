@@ -233,7 +233,7 @@ impl<L: LinkStore> Bench<L> {
     pub fn active(&self) -> Result<Vec<ActivePair>, AllocError>
         ensures { IfOk result (λ pairs. AreActivePairs (set_of self.now) pairs.items) }
     {
-        self.set.bare().active()
+        self.set.active()
     }
 
     /// The net of what stands: the one in which the steps of its events end, in each causal order of them (Lafont 1997).

@@ -1,14 +1,9 @@
--- How reading lessens what an input can still be read, and where its faults come from.
-use Rattle.std.proofs.Common.{◌≡◌, ℕ, suc, Bool, true, false, [], ◌∷◌, eqb, ap, ◌+◌, ◌<◌, ◌≤◌, List, length, refl, arith, length-drop, inl, inr}
-use Rattle.std.specs.Prelude.{◌⊎◌}
-use Rattle.std.proofs.lemmas.Bool.{cases_lt}
+-- How reading lessens what an input can still be read.
+use Rattle.std.proofs.Common.{◌≡◌, ℕ, suc, Bool, true, false, [], ◌∷◌, eqb, ap, ◌+◌, ◌<◌, ◌≤◌, List, length, refl, arith, length-drop}
 use Rattle.ic_lines.specs.declared.input.TheConstants.{CHUNK}
 use Rattle.ic_lines.specs.declared.input.Input.{Input}
-use Rattle.ic_lines.specs.declared.piece.IoFault.{IoFault}
-use Rattle.ic_lines.specs.declared.piece.IoFault.TheVariants.{Read, Write, Memory}
 use Rattle.ic_lines.specs.Lines.{has_feed, behind_line}
 use Rattle.ic_lines.specs.Left.{unread, work}
-use Rattle.ic_lines.specs.Faults.{IsReadFault}
 
 -- after one call of the reader there is less, whatever it gave
 pub filled_less : (i j : Input) → j.reads + 1 ≡ i.reads → work j < work i
@@ -46,14 +41,3 @@ pub same_work : (i j : Input) → j.reads ≡ i.reads → unread j ≡ unread i 
 same_work i j e r =
     let same : length (unread j) ≡ length (unread i) = ap length r in
     rw e (omega arith)
-
--- a fault that came later is one from before on
-pub fault_later : (before now after : ℕ) (f : IoFault) → now ≤ before → after ≤ now → IsReadFault now after f → IsReadFault before after f
-fault_later before now after Read h k (inl e) = go (cases_lt after before)
-  where
-    go : (after < before) ⊎ (before ≤ after) → (before ≡ 0) ⊎ (after < before)
-    go (inl l) = inr l
-    go (inr m) = inl (omega arith)
-fault_later before now after Read h k (inr l) = inr (omega arith)
-fault_later before now after Write h k f = f
-fault_later before now after Memory h k f = tt

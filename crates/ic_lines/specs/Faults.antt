@@ -1,15 +1,15 @@
 -- Where a fault of reading comes from, and what a fault of writing leaves.
-use Rattle.std.specs.Prelude.{◌≡◌, ℕ, ◌<◌, ◌⊎◌, List, ◌++◌, Option}
+use Rattle.std.specs.Prelude.{◌≡◌, ℕ, List, ◌++◌, Option}
 use Rattle.std.specs.Io.KnownBytes.{Appends}
 use Rattle.ic_lines.specs.declared.piece.IoFault.{IoFault}
 use Rattle.ic_lines.specs.declared.piece.IoFault.TheVariants.{Read, Write, Memory}
 
--- a fault of reading, by how many calls of the reader were left before and after: none was left, or some was made;
--- reading never ends in a fault of writing
-abbrev pub IsReadFault : ℕ → ℕ → IoFault → Type 0
-IsReadFault before after Read = (before ≡ 0) ⊎ (after < before)
-IsReadFault before after Write = ⊥
-IsReadFault before after Memory = Unit {0}
+-- a fault of reading, by how many calls of the reader are left: with none left it can't be read on; reading never ends in
+-- a fault of writing
+abbrev pub IsReadFault : ℕ → IoFault → Type 0
+IsReadFault left Read = left ≡ 0
+IsReadFault left Write = ⊥
+IsReadFault left Memory = Unit {0}
 
 -- a front of the bytes was appended
 pub record AppendsFront (old new : Option (List ℕ)) (bytes : List ℕ) : Type 0 where

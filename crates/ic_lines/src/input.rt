@@ -9,7 +9,7 @@ use std::io::Read;
 /// The bytes that one read asks for, at most.
 const CHUNK: usize = 8192;
 
-/// An input that is read line by line, with a bound on the number of reads.
+/// An input that is read line by line, with a bound on the number of reads. A reader that failed is not called again.
 #[derive(Drop)]
 pub struct Input {
     buffer: Vec<u8>,
@@ -45,12 +45,12 @@ impl Input {
         &self.buffer[self.start..]
     }
 
-    /// Reads once into the empty buffer. Answers whether there was anything.
+    /// Reads once into the empty buffer. Answers whether there was anything. After a fault of the reader no call is left.
     fn fill<R: Read>(&mut self, reader: &mut R) -> Result<bool, IoFault>
         ensures filled { IfOk result (λ more. Fills more (unread self.new) (R.remaining reader.old) (R.remaining reader.new)) }
         ensures counted { OnOk result (self.new.reads + 1 ≡ self.old.reads) }
         ensures fewer { self.new.reads ≤ self.old.reads }
-        ensures fault { IfErr result (IsReadFault self.old.reads self.new.reads) }
+        ensures fault { IfErr result (IsReadFault self.new.reads) }
     {
         if self.reads == 0 {
             return Err(IoFault::Read);
@@ -66,7 +66,10 @@ impl Input {
                     Err(_) => Err(IoFault::Memory),
                 }
             }
-            Err(_) => Err(IoFault::Read),
+            Err(_) => {
+                self.reads = 0;
+                Err(IoFault::Read)
+            }
         }
     }
 
@@ -84,7 +87,7 @@ impl Input {
         ensures some { IfOk result (λ piece. piece ≡ Piece.Line false → line.new.items ≢ []) }
         ensures less { IfOk result (λ piece. MatchBool (is_line piece) (work self.new < work self.old) (work self.new ≤ work self.old)) }
         ensures fewer { self.new.reads ≤ self.old.reads }
-        ensures fault { IfErr result (IsReadFault self.old.reads self.new.reads) }
+        ensures fault { IfErr result (IsReadFault self.new.reads) }
     {
         line.clear();
         loop {
@@ -109,7 +112,7 @@ impl Input {
             (λ old. left self.new (R.remaining reader.new) ≡ Some (behind_line old))) }
         ensures less { OnOk result (work self.new < work self.old) }
         ensures fewer { self.new.reads ≤ self.old.reads }
-        ensures fault { IfErr result (IsReadFault self.old.reads self.new.reads) }
+        ensures fault { IfErr result (IsReadFault self.new.reads) }
     {
         loop {
             let bytes = self.unread();

@@ -7,5 +7,5 @@ pub mod output;
 pub mod piece;
 
 pub use input::Input;
-pub use output::write_reply;
+pub use output::{Output, write_reply};
 pub use piece::{IoFault, Piece};

@@ -1,4 +1,4 @@
-ghost use Rattle.std.specs.Prelude.{◌≡◌, OnOk, IfErr, OnErr};
+ghost use Rattle.std.specs.Prelude.{◌≡◌, true, false, OnOk, IfErr, OnErr};
 ghost use Rattle.std.specs.Io.KnownBytes.{Appends};
 ghost use Rattle.ic_lines.specs.Faults.{AppendsFront};
 
@@ -25,5 +25,37 @@ pub fn write_reply<W: Write>(writer: &mut W, bytes: &[u8]) -> Result<(), IoFault
     match writer.flush() {
         Ok(()) => Ok(()),
         Err(_) => Err(IoFault::Write),
+    }
+}
+
+/// What is known of a writer to which replies are written: whether it failed.
+#[derive(Drop)]
+pub struct Output {
+    failed: bool,
+}
+
+impl Output {
+    /// That of a writer which hasn't failed yet.
+    pub fn new() -> Output
+        ensures { result.failed ≡ false }
+    {
+        Output { failed: false }
+    }
+
+    /// Writes a reply as `write_reply` does, and notes a fault.
+    pub fn reply<W: Write>(&mut self, writer: &mut W, bytes: &[u8]) -> Result<(), IoFault>
+        ensures written { OnOk result (Appends (W.contents writer.old) (W.contents writer.new) bytes.now) }
+        ensures same { OnOk result (self.new ≡ self.old) }
+        ensures front { OnErr result (AppendsFront (W.contents writer.old) (W.contents writer.new) bytes.now) }
+        ensures fault { IfErr result (λ fault. fault ≡ IoFault.Write) }
+        ensures failed { OnErr result (self.new.failed ≡ true) }
+    {
+        match write_reply(writer, bytes) {
+            Ok(()) => Ok(()),
+            Err(fault) => {
+                self.failed = true;
+                Err(fault)
+            }
+        }
     }
 }

@@ -5,3 +5,4 @@ pub mod RowWalks
 pub mod RowRings
 pub mod Restored
 pub mod OnlyLink
+pub mod MoreMakers

@@ -3,6 +3,7 @@
 
 pub mod ends;
 pub mod laws;
+mod makers;
 pub mod rows;
 pub mod store;
 

@@ -1,8 +1,9 @@
 -- Anchors and blocks of names, and those of their children.
-use Rattle.std.proofs.Common.{◌≡◌, ◌≢◌, ℕ, suc, ◌+◌, ◌*◌, ◌%◌, ◌^◌, ◌<◌, ◌≤◌, List, [], ◌∷◌, ◌++◌, length, drop, sym, ◌∙◌, ap, arith, length-append, mul_assoc}
+use Rattle.std.proofs.Common.{◌≡◌, ◌≢◌, ℕ, suc, ◌+◌, ◌*◌, ◌%◌, ◌^◌, ◌<◌, ◌≤◌, List, [], ◌∷◌, ◌++◌, length, take, drop, get_or, sym, ◌∙◌, ap, arith, length-append, mul_assoc}
+use Rattle.std.specs.Prelude.{All}
 use Rattle.std.proofs.Math.Nat.{pow-suc, pow-le-pow_right}
-use Rattle.std.proofs.lemmas.List.{length-drop, length-take-le, drop-append-le, drop_at}
-use Rattle.std.proofs.lemmas.List.Elements.{All-drop}
+use Rattle.std.proofs.lemmas.List.{length-drop, length-take-le, drop-append-le, drop_at, take_more}
+use Rattle.std.proofs.lemmas.List.Elements.{All-drop, All-take}
 use Rattle.ic_name.specs.Names.{Name, depth, start_name, child_name}
 use Rattle.ic_names.specs.Keys.{IsProper, front_of}
 use Rattle.ic_names.specs.Blocks.{anchor_depth, anchor_of, number_of, block_of}
@@ -50,14 +51,28 @@ block-child_behind n d behind =
     ap (λ k. drop k (n.digits ++ d ∷ [])) (behind_anchor n d behind) ∙ drop-append-le (anchor_depth n) n.digits (d ∷ []) (anchor_within n) in
     sym (number-push (drop (anchor_depth n) n.digits) d) ∙ ap number_of (sym more)
 
+-- fewer than 32 digits leave room for one more
+number_below : (ds : List ℕ) → All (λ d. d < 4) ds → length ds ≤ 31 → number_of ds < 4 ^ 31
+number_below ds all few =
+    let below = front_below (length ds) ds all in
+    let more : 4 ^ length ds ≤ 4 ^ 31 = pow-le-pow_right {n = 4} (omega arith) few in
+    omega arith
+
 -- a block that has room for a digit
 pub block_below : (n : Name) → IsProper n → depth n % 32 ≢ 0 → block_of n < 4 ^ 31
 block_below n is behind =
     let behind_digits = drop (anchor_depth n) n.digits in
-    let below = front_below (length behind_digits) behind_digits (All-drop (λ d. d < 4) (anchor_depth n) n.digits is.digit) in
-    let few : length behind_digits ≤ 31 = omega (arith, length-drop (anchor_depth n) n.digits, behind) in
-    let more : 4 ^ length behind_digits ≤ 4 ^ 31 = pow-le-pow_right {n = 4} (omega arith) few in
-    omega arith
+    number_below behind_digits (All-drop (λ d. d < 4) (anchor_depth n) n.digits is.digit) (omega (arith, length-drop (anchor_depth n) n.digits, behind))
+
+-- a number that is read from its digits, the first one first
+pub none_read : 0 ≡ number_of []
+none_read = sym (front-nil 0)
+
+pub one_read : (ds : List ℕ) (i : ℕ) → i < length ds → 4 * number_of (take i ds) + get_or ds i 0 ≡ number_of (take (i + 1) ds)
+one_read ds i h = sym (ap number_of (take_more ds i 0 h) ∙ number-push (take i ds) (get_or ds i 0))
+
+pub read_below : (ds : List ℕ) (i : ℕ) → All (λ d. d < 4) ds → i < length ds → length ds ≤ 32 → number_of (take i ds) < 4 ^ 31
+read_below ds i all h few = number_below (take i ds) (All-take (λ d. d < 4) i ds all) (omega (arith, length-take-le i ds (omega arith)))
 
 -- the block of a start agent's name
 pub block-start : (k : ℕ) → 0 ≡ block_of (start_name k)

@@ -11,3 +11,4 @@ pub mod PutRows
 pub mod Fronted
 pub mod DigitOrders
 pub mod Growing
+pub mod SameNames

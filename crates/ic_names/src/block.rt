@@ -1,7 +1,7 @@
-ghost use Rattle.std.specs.Prelude.{◌≡◌, ◌<◌, ◌≤◌, ◌++◌, ℕ, length, drop};
+ghost use Rattle.std.specs.Prelude.{◌≡◌, ◌<◌, ◌≤◌, ◌++◌, ℕ, length, drop, All};
 ghost use Rattle.ic_name.specs.Names.{Name, depth as depth_of, start_name, child_name};
 ghost use Rattle.ic_names.specs.Keys.{IsProper};
-ghost use Rattle.ic_names.specs.Blocks.{anchor_depth, block_of};
+ghost use Rattle.ic_names.specs.Blocks.{anchor_depth, number_of, block_of};
 
 /// The number of digits in a block, at most: so many fit in 64 bits. At each multiple of it there is an anchor.
 pub const BLOCK: u64 = 32;
@@ -37,6 +37,20 @@ impl Block {
             return Block(u64::from(digit));
         }
         Block(4 * self.0 + u64::from(digit))
+    }
+
+    /// The block of these digits.
+    #[tactic(auto, using(crate::proofs::Blocks::none_read, crate::proofs::Blocks::one_read, crate::proofs::Blocks::read_below))]
+    pub fn of_digits(digits: &[u8]) -> Block
+        requires length { length digits.now ≤ 32 }
+        requires small { All (λ d. d < 4) digits.now }
+        ensures { result.0 ≡ number_of digits.now }
+    {
+        let mut number = 0;
+        for digit in digits {
+            number = 4 * number + u64::from(*digit);
+        }
+        Block(number)
     }
 
     /// Puts the digits behind the anchor of a name of this depth and block at their places among the name's digits, and gives

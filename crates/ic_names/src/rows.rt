@@ -1,4 +1,4 @@
-ghost use Rattle.std.specs.Prelude.{◌≡◌, ◌+◌, ◌<◌, ◌≤◌, ◌^◌, ◌++◌, ◌∷◌, [], ℕ, length, Some, None, IfOk, OnOk, OnErr};
+ghost use Rattle.std.specs.Prelude.{◌≡◌, ◌+◌, ◌<◌, ◌≤◌, ◌↔◌, ◌^◌, ◌++◌, ◌∷◌, [], ℕ, length, Some, None, IsTrue, IfOk, OnOk, OnErr};
 ghost use Rattle.std.specs.Ordering.{nat_cmp};
 ghost use Rattle.std.specs.Cmp.Lexicographic.{slice_cmp};
 ghost use Rattle.ic_name.specs.Names.{depth as depth_of, start_name, child_name};
@@ -154,6 +154,34 @@ impl Rows {
             right = self.anchor(right);
         }
         self.block(left).number().cmp(&self.block(right).number())
+    }
+
+    /// Whether the name at a place is this one, in constant time where their depths differ, and else in time that grows as the
+    /// depth: each digit of the given name is read, and for 32 of them there is one look into the table. It takes no memory.
+    pub fn is(&self, place: u32, name: &AgentName) -> bool
+        requires { place < length self.now.names }
+        ensures { IsTrue result ↔ (name_at self.now.names place ≡ name.now) }
+    {
+        name.lawful();
+        self.lawful();
+        let digits = name.digits();
+        if self.key(place).depth() as usize != digits.len() {
+            return false;
+        }
+        let mut at = place;
+        let mut behind = digits.len();
+        while behind > 0 {
+            let first = (behind - 1) / BLOCK as usize * BLOCK as usize;
+            if self.block(at).number() != Block::of_digits(&digits[first..behind]).number() {
+                return false;
+            }
+            at = self.anchor(at);
+            behind = first;
+        }
+        let Origin::Start(number) = self.origin(at) else {
+            unreachable!()
+        };
+        number == name.start_number()
     }
 
     /// Makes room for so many further names. It is an error where memory runs out, or where there would be more names

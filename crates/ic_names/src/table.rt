@@ -144,15 +144,13 @@ impl NameTable {
         Some(NameId { place })
     }
 
-    /// Whether the place is of the table and its name is this one, in time that grows as the depth. It takes no memory.
+    /// Whether the place is of the table and its name is this one, in constant time where their depths differ, and else in time
+    /// that grows as the depth: each digit of the given name is read, and for 32 of them there is one look into the table. It
+    /// takes no memory.
     pub fn is(&self, id: NameId, name: &AgentName) -> bool
         ensures { IsTrue result ↔ StandsAt self.now name.now id.place }
     {
-        self.rows.lawful();
-        match self.find(name) {
-            Some(found) => found.place == id.place,
-            None => false,
-        }
+        (id.place as usize) < self.rows.len() && self.rows.is(id.place, name)
     }
 
     /// The name at a place, in time that grows as its depth; `None` where the place isn't of the table, and only there.

@@ -51,6 +51,13 @@ impl PlacedLeads {
         self.leads.len()
     }
 
+    /// The leads.
+    pub fn leads(&self) -> &[Lead]
+        ensures { result.now ≡ self.now.leads }
+    {
+        &self.leads
+    }
+
     /// Whether the name stands in the list, in constant time.
     pub fn has(&self, name: NameId) -> bool
         ensures { IsTrue result ↔ IsIn name.place (places self.now.leads) }
@@ -70,15 +77,12 @@ impl PlacedLeads {
     }
 
     /// Makes room for so many leads, of names whose places are below that number. It is an error only where memory runs
-    /// out or the number is too great for places. The leads stay, and the room never shrinks.
+    /// out. The leads stay, and the room never shrinks.
     pub fn reserve(&mut self, names: usize) -> Result<(), AllocError>
         ensures same { self.new.leads ≡ self.old.leads }
         ensures kept { self.old.room ≤ self.new.room }
         ensures reserved { OnOk result (names ≤ self.new.room) }
     {
-        if names > u32::MAX as usize {
-            return Err(AllocError);
-        }
         let places = names.max(self.queued.len());
         self.queued.resize(places, false)?;
         self.leads.reserve(names.saturating_sub(self.leads.len()))

@@ -58,8 +58,15 @@ impl LeadQueue {
         self.heap.len()
     }
 
-    /// Makes room for the names of a table that has so many. It is an error only where memory runs out or that number is
-    /// too great for places. The queue stays as it is, and the room never shrinks.
+    /// The names in the queue with their keys, in no order.
+    pub fn leads(&self) -> &[Lead]
+        ensures { result.now ≡ self.now.leads }
+    {
+        self.heap.leads()
+    }
+
+    /// Makes room for the names of a table that has so many. It is an error only where memory runs out. The queue stays as
+    /// it is, and the room never shrinks.
     pub fn reserve(&mut self, names: usize) -> Result<(), AllocError>
         ensures same { self.new.leads ≡ self.old.leads }
         ensures kept { self.old.room ≤ self.new.room }

@@ -1,5 +1,5 @@
 -- Requests taken with the lines behind them.
-use Rattle.std.proofs.Common.{◌≡◌, ℕ, ◌<◌, Bool, List, [], ◌∷◌, ◌++◌, length, sym, ap, subst, inl, inr, Vec, Global}
+use Rattle.std.proofs.Common.{◌≡◌, ℕ, Bool, List, ◌∷◌, sym, subst, inl, inr, Vec, Global}
 use Rattle.std.specs.Prelude.{Option, Some, None, IfSome, IsSomeAnd}
 use Rattle.ic_name.specs.Events.{Pair}
 use Rattle.ic_command.specs.Asked.{IsAsked}

@@ -1,20 +1,8 @@
 -- The text of a session from what its parts did.
-use Rattle.std.proofs.Common.{◌≡◌, ℕ, zero, suc, ◌+◌, ◌≤◌, ◌-◌, ◌<◌, Bool, true, false, List, [], length, take, nat_le, rules, refl, sym, ap, arith, ◌∙◌, subst, inl, inr, Vec, Global}
+use Rattle.std.proofs.Common.{◌≡◌, ℕ, ◌<◌, List, [], length, refl, sym, ap, arith, ◌∙◌, subst, inl, inr, Vec, Global}
 use Rattle.std.proofs.KnownBytes.{Appends-nil, prepend_known-nil}
-use Rattle.std.proofs.lemmas.List.{length-take}
 use Rattle.std.specs.Prelude.{Option, Some, None, IfSome}
-use Rattle.std.specs.Io.BufRead.{strip_last, ends_with_byte}
-use Rattle.ic_lines.specs.Lines.{Takes, first_line, behind_line}
-use Rattle.ic_lines.specs.Faults.{AppendsFront, IsReadFault}
-use Rattle.ic_lines.specs.declared.piece.IoFault.TheVariants as io_fault
-use Rattle.ic_lines.specs.declared.piece.Piece.{Piece}
-use Rattle.ic_lines.specs.declared.piece.Piece.TheVariants as pieces
-use Rattle.ic_command.specs.Commands.{is_well_formed, unsaid}
-use Rattle.ic_command.specs.Requests.{of_bench}
-use Rattle.ic_command.specs.declared.request.Request.TheVariants.{Bench}
-use Rattle.ic_session.specs.NextRequest.{TakesRequest}
-use Rattle.ic_command.specs.declared.command.TheConstants.{MAX_COMMAND}
-use Rattle.ic_command.specs.declared.command.Command.TheVariants.{Malformed}
+use Rattle.ic_lines.specs.Faults.{AppendsFront}
 use Rattle.std.specs.Io.KnownBytes.{Appends, prepend_known}
 use Rattle.ic_theory.specs.Starts.{Start}
 use Rattle.ic_desk.specs.Desks.{initial}
@@ -36,12 +24,6 @@ use Rattle.ic_session.specs.Sessions.{AreAnswers, Writes, AreBegun, IsBegun, not
 -- where nothing was read and not yet taken, what is left is what the reader has left
 pub fresh_left : {held : List ℕ} (known : Option (List ℕ)) → held ≡ [] → prepend_known held known ≡ known
 fresh_left known e = ap (λ bs. prepend_known bs known) e ∙ prepend_known-nil known
-
--- a read fault after some calls of the reader is one from before them
-pub still_read_fault : (before between after : ℕ) → between ≤ before → after ≤ between → IsReadFault between after io_fault.Read → IsReadFault before after io_fault.Read
-still_read_fault zero between after less fewer h = inl refl
-still_read_fault (suc n) between after less fewer (inl none) = inr (omega (arith, none, fewer))
-still_read_fault (suc n) between after less fewer (inr made) = inr (omega (arith, made, less))
 
 -- a net text that is too long has no fault that goes before that
 long_first : (f : Refusal) → Precedes TooLong f

@@ -1,8 +1,9 @@
-ghost use Rattle.std.specs.Prelude.{◌≡◌, ◌<◌, ◌≤◌, ℕ, List, IfErr, IfOk, IfSome, OnErr};
+ghost use Rattle.std.specs.Prelude.{◌≡◌, ◌<◌, ◌≤◌, ℕ, List, true, IfErr, IfOk, IfSome, OnErr};
 ghost use Rattle.std.specs.Io.KnownBytes.{Appends};
 ghost use Rattle.ic_session.specs.Modes.{plain};
 ghost use Rattle.ic_session.specs.Sessions.{IsBegun, Writes};
-ghost use Rattle.ic_session.specs.declared.fault.Fault.TheVariants.{Settle};
+ghost use Rattle.ic_lines.specs.Left.{left};
+ghost use Rattle.ic_session.specs.declared.fault.Fault.TheVariants.{Read, Settle, Write};
 
 use crate::fault::Fault;
 use crate::mode::Mode;
@@ -11,7 +12,7 @@ use crate::place::Place;
 use crate::session::{Status, run_over};
 use crate::setting::Setting;
 use ic_desk::{Gate, MAX_WORKERS, NoGate};
-use ic_lines::Input;
+use ic_lines::{Input, Output};
 use std::alloc::Global;
 use std::io::{Read, Write};
 use std::sync::Wait;
@@ -104,8 +105,31 @@ fn run<R: Read, W: Write, E: Write, T: Threads + Wait + Sync, G: Gate>(
     ensures settle { IfErr result (λ fault. fault ≡ Settle → 1 < setting.now.mode.workers) }
 {
     let mut input = Input::new(setting.alloc, reads)?;
+    let mut output = Output::new();
+    run_on(setting, &mut input, reader, &mut output, writer, errors)
+}
+
+/// Runs a session in a setting, as `run_in` does, over what an input has read and not yet taken and what it can read on.
+/// `Fault::Read` only where the input has no call of the reader left then: all were made, or the reader failed. `Fault::Write`
+/// only where the output has failed: the writer took no byte of what was to be written, or answered an error.
+pub fn run_on<R: Read, W: Write, E: Write, T: Threads + Wait + Sync, G: Gate>(
+    setting: &Setting<'_, T, G>,
+    input: &mut Input,
+    reader: &mut R,
+    output: &mut Output,
+    writer: &mut W,
+    errors: &mut E,
+) -> Result<Status, Fault>
+    requires { (0 < setting.now.mode.workers) × (setting.now.mode.workers ≤ MAX_WORKERS) }
+    ensures written { IfOk result (λ status. IfSome (left input.old (R.remaining reader.old)) (λ bytes. Writes setting.now.mode bytes status (W.contents writer.old) (W.contents writer.new))) }
+    ensures begun { OnErr result (IfSome (left input.old (R.remaining reader.old)) (λ bytes. (text : List ℕ) × IsBegun setting.now.mode bytes text × Appends (W.contents writer.old) (W.contents writer.new) text)) }
+    ensures fewer { input.new.reads ≤ input.old.reads }
+    ensures read { IfErr result (λ fault. fault ≡ Read → input.new.reads ≡ 0) }
+    ensures write { IfErr result (λ fault. fault ≡ Write → output.new.failed ≡ true) }
+    ensures settle { IfErr result (λ fault. fault ≡ Settle → 1 < setting.now.mode.workers) }
+{
     let mut place = Place::first();
-    match run_over(setting, &mut input, reader, writer, errors, &mut place) {
+    match run_over(setting, input, reader, output, writer, errors, &mut place) {
         Ok(status) => Ok(status),
         Err(fault) => {
             tell(setting.alloc, errors, place, fault, setting.mode);

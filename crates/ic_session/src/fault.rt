@@ -40,7 +40,7 @@ impl From<AllocError> for Fault {
 }
 
 impl From<DeskFault> for Fault {
-    ghost from_gives = { λ d f. (f ≡ fault_at_desk d) × (f ≢ fault.Read) };
+    ghost from_gives = { λ d f. (f ≡ fault_at_desk d) × (f ≢ fault.Read) × (f ≢ fault.Write) };
 
     fn from(fault: DeskFault) -> Fault {
         match fault {

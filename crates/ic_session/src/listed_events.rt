@@ -34,7 +34,7 @@ pub(crate) fn listed_events<R: Read>(
         (λ bytes. IsSomeAnd (left input.new (R.remaining reader.new)) (TakesListed count events bytes))) }
     ensures less { OnOk result (work input.new ≤ work input.old) }
     ensures fewer { input.new.reads ≤ input.old.reads }
-    ensures fault { IfErr result (IsReadFault input.old.reads input.new.reads) }
+    ensures fault { IfErr result (IsReadFault input.new.reads) }
 {
     let mut events = Vec::new(alloc);
     let mut all = true;
@@ -59,7 +59,7 @@ fn next_listed<R: Read>(
         (λ bytes. TakesNextListed listed bytes (left input.new (R.remaining reader.new)))) }
     ensures less { OnOk result (work input.new ≤ work input.old) }
     ensures fewer { input.new.reads ≤ input.old.reads }
-    ensures fault { IfErr result (IsReadFault input.old.reads input.new.reads) }
+    ensures fault { IfErr result (IsReadFault input.new.reads) }
 {
     match take_line(input, reader, line)? {
         Piece::Line(_) => match listed_of(alloc, line)? {

@@ -33,7 +33,7 @@ pub fn read_net_text<R: Read>(
 ) -> Result<NetInput, IoFault>
     ensures read { IfOk result (λ net. IfSome (left input.old (R.remaining reader.old)) (λ bytes. ReadsNet net bytes (left input.new (R.remaining reader.new)))) }
     ensures fewer { input.new.reads ≤ input.old.reads }
-    ensures fault { IfErr result (IsReadFault input.old.reads input.new.reads) }
+    ensures fault { IfErr result (IsReadFault input.new.reads) }
 {
     let mut text = Vec::new(alloc);
     let mut line = Vec::new(alloc);

@@ -29,7 +29,7 @@ pub(crate) fn next_demand<R: Read>(
         (λ bytes. TakesNext mode demand bytes (left input.new (R.remaining reader.new)))) }
     ensures less { IfOk result (λ demand. IsSome demand → work input.new < work input.old) }
     ensures fewer { input.new.reads ≤ input.old.reads }
-    ensures fault { IfErr result (IsReadFault input.old.reads input.new.reads) }
+    ensures fault { IfErr result (IsReadFault input.new.reads) }
 {
     match take_line(input, reader, line)? {
         Piece::Line(_) => {
@@ -73,7 +73,7 @@ fn request_at<R: Read>(
         (λ bytes. IsSomeAnd (left input.new (R.remaining reader.new)) (λ rest. (ended : Bool) → Takes (record { bytes = line.old.items; ended = ended } ∷ lines bytes) request (lines rest)))) }
     ensures less { OnOk result (work input.new ≤ work input.old) }
     ensures fewer { input.new.reads ≤ input.old.reads }
-    ensures fault { IfErr result (IsReadFault input.old.reads input.new.reads) }
+    ensures fault { IfErr result (IsReadFault input.new.reads) }
 {
     match asked_of(alloc, line)? {
         Asked::Alone(request) => Ok(request),

@@ -1,8 +1,7 @@
-ghost use Rattle.std.specs.Prelude.{◌≡◌, ◌≢◌, ◌<◌, ◌≤◌, ℕ, List, IfErr, IfOk, IfSome, OnErr, OnOk};
+ghost use Rattle.std.specs.Prelude.{◌≡◌, ◌≢◌, ◌<◌, ◌≤◌, ℕ, List, true, IfErr, IfOk, IfSome, OnErr, OnOk};
 ghost use Rattle.std.specs.Io.KnownBytes.{Appends};
 ghost use Rattle.ic_lines.specs.Left.{left};
-ghost use Rattle.ic_lines.specs.Faults.{AppendsFront, IsReadFault};
-ghost use Rattle.ic_lines.specs.declared.piece.IoFault.TheVariants as io_fault;
+ghost use Rattle.ic_lines.specs.Faults.{AppendsFront};
 ghost use Rattle.ic_session.specs.InputLines.{lines};
 ghost use Rattle.ic_desk.specs.Desks.{State};
 ghost use Rattle.ic_desk.specs.Views.{IsDeskAt};
@@ -12,7 +11,7 @@ ghost use Rattle.ic_desk.specs.Questions.{Told};
 ghost use Rattle.ic_desk.specs.declared.fault.DeskFault.TheVariants as desk_fault;
 ghost use Rattle.ic_session.specs.Modes.{TurnsIn};
 ghost use Rattle.ic_session.specs.Sessions.{AreAnswers, AreBegun, IsAnswered, IsBegun, IsBrokenOff, Writes};
-ghost use Rattle.ic_session.specs.declared.fault.Fault.TheVariants.{Read, Settle};
+ghost use Rattle.ic_session.specs.declared.fault.Fault.TheVariants.{Read, Settle, Write};
 ghost use Rattle.ic_session.specs.declared.session.Status.TheVariants.{NetRefused};
 
 use crate::demand::Demand;
@@ -29,7 +28,7 @@ use ic_command::Question;
 use ic_desk::{Desk, DeskFault, Gate, MAX_WORKERS};
 use ic_grammar::Refusal;
 use ic_journal::Store;
-use ic_lines::{Input, write_reply};
+use ic_lines::{Input, Output};
 use ic_text::{TextFault, read_net};
 use std::alloc::Global;
 use std::io::{Read, Write};
@@ -47,15 +46,14 @@ pub enum Status {
 
 /// Runs a session over an input: reads a net as text and commands, and writes an answer to each command.
 ///
-/// `Fault::Read` only where a call of the reader was made, or none was left: the reader failed, or the input has no call
-/// of it left. `Fault::Write` where the writer fails, `Fault::Memory` where there is no memory, and `Fault::Settle` where
+/// `Fault::Read` only where the input has no call of the reader left: all were made, or the reader failed. `Fault::Write` where the writer fails, `Fault::Memory` where there is no memory, and `Fault::Settle` where
 /// the workers of a sweep say that they did what the history doesn't say. What was written by then is a front of what a
 /// session may write.
-#[tactic(auto, using(crate::proofs::SessionFacts::still_read_fault))]
 pub(crate) fn run_over<R: Read, W: Write, E: Write, T: Threads + Wait + Sync, G: Gate>(
     setting: &Setting<'_, T, G>,
     input: &mut Input,
     reader: &mut R,
+    output: &mut Output,
     writer: &mut W,
     errors: &mut E,
     place: &mut Place,
@@ -63,13 +61,23 @@ pub(crate) fn run_over<R: Read, W: Write, E: Write, T: Threads + Wait + Sync, G:
     requires { (0 < setting.now.mode.workers) × (setting.now.mode.workers ≤ MAX_WORKERS) }
     ensures written { IfOk result (λ status. IfSome (left input.old (R.remaining reader.old)) (λ bytes. Writes setting.now.mode bytes status (W.contents writer.old) (W.contents writer.new))) }
     ensures begun { OnErr result (IfSome (left input.old (R.remaining reader.old)) (λ bytes. (text : List ℕ) × IsBegun setting.now.mode bytes text × Appends (W.contents writer.old) (W.contents writer.new) text)) }
-    ensures read { IfErr result (λ fault. fault ≡ Read → IsReadFault input.old.reads input.new.reads io_fault.Read) }
+    ensures fewer { input.new.reads ≤ input.old.reads }
+    ensures read { IfErr result (λ fault. fault ≡ Read → input.new.reads ≡ 0) }
+    ensures write { IfErr result (λ fault. fault ≡ Write → output.new.failed ≡ true) }
     ensures settle { IfErr result (λ fault. fault ≡ Settle → 1 < setting.now.mode.workers) }
 {
     let alloc = setting.alloc;
     let text = match read_net_text(alloc, input, reader)? {
         NetInput::TooLong => {
-            return refuse(alloc, Refusal::TooLong, &[], writer, errors, setting.mode);
+            return refuse(
+                alloc,
+                Refusal::TooLong,
+                &[],
+                output,
+                writer,
+                errors,
+                setting.mode,
+            );
         }
         NetInput::Whole(text) => text,
     };
@@ -77,12 +85,12 @@ pub(crate) fn run_over<R: Read, W: Write, E: Write, T: Threads + Wait + Sync, G:
         Ok(start) => start,
         Err(TextFault::Memory) => return Err(Fault::Memory),
         Err(TextFault::Refused(refusal)) => {
-            return refuse(alloc, refusal, &text, writer, errors, setting.mode);
+            return refuse(alloc, refusal, &text, output, writer, errors, setting.mode);
         }
     };
     place.pass_net(&text);
     let desk: Desk<Store> = Desk::over(alloc, start)?;
-    answer_all(setting, desk, input, reader, writer, errors, place)?;
+    answer_all(setting, desk, input, reader, output, writer, errors, place)?;
     Ok(Status::Ended)
 }
 
@@ -91,6 +99,7 @@ fn refuse<W: Write, E: Write>(
     alloc: Global,
     refusal: Refusal,
     text: &[u8],
+    output: &mut Output,
     writer: &mut W,
     errors: &mut E,
     mode: Mode,
@@ -98,9 +107,10 @@ fn refuse<W: Write, E: Write>(
     ensures named { IfOk result (λ status. (status ≡ NetRefused) × Appends (W.contents writer.old) (W.contents writer.new) (refusal_line refusal)) }
     ensures front { OnErr result (AppendsFront (W.contents writer.old) (W.contents writer.new) (refusal_line refusal)) }
     ensures fault { IfErr result (λ fault. (fault ≢ Read) × (fault ≢ Settle)) }
+    ensures write { IfErr result (λ fault. fault ≡ Write → output.new.failed ≡ true) }
 {
     let line = refusal_line(alloc, refusal)?;
-    write_reply(writer, &line)?;
+    output.reply(writer, &line)?;
     if mode.explains {
         explain_net(alloc, errors, text, refusal);
     }
@@ -113,6 +123,7 @@ fn answer_all<R: Read, W: Write, E: Write, T: Threads + Wait + Sync, G: Gate>(
     mut desk: Desk<Store>,
     input: &mut Input,
     reader: &mut R,
+    output: &mut Output,
     writer: &mut W,
     errors: &mut E,
     place: &mut Place,
@@ -123,7 +134,8 @@ fn answer_all<R: Read, W: Write, E: Write, T: Threads + Wait + Sync, G: Gate>(
     ensures begun { OnErr result (IfSome (left input.old (R.remaining reader.old)) (λ bytes. (st : State) → IsDeskAt desk st →
         (text : List ℕ) × AreBegun desk.bench.start setting.now.mode st (lines bytes) text × Appends (W.contents writer.old) (W.contents writer.new) text)) }
     ensures fewer { input.new.reads ≤ input.old.reads }
-    ensures fault { IfErr result (λ fault. fault ≡ Read → IsReadFault input.old.reads input.new.reads io_fault.Read) }
+    ensures fault { IfErr result (λ fault. fault ≡ Read → input.new.reads ≡ 0) }
+    ensures write { IfErr result (λ fault. fault ≡ Write → output.new.failed ≡ true) }
     ensures settle { IfErr result (λ fault. fault ≡ Settle → 1 < setting.now.mode.workers) }
 {
     let alloc = setting.alloc;
@@ -131,7 +143,7 @@ fn answer_all<R: Read, W: Write, E: Write, T: Threads + Wait + Sync, G: Gate>(
     loop {
         match next_demand(alloc, input, reader, &mut line, place, setting.mode)? {
             Some(demand) => {
-                desk = answer(setting, desk, demand, writer, errors, *place)?;
+                desk = answer(setting, desk, demand, output, writer, errors, *place)?;
             }
             None => return Ok(()),
         }
@@ -144,6 +156,7 @@ fn answer<W: Write, E: Write, T: Threads + Wait + Sync, G: Gate>(
     setting: &Setting<'_, T, G>,
     desk: Desk<Store>,
     demand: Demand,
+    output: &mut Output,
     writer: &mut W,
     errors: &mut E,
     place: Place,
@@ -152,10 +165,11 @@ fn answer<W: Write, E: Write, T: Threads + Wait + Sync, G: Gate>(
     ensures answered { IfOk result (λ after. IsAnswered setting.now.mode desk demand after (W.contents writer.old) (W.contents writer.new)) }
     ensures begun { OnErr result (IsBrokenOff setting.now.mode desk demand (W.contents writer.old) (W.contents writer.new)) }
     ensures fault { IfErr result (λ fault. fault ≢ Read) }
+    ensures write { IfErr result (λ fault. fault ≡ Write → output.new.failed ≡ true) }
     ensures settle { IfErr result (λ fault. fault ≡ Settle → 1 < setting.now.mode.workers) }
 {
     let (after, answer) = meet(setting, desk, demand)?;
-    write_reply(writer, answer.bytes())?;
+    output.reply(writer, answer.bytes())?;
     if setting.mode.explains {
         explain_answer(setting.alloc, errors, place, answer.bytes());
     }

@@ -18,7 +18,7 @@ pub(crate) fn take_line<R: Read>(
         (λ bytes. TakesLine piece line.new.items bytes (left input.new (R.remaining reader.new)))) }
     ensures less { IfOk result (λ piece. MatchBool (is_end piece) (work input.new ≤ work input.old) (work input.new < work input.old)) }
     ensures fewer { input.new.reads ≤ input.old.reads }
-    ensures fault { IfErr result (IsReadFault input.old.reads input.new.reads) }
+    ensures fault { IfErr result (IsReadFault input.new.reads) }
 {
     match input.next_line(reader, line, MAX_COMMAND + 1)? {
         Piece::Line(ended) => Ok(Piece::Line(ended)),

@@ -1,7 +1,6 @@
--- Links of an event as one more is made.
-use Rattle.std.proofs.Common.{◌≡◌, ℕ, ◌+◌, ◌<◌, List, [], ◌∷◌, ◌++◌, take, length, arith, ap, ◌∙◌}
+-- The links of an event, place by place.
+use Rattle.std.proofs.Common.{◌≡◌, ℕ, zero, suc, ◌+◌, ◌<◌, List, [], ◌∷◌, length, arith, ap, refl, ◌∙◌}
 use Rattle.std.specs.Prelude.{slice_index_or}
-use Rattle.std.proofs.lemmas.List.{take_more, length-take-le}
 use Rattle.ic_name.specs.declared.ids.AgentId.{AgentId}
 use Rattle.ic_name.specs.declared.ids.EventId.{EventId}
 use Rattle.ic_name.specs.declared.ids.Link.{Link}
@@ -12,19 +11,19 @@ use Rattle.ic_set.specs.Joining.{spot_of, made_links}
 
 module _ (e : EventId) (p : ActivePair) (born : List AgentId) where
   -- the link that comes of the ends at a place
-  abbrev link_at : ℕ → RuleEnd × RuleEnd → Link
+  abbrev pub link_at : ℕ → RuleEnd × RuleEnd → Link
   link_at k x = record { id = record { maker = maker.Event e; place = k }; a = spot_of p born x.0; b = spot_of p born x.1 }
 
-  -- it stands behind those of the earlier ends
-  made_behind : (k : ℕ) (xs : List (RuleEnd × RuleEnd)) (x : RuleEnd × RuleEnd) → made_links e p born k (xs ++ x ∷ []) ≡ made_links e p born k xs ++ link_at (k + length xs) x ∷ []
-  made_behind k [] x = ap (λ n. link_at n x ∷ []) (omega arith)
-  made_behind k (y ∷ xs) x = ap (λ ls. link_at k y ∷ ls) (made_behind (k + 1) xs x ∙ ap (λ n. made_links e p born (k + 1) xs ++ link_at n x ∷ []) (omega arith))
+  -- there are as many links as pairs of ends
+  pub length_made : (k : ℕ) (xs : List (RuleEnd × RuleEnd)) → length (made_links e p born k xs) ≡ length xs
+  length_made k [] = refl
+  length_made k (x ∷ xs) = ap suc (length_made (k + 1) xs)
 
-  -- so with one more end taken there is one more link
-  pub made_more : (xs : List (RuleEnd × RuleEnd)) (i : ℕ) (d : RuleEnd × RuleEnd) → i < length xs
-      → made_links e p born 0 (take (i + 1) xs) ≡ made_links e p born 0 (take i xs) ++ link_at i (slice_index_or xs i d) ∷ []
-  made_more xs i d h =
-      let long = length-take-le i xs (omega arith) in
-      let place : 0 + length (take i xs) ≡ i = omega arith in
-      ap (made_links e p born 0) (take_more xs i d h) ∙ made_behind 0 (take i xs) (slice_index_or xs i d)
-      ∙ ap (λ n. made_links e p born 0 (take i xs) ++ link_at n (slice_index_or xs i d) ∷ []) place
+  -- each stands at the place of its ends
+  made_from : (k : ℕ) (xs : List (RuleEnd × RuleEnd)) (i : ℕ) (d : Link) (x : RuleEnd × RuleEnd) → i < length xs → slice_index_or (made_links e p born k xs) i d ≡ link_at (k + i) (slice_index_or xs i x)
+  made_from k [] i d x h = absurd (omega arith)
+  made_from k (y ∷ ys) zero d x h = ap (λ n. link_at n y) (omega arith)
+  made_from k (y ∷ ys) (suc i) d x h = made_from (k + 1) ys i d x (omega arith) ∙ ap (λ n. link_at n (slice_index_or ys i x)) (omega arith)
+
+  pub made_at : (xs : List (RuleEnd × RuleEnd)) (i : ℕ) (d : Link) (x : RuleEnd × RuleEnd) → i < length xs → slice_index_or (made_links e p born 0 xs) i d ≡ link_at i (slice_index_or xs i x)
+  made_at xs i d x h = made_from 0 xs i d x h ∙ ap (λ n. link_at n (slice_index_or xs i x)) (omega arith)

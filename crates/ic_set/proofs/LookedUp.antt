@@ -3,13 +3,17 @@ use Rattle.std.proofs.Common.{◌≡◌, ℕ, zero, suc, ◌<◌, ◌≤◌, Lis
 use Rattle.std.specs.Prelude.{slice_get, slice_index_or, unwrap_or}
 use Rattle.ic_name.specs.Events.{Event}
 use Rattle.ic_name.specs.declared.ids.AgentId.{AgentId}
+use Rattle.ic_name.specs.declared.kinds.Kind.{Kind}
+use Rattle.ic_names.specs.Tables.{name_at}
 use Rattle.ic_path.specs.Orders.{IsIn}
 use Rattle.ic_path.proofs.Picks.{none_in, in_first, in_more, in-cons_cases}
+use Rattle.ic_roster.specs.Rosters.{Member, IsNewName}
 use Rattle.ic_set.specs.declared.pairs.ActivePair.{ActivePair}
 use Rattle.ic_set.specs.Pairs.{AreJoined, IsPairOf, IsActivePair, ArePairsOf, AreLedBy}
+use Rattle.ic_set.specs.Queues.{Leads}
 use Rattle.ic_set.specs.Sets.{IsStandingSet}
-use Rattle.ic_set.specs.Views.{SetView}
-use Rattle.ic_set.proofs.ActivePairs.{joined_pair, joined_once, one_pair}
+use Rattle.ic_set.specs.Views.{SetView, NamedView}
+use Rattle.ic_set.proofs.ActivePairs.{one_id, one_name, joined_pair, joined_once, one_pair}
 use Rattle.ic_set.proofs.InPlace.{in_at}
 use Rattle.ic_set.proofs.LedPairs.{second_leads_none}
 use Rattle.ic_set.proofs.Partners.{joined_back}
@@ -103,7 +107,7 @@ module _ (v : SetView) (set : IsStandingSet v) where
       (one_pair v set e f p q h k (joined_once v set p.other p.lead q.lead back back')).1
 
   -- the pair that an agent leads is answered
-  led_each : (agent : Option AgentId) (o : Option ActivePair) → LedFound v agent o → LedAbsent v agent o → (e : Event) (p : ActivePair) → IsPairOf v e p → Some p.lead ≡ agent → Some p ≡ o
+  pub led_each : (agent : Option AgentId) (o : Option ActivePair) → LedFound v agent o → LedAbsent v agent o → (e : Event) (p : ActivePair) → IsPairOf v e p → Some p.lead ≡ agent → Some p ≡ o
   led_each agent None found absent e p h same = absurd (absent e p same h)
   led_each agent (Some q) found absent e p h same = ap Some (one_pair v set e found.1.0 p q h found.1.1 (one_at {o = agent} (sym same) (sym found.0))).1
 
@@ -191,3 +195,13 @@ module _ (v : SetView) (set : IsStandingSet v) where
         by e p h (suc (suc zero)) below at = third_of a b c d (Some p) (at_each agents 2 c yf ya e p h at)
         by e p h (suc (suc (suc zero))) below at = fourth_of a b c d (Some p) (at_each agents 3 d zf za e p h at)
         by e p h (suc (suc (suc (suc i)))) below at = absurd (omega (arith, below))
+
+-- the pair that the agent of a name leads, if that is there
+pub led_named : (v : NamedView) → IsStandingSet v.set → (n : ℕ) (o : Option AgentId) (r : Option ActivePair)
+    → IfSome o (λ id. (kind : Kind) × IsIn (record { id = id; name = name_at v.names n; kind = kind }) v.set.agents) → IfNone o (IsNewName v.set.agents (name_at v.names n))
+    → IfSome r (λ p. (Some p.lead ≡ o) × IsActivePair v.set p) → IfNone r ((e : Event) (p : ActivePair) → Some p.lead ≡ o → IsPairOf v.set e p → ⊥)
+    → IfSome r (λ p. (e : Event) × IsPairOf v.set e p × (e.lead ≡ name_at v.names n)) × IfNone r (Leads v n → ⊥)
+led_named v set n None None there new some none = (tt, λ l. new _ l.2.lead l.3)
+led_named v set n None (Some p) there new some none = let same = some.0 in cc
+led_named v set n (Some id) None there new some none = (tt, λ l. none l.0 l.1 (ap (λ (m : Member). Some m.id) (one_name v.set set _ _ l.2.lead there.1 l.3)) l.2)
+led_named v set n (Some id) (Some p) there new some none = ((some.1.0, some.1.1, ap (λ (m : Member). m.name) (one_id v.set set _ _ some.1.1.lead there.1 (one_at (sym some.0) refl))), tt)

@@ -1,5 +1,5 @@
 -- The leads in a queue, and what its front tells.
-use Rattle.std.proofs.Common.{◌≡◌, ◌≢◌, ℕ, Bool, false, IsTrue, ◌<◌, List, [], ◌∷◌, length, ◌⊎◌, inl, inr, Option, Some, None, IfSome, IfNone, refl, sym, ap, subst, ◌∙◌}
+use Rattle.std.proofs.Common.{◌≡◌, ◌≢◌, ℕ, false, ◌<◌, List, [], ◌∷◌, length, ◌⊎◌, inl, inr, Option, Some, None, IfSome, IfNone, refl, sym, ap, subst, ◌∙◌}
 use Rattle.std.specs.Ordering.{is_gt}
 use Rattle.std.specs.declared.cmp.Ordering.{Ordering}
 use Rattle.std.specs.declared.cmp.Ordering.TheVariants.{Less, Equal, Greater}
@@ -23,12 +23,8 @@ use Rattle.ic_set.specs.Pairs.{IsPairOf, IsLeastPair}
 use Rattle.ic_set.specs.Queues.{Leads, IsQueued, HasLeads, FrontLeads}
 use Rattle.ic_set.specs.Sets.{IsStandingSet}
 use Rattle.ic_set.specs.Views.{NamedView, standing}
-use Rattle.ic_set.proofs.ActivePairs.{one_id, one_name, one_pair, pair_of}
+use Rattle.ic_set.proofs.ActivePairs.{one_id, one_pair, pair_of}
 use Rattle.ic_set.proofs.LedPairs.{second_leads_none}
-
--- what is false isn't true
-pub never : {P : Type 0} (b : Bool) → b ≡ false → IsTrue b → P
-never b off on = absurd cc
 
 -- an agent of a pair
 abbrev pub IsOf : ActivePair → AgentId → Type 0
@@ -53,46 +49,29 @@ module _ (v : NamedView) (set : IsStandingSet v.set) where
   pub leads_own : (e f : Event) (p q : ActivePair) → IsPairOf v.set e p → IsPairOf v.set f q → (id : AgentId) → IsOf p id → q.lead ≡ id → p.lead ≡ id
   leads_own e f p q h k id of_pair own = ap (λ (r : ActivePair). r.lead) (led_pair e f p q h k (subst (IsOf p) (sym own) of_pair)).1 ∙ own
 
-  -- the agent under the id, whose name is at the place, leads the pair
-  pub does_lead : (id : AgentId) (n : ℕ) (kind : Kind) → IsIn (record { id = id; name = name_at v.names n; kind = kind }) v.set.agents → (e : Event) (p : ActivePair) → IsPairOf v.set e p → p.lead ≡ id → Leads v n
-  does_lead id n kind there e p h same = (e, p, h, ap (λ (m : Member). m.name) (one_id v.set set _ _ h.lead there same))
-
   -- with its place in a queue the lead is in it
   pub lead_queued : (leads : List Lead) (id : AgentId) (n : ℕ) (kind : Kind) → IsIn (record { id = id; name = name_at v.names n; kind = kind }) v.set.agents → n < length v.names → IsIn n (places leads)
       → (e : Event) (p : ActivePair) → IsPairOf v.set e p → p.lead ≡ id → IsQueued v.names leads e.lead
   lead_queued leads id n kind there inside queued e p h same = (n, record { within = inside; named = sym (ap (λ (m : Member). m.name) (one_id v.set set _ _ h.lead there same)) }, queued)
 
-  -- an agent whose name leads a pair is the lead of each pair that it is of
-  pub leads_it : (n : ℕ) → Leads v n → (id : AgentId) (kind : Kind) → IsIn (record { id = id; name = name_at v.names n; kind = kind }) v.set.agents → (e : Event) (p : ActivePair) → IsPairOf v.set e p → IsOf p id → p.lead ≡ id
-  leads_it n l id kind there e p h of_pair = leads_own e l.0 p l.1 h l.2 id of_pair (ap (λ (m : Member). m.id) (one_name v.set set _ _ l.2.lead there l.3))
+  -- the pair that the front's name leads has the least lead
+  front_least : (leads : List Lead) (n : ℕ) → HasLeads v leads → IsLeast v.names leads n → (e : Event) (p : ActivePair) → IsPairOf v.set e p → e.lead ≡ name_at v.names n → IsLeastPair v.set p
+  front_least leads n all least e p h named = record {
+    event = e;
+    pair = h;
+    least = λ f a. (
+        let q = pair_of v.set set f a in
+        let queued = all f q.0 q.1 in
+        let none : name_cmp f.lead (name_at v.names n) ≢ Less = subst (λ m. name_cmp m (name_at v.names n) ≢ Less) queued.1.named (least.none_less queued.0 queued.2) in
+        subst (λ m. is_gt (name_cmp m f.lead) ≡ false) (sym named) (not_greater f.lead (name_at v.names n) none));
+  }
 
-  -- the agent of a name that leads a pair is of one
-  pub leads_one : (n : ℕ) → Leads v n → (id : AgentId) (kind : Kind) → IsIn (record { id = id; name = name_at v.names n; kind = kind }) v.set.agents → (e : Event) × (p : ActivePair) × IsPairOf v.set e p × (p.lead ≡ id)
-  leads_one n l id kind there = (l.0, l.1, l.2, ap (λ (m : Member). m.id) (one_name v.set set _ _ l.2.lead there l.3))
-
-  -- the pair of the front's agent has the least lead
-  pub front_least : (leads : List Lead) (n : ℕ) → HasLeads v leads → FrontLeads v leads → IsLeast v.names leads n → (id : AgentId) (kind : Kind) → IsIn (record { id = id; name = name_at v.names n; kind = kind }) v.set.agents
-      → (e : Event) (p : ActivePair) → IsPairOf v.set e p → IsOf p id → IsLeastPair v.set p
-  front_least leads n all front least id kind there e p h of_pair =
-      let l = front n least in
-      let own : l.1.lead ≡ id = ap (λ (m : Member). m.id) (one_name v.set set _ _ l.2.lead there l.3) in
-      let one = led_pair e l.0 p l.1 h l.2 (subst (IsOf p) (sym own) of_pair) in
-      record {
-        event = l.0;
-        pair = subst (IsPairOf v.set l.0) (sym one.1) l.2;
-        least = λ f a. (
-            let q = pair_of v.set set f a in
-            let queued = all f q.0 q.1 in
-            let none : name_cmp f.lead (name_at v.names n) ≢ Less = subst (λ m. name_cmp m (name_at v.names n) ≢ Less) queued.1.named (least.none_less queued.0 queued.2) in
-            subst (λ m. is_gt (name_cmp m f.lead) ≡ false) (sym l.3) (not_greater f.lead (name_at v.names n) none));
-      }
-
-  -- so it is what is answered for the pair of the front's agent
-  pub found_least : (leads : List Lead) (n : ℕ) → HasLeads v leads → FrontLeads v leads → IsLeast v.names leads n → (id : AgentId) (kind : Kind) → IsIn (record { id = id; name = name_at v.names n; kind = kind }) v.set.agents → (o : Option ActivePair)
-      → IfSome o (λ p. IsOf p id × (e : Event) × IsPairOf v.set e p) → IfNone o ((e : Event) (p : ActivePair) → IsOf p id → IsPairOf v.set e p → ⊥)
+  -- so it is what is answered for the front's name
+  pub found_least : (leads : List Lead) (n : ℕ) → HasLeads v leads → FrontLeads v leads → IsLeast v.names leads n → (o : Option ActivePair)
+      → IfSome o (λ p. (e : Event) × IsPairOf v.set e p × (e.lead ≡ name_at v.names n)) → IfNone o (Leads v n → ⊥)
       → IfSome o (λ p. IsLeastPair v.set p) × IfNone o ((e : Event) → IsActive v.set.start (standing v.set) e → ⊥)
-  found_least leads n all front least id kind there None some none = let l = leads_one n (front n least) id kind there in absurd (none l.0 l.1 (inl l.3) l.2)
-  found_least leads n all front least id kind there (Some p) some none = (front_least leads n all front least id kind there some.1 p some.2 some.0, tt)
+  found_least leads n all front least None some none = absurd (none (front n least))
+  found_least leads n all front least (Some p) some none = (front_least leads n all least some.0 p some.1 some.2, tt)
 
   -- without leads no pair is active
   pub none_led : (leads : List Lead) → leads ≡ [] → HasLeads v leads → (e : Event) → IsActive v.set.start (standing v.set) e → ⊥

@@ -20,7 +20,7 @@ ghost use Rattle.ic_set.specs.Removal.{Stands};
 
 use crate::bare::BareSet;
 use crate::entering::{NewAgent, children_of, enter_all, remove_all};
-use crate::joining::{add_all, links_of_event};
+use crate::joining::add_made;
 use crate::pairs::ActivePair;
 use ic_cause::{Dependents, direct_causes};
 use ic_link::LinkStore;
@@ -73,12 +73,11 @@ impl<L: LinkStore> BareSet<L> {
             line,
             rank,
             pair,
-            born: &born,
+            born: born.as_slice(),
             ends: rules.links,
             causes: &causes,
         };
         match put_event(
-            self.alloc,
             &mut self.roster,
             &mut self.store,
             &mut self.dependents,
@@ -89,7 +88,7 @@ impl<L: LinkStore> BareSet<L> {
                 Ok(id)
             }
             Err(_) => {
-                remove_all(&mut self.roster, &born);
+                remove_all(&mut self.roster, born.as_slice());
                 Err(AllocError)
             }
         }
@@ -122,7 +121,7 @@ impl<L: LinkStore> BareSet<L> {
         ensures { IfOk result (λ causes. (e : AnEvent) → IsPairOf self.now.set e pair → AreCausesOf self.now.set e causes.items) }
     {
         self.store.lawful();
-        direct_causes(self.alloc, &self.store, pair.lead, pair.other)
+        direct_causes(&self.store, pair.lead, pair.other)
     }
 
     /// The rank of an event that has the standing events under these ids as direct causes. It takes no memory.
@@ -164,7 +163,6 @@ fn children_for(
 
 /// Puts in an event with its links and its direct causes. At an error nothing changes.
 fn put_event<L: LinkStore>(
-    alloc: Global,
     roster: &mut Roster,
     store: &mut L,
     dependents: &mut Dependents,
@@ -179,7 +177,7 @@ fn put_event<L: LinkStore>(
 {
     let id = roster.insert_event(firing.interaction, firing.line, firing.rank, firing.born)?;
     roster.lawful();
-    let Ok(_) = put_links(alloc, store, id, firing) else {
+    let Ok(_) = put_links(store, id, firing) else {
         roster.remove_event(id);
         return Err(AllocError);
     };
@@ -193,7 +191,6 @@ fn put_event<L: LinkStore>(
 
 /// Puts in the links of an event that has none yet. At an error nothing changes.
 fn put_links<L: LinkStore>(
-    alloc: Global,
     store: &mut L,
     event: EventId,
     firing: &Firing<'_>,
@@ -205,8 +202,7 @@ fn put_links<L: LinkStore>(
     ensures put { OnOk result (Alike (made_links event firing.now.pair firing.now.born.now 0 firing.now.ends.now ++ L.links store.old) (L.links store.new)) }
     ensures unchanged { OnErr result (Alike (L.links store.old) (L.links store.new)) }
 {
-    let links = links_of_event(alloc, firing.ends, event, firing.pair, firing.born)?;
-    let Ok(_) = add_all(store, &links) else {
+    let Ok(_) = add_made(store, firing.ends, event, firing.pair, firing.born) else {
         store.take_of(event);
         return Err(AllocError);
     };

@@ -45,7 +45,7 @@ impl<L: LinkStore> BareSet<L> {
         let entering = agents_of_kinds(alloc, &mut roster, start.kinds())?;
         let ids = enter_all(alloc, &mut roster, &entering, 0)?;
         roster.lawful();
-        let links = links_of_start(alloc, &ids, start.links())?;
+        let links = links_of_start(alloc, ids.as_slice(), start.links())?;
         let mut store = L::empty(alloc);
         add_all(&mut store, &links)?;
         Ok(BareSet {

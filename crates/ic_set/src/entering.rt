@@ -11,6 +11,7 @@ use ic_name::limits::MAX_START_AGENTS;
 use ic_name::{AgentId, AgentName, ChildFault, Kind};
 use ic_names::NameId;
 use ic_roster::Roster;
+use smallvec::SmallVec;
 use std::alloc::{AllocError, Global};
 
 /// An agent that is to be entered, by the place of its name.
@@ -83,7 +84,7 @@ pub(crate) fn enter_all(
     roster: &mut Roster,
     entering: &[NewAgent],
     serial: u32,
-) -> Result<Vec<AgentId>, AllocError>
+) -> Result<SmallVec<AgentId, 4>, AllocError>
     requires inside { AreNamed roster.old.names entering.now }
     requires can { CanEnter roster.old.agents (agents_in roster.old.names entering.now) }
     ensures entered { IfOk result (λ ids. Enters roster.old.agents (agents_in roster.old.names entering.now) serial ids.items roster.new.agents) }
@@ -91,10 +92,11 @@ pub(crate) fn enter_all(
     ensures events { roster.new.events ≡ roster.old.events }
     ensures unchanged { OnErr result (Alike roster.old.agents roster.new.agents) }
 {
-    let mut ids = Vec::with_capacity(alloc, entering.len())?;
+    let mut ids = SmallVec::new(alloc);
+    ids.reserve(entering.len())?;
     for agent in entering {
         let Ok(id) = roster.insert(agent.name, agent.kind, serial) else {
-            remove_all(roster, &ids);
+            remove_all(roster, ids.as_slice());
             return Err(AllocError);
         };
         ids.push_reserved(id);

@@ -30,32 +30,35 @@ pub(crate) fn links_of_start(
     Ok(moved)
 }
 
-/// The links that an event makes, between its two agents and its children, by place.
-pub(crate) fn links_of_event(
-    alloc: Global,
+/// Puts in the links that an event makes, between its two agents and its children, by place. At an error some of them may
+/// have been put in, from the first one on.
+pub(crate) fn add_made<L: LinkStore>(
+    store: &mut L,
     ends: &[(RuleEnd, RuleEnd)],
     event: EventId,
     pair: ActivePair,
     born: &[AgentId],
-) -> Result<Vec<Link>, AllocError>
+) -> Result<(), AllocError>
     requires digits { HaveDigits born.now ends.now }
     requires few { length ends.now ≤ 8 }
-    ensures { IfOk result (λ links. links.items ≡ made_links event pair born.now 0 ends.now) }
+    requires slim { IsSlim shape (made_links event pair born.now 0 ends.now ++ L.links store.old) }
+    requires own_ids { HaveOwnIds (made_links event pair born.now 0 ends.now ++ L.links store.old) }
+    ensures added { OnOk result (Alike (made_links event pair born.now 0 ends.now ++ L.links store.old) (L.links store.new)) }
+    ensures some { OnErr result ((front back : List ALink) × (made_links event pair born.now 0 ends.now ≡ front ++ back) × Alike (front ++ L.links store.old) (L.links store.new)) }
 {
-    let mut links = Vec::with_capacity(alloc, ends.len())?;
     for place in 0..ends.len() {
         let (a, b) = ends[place];
         let id = LinkId {
             maker: MakerId::Event(event),
             place: place as u32,
         };
-        links.push(Link {
+        store.add(Link {
             id,
             a: spot_of(pair, born, a),
             b: spot_of(pair, born, b),
         })?;
     }
-    Ok(links)
+    Ok(())
 }
 
 /// Puts in these links. At an error some of them may have been put in, from the first one on.

@@ -12,15 +12,17 @@ ghost use Rattle.ic_theory.specs.Rules.{born_kinds};
 ghost use Rattle.ic_theory.specs.Sets.{consumed_times};
 ghost use Rattle.ic_theory.specs.Wires.{IsWire};
 ghost use Rattle.ic_roster.specs.Rosters.{Member as AMember, Stander};
+ghost use Rattle.ic_queue.specs.Queues.{AreNamed, StandOnce};
 ghost use Rattle.ic_set.specs.Pairs.{AreJoined, IsPairOf, IsActivePair, AreActivePairs, ArePairsOf, AreLedBy};
-ghost use Rattle.ic_set.specs.Queues.{Reaches, AreBeside};
+ghost use Rattle.ic_set.specs.Queues.{Leads, HasLeads, Reaches, AreBeside};
 ghost use Rattle.ic_set.specs.Removal.{Stands};
 ghost use Rattle.ic_set.specs.Views.{standing};
 
 use crate::bare::BareSet;
 use ic_link::{Far, LinkStore};
 use ic_name::{AgentId, AgentName, Event, EventId, Kind, Spot};
-use ic_names::NameTable;
+use ic_names::{NameId, NameTable};
+use ic_queue::queue::Lead;
 use ic_roster::AgentEntry;
 use std::alloc::AllocError;
 use std::cmp::Ordering;
@@ -106,17 +108,44 @@ impl<L: LinkStore> BareSet<L> {
         }
     }
 
-    /// All active pairs, by lead.
-    pub fn active(&self) -> Result<Vec<ActivePair>, AllocError>
+    /// The active pair that the agent leads, if there is one and it leads one. It takes no memory.
+    pub fn led(&self, agent: Option<AgentId>) -> Option<ActivePair>
+        ensures found { IfSome result (λ pair. (Some pair.lead ≡ agent) × IsActivePair self.now.set pair) }
+        ensures absent { IfNone result ((e : AnEvent) (pair : APair) → Some pair.lead ≡ agent → IsPairOf self.now.set e pair → ⊥) }
+    {
+        self.lawful();
+        let agent = agent?;
+        let pair = self.pair_with(agent)?;
+        if pair.lead != agent {
+            return None;
+        }
+        Some(pair)
+    }
+
+    /// The active pair that the agent of this name leads, if there is one and it leads one. It takes no memory.
+    pub fn led_by_name(&self, name: NameId) -> Option<ActivePair>
+        requires { name.place < length self.now.names }
+        ensures found { IfSome result (λ pair. (e : AnEvent) × IsPairOf self.now.set e pair × (e.lead ≡ name_at self.now.names name.place)) }
+        ensures absent { IfNone result (Leads self.now name.place → ⊥) }
+    {
+        self.lawful();
+        self.led(self.roster.named(name))
+    }
+
+    /// All active pairs, by lead, where the lead of each is among these names.
+    pub fn active_among(&self, leads: &[Lead]) -> Result<Vec<ActivePair>, AllocError>
+        requires named { AreNamed self.now.names leads.now }
+        requires once { StandOnce leads.now }
+        requires each { HasLeads self.now leads.now }
         ensures { IfOk result (λ pairs. AreActivePairs self.now.set pairs.items) }
     {
         self.lawful();
+        let names = self.roster.names();
+        let mut sorted = Vec::from_slice(self.alloc, leads)?;
+        sorted.sort_by(|a, b| names.cmp(a.name, b.name))?;
         let mut pairs = Vec::new(self.alloc);
-        for agent in &self.roster.in_order(self.alloc)? {
-            let Some(pair) = self.pair_with(*agent) else {
-                continue;
-            };
-            if pair.lead == *agent {
+        for lead in &sorted {
+            if let Some(pair) = self.led_by_name(lead.name) {
                 pairs.push(pair)?;
             }
         }
@@ -189,20 +218,6 @@ impl<L: LinkStore> BareSet<L> {
             self.pair_at(agents, 2),
             self.pair_at(agents, 3),
         ]
-    }
-
-    /// The active pair that the agent leads, if there is one and it leads one. It takes no memory.
-    fn led(&self, agent: Option<AgentId>) -> Option<ActivePair>
-        ensures found { IfSome result (λ pair. (Some pair.lead ≡ agent) × IsActivePair self.now.set pair) }
-        ensures absent { IfNone result ((e : AnEvent) (pair : APair) → Some pair.lead ≡ agent → IsPairOf self.now.set e pair → ⊥) }
-    {
-        self.lawful();
-        let agent = agent?;
-        let pair = self.pair_with(agent)?;
-        if pair.lead != agent {
-            return None;
-        }
-        Some(pair)
     }
 
     /// The active pair of the agent at this place, if there is one and it is of one. It takes no memory.

@@ -1,16 +1,14 @@
-ghost use Rattle.std.specs.Prelude.{◌≡◌, ◌<◌, ◌≤◌, ◌↔◌, IsTrue, Some, IfSome, length};
+ghost use Rattle.std.specs.Prelude.{◌≡◌, ◌≤◌, Some, IfSome, length};
 ghost use Rattle.ic_name.specs.Names.{Name};
 ghost use Rattle.ic_name.specs.Events.{Event as AnEvent};
-ghost use Rattle.ic_names.specs.Tables.{name_at};
 ghost use Rattle.ic_path.specs.Orders.{IsIn};
 ghost use Rattle.ic_queue.specs.Queues.{IsHeap};
 ghost use Rattle.ic_set.specs.declared.pairs.ActivePair.{ActivePair as APair};
 ghost use Rattle.ic_set.specs.Pairs.{IsPairOf, IsActivePair};
-ghost use Rattle.ic_set.specs.Queues.{Leads, IsQueued, HasLeads, FrontLeads};
+ghost use Rattle.ic_set.specs.Queues.{IsQueued, HasLeads, FrontLeads};
 
 use ic_link::LinkStore;
 use ic_name::AgentId;
-use ic_names::NameId;
 use ic_queue::LeadQueue;
 use ic_set::{ActivePair, BareSet};
 
@@ -23,8 +21,9 @@ pub(crate) fn put_all<L: LinkStore>(queue: &mut LeadQueue, set: &BareSet<L>, age
     ensures led { (e : AnEvent) (p : APair) → IsPairOf set.now.set e p → IsIn p.lead agents.now → IsQueued set.now.names queue.new.leads e.lead }
     ensures room { queue.old.room ≤ queue.new.room }
 {
+    set.lawful();
     for agent in agents {
-        put(queue, set, *agent);
+        put_pair(queue, set, set.led(Some(*agent)));
     }
 }
 
@@ -67,28 +66,6 @@ fn put_pair<L: LinkStore>(queue: &mut LeadQueue, set: &BareSet<L>, pair: Option<
     queue.put(set.roster().names(), entry.name);
 }
 
-/// Puts in the agent, if it leads an active pair. There is room for every name.
-fn put<L: LinkStore>(queue: &mut LeadQueue, set: &BareSet<L>, agent: AgentId)
-    requires heap { IsHeap set.now.names queue.old.leads }
-    requires room { length set.now.names ≤ queue.old.room }
-    ensures heap { IsHeap set.now.names queue.new.leads }
-    ensures stay { (n : Name) → IsQueued set.now.names queue.old.leads n → IsQueued set.now.names queue.new.leads n }
-    ensures led { (e : AnEvent) (p : APair) → IsPairOf set.now.set e p → p.lead ≡ agent → IsQueued set.now.names queue.new.leads e.lead }
-    ensures room { queue.old.room ≤ queue.new.room }
-{
-    set.lawful();
-    let Some(pair) = set.pair_with(agent) else {
-        return;
-    };
-    if pair.lead != agent {
-        return;
-    }
-    let Some(entry) = set.roster().agent(agent) else {
-        unreachable!()
-    };
-    queue.put(set.roster().names(), entry.name);
-}
-
 /// Names at the front whose agents lead no active pair go. It takes no memory.
 pub(crate) fn drop_stale<L: LinkStore>(queue: &mut LeadQueue, set: &BareSet<L>)
     requires heap { IsHeap set.now.names queue.old.leads }
@@ -100,24 +77,9 @@ pub(crate) fn drop_stale<L: LinkStore>(queue: &mut LeadQueue, set: &BareSet<L>)
 {
     set.lawful();
     while let Some(name) = queue.least() {
-        if is_lead(set, name) {
+        if set.led_by_name(name).is_some() {
             break;
         }
         queue.take_least(set.roster().names());
     }
-}
-
-/// Whether the agent whose name is at this place leads an active pair.
-fn is_lead<L: LinkStore>(set: &BareSet<L>, name: NameId) -> bool
-    requires { name.place < length set.now.names }
-    ensures { IsTrue result ↔ Leads set.now name.place }
-{
-    set.lawful();
-    let Some(agent) = set.roster().named(name) else {
-        return false;
-    };
-    let Some(pair) = set.pair_with(agent) else {
-        return false;
-    };
-    pair.lead == agent
 }

@@ -13,8 +13,11 @@ pub mod SameRecords
 pub mod Unnamed
 pub mod OwnSlots
 pub mod RecordWalks
+pub mod PathMakers
 pub mod SameSlots
 pub mod GivenEnds
+pub mod HeldEnds
+pub mod GivenLabels
 pub mod ShownLinks
 pub mod CutLinks
 pub mod PartSlots
@@ -28,7 +31,8 @@ pub mod Renamed
 pub mod NamedSpots
 pub mod PartedLabels
 pub mod JoinedLabels
-pub mod UnitedLabels
+pub mod BareLabels
+pub mod CommonLabels
 pub mod UnitedSlots
 pub mod LabelWalks
 pub mod SplitSlots

@@ -55,9 +55,9 @@ fn path(alloc: Global) -> Result<LinkRows, AllocError> {
 }
 
 /// The direct causes of the event of the two agents, where a path joins their principal ports.
-fn causes_of_the_pair(alloc: Global, store: &LinkRows) -> Option<Vec<EventId>> {
+fn causes_of_the_pair(store: &LinkRows) -> Option<Vec<EventId>> {
     match store.far(Spot::Agent(NEAR, 0)) {
-        Far::End(Spot::Agent(FAR, 0)) => direct_causes(alloc, store, NEAR, FAR).ok(),
+        Far::End(Spot::Agent(FAR, 0)) => direct_causes(store, NEAR, FAR).ok(),
         _ => None,
     }
 }
@@ -65,7 +65,7 @@ fn causes_of_the_pair(alloc: Global, store: &LinkRows) -> Option<Vec<EventId>> {
 #[test]
 fn causes_are_the_makers_of_the_path(rt: HostRuntime) -> Result<(), Fail> {
     let store = path(rt.alloc())?;
-    let causes = causes_of_the_pair(rt.alloc(), &store).ok_or("the causes")?;
+    let causes = causes_of_the_pair(&store).ok_or("the causes")?;
     assert_eq!(rt; causes.len(), 2);
     assert!(rt; causes.contains(&FIRST));
     assert!(rt; causes.contains(&SECOND));

@@ -1,14 +1,16 @@
-// A shared bench where one allocation is refused, whichever it is: bench/refused_growth.py refuses each in turn.
+// A shared bench, and sweeps, where one allocation is refused, whichever it is: bench/refused_growth.py refuses each in turn.
 ghost use Rattle.std.specs.Prelude.{◌≡◌};
 
 use crate::benches::{FOUR_COPIES, bench_over};
 use ic_journal::{Bench, FireFault, Proposal, Store};
 use ic_shared::{Pass, Shared, settle, share};
+use ic_work::{NoGate, SweepFault, sweep};
 use std::alloc::Global;
 use std::marker::Brand;
 use std::sync::Wait;
 use std::sync::ledger::{Blank, Ledger};
 use std::test::Fail;
+use std::thread::Threads;
 
 /// A proposal that the first active pair meets.
 fn first_pair(bench: &Bench<Store>) -> Option<Proposal> {
@@ -71,16 +73,59 @@ fn settles<B: Ledger, R: Wait>(
     Some(right && settled.lines == 16)
 }
 
+/// A bench over the four copies, at the first try or the second.
+fn bench_at_last(alloc: Global) -> Option<Bench<Store>> {
+    match bench_over(alloc, FOUR_COPIES) {
+        Some(bench) => Some(bench),
+        None => bench_over(alloc, FOUR_COPIES),
+    }
+}
+
 fn one_pass<R: Wait>(rt: &R, alloc: Global) -> Option<bool> {
-    let bench = match bench_over(alloc, FOUR_COPIES) {
-        Some(bench) => bench,
-        None => bench_over(alloc, FOUR_COPIES)?,
-    };
+    let bench = bench_at_last(alloc)?;
     settles::<Brand, R>(rt, alloc, bench, Blank::new(2))
+}
+
+/// The bench after a sweep by one worker or by two; `None` where its receipts don't settle.
+fn swept<R: Threads + Wait + Sync>(
+    rt: &R,
+    alloc: Global,
+    bench: Bench<Store>,
+    two: bool,
+) -> Option<Bench<Store>> {
+    let workers = if two { 2 } else { 1 };
+    match sweep(rt, alloc, bench, workers, 100, &NoGate) {
+        Ok(swept) => Some(swept.bench),
+        Err(SweepFault::Memory(bench)) => Some(bench),
+        Err(SweepFault::Settle(..)) => None,
+    }
+}
+
+/// How many events stand once the four copies are swept, and swept again.
+fn stands_after_two_sweeps<R: Threads + Wait + Sync>(
+    rt: &R,
+    alloc: Global,
+    two: bool,
+) -> Option<usize> {
+    let once = swept(rt, alloc, bench_at_last(alloc)?, two)?;
+    let twice = swept(rt, alloc, once, two)?;
+    Some(twice.standing_count())
 }
 
 #[test]
 fn firings_of_a_shared_bench(rt: HostRuntime) -> Result<(), Fail> {
     assert_eq!(rt; one_pass(&rt, rt.alloc()), Some(true));
+    Ok(())
+}
+
+#[test]
+fn a_sweep_by_one_worker(rt: HostRuntime) -> Result<(), Fail> {
+    assert_eq!(rt; stands_after_two_sweeps(&rt, rt.alloc(), false), Some(16));
+    Ok(())
+}
+
+#[test]
+fn a_sweep_by_two_workers(rt: HostRuntime) -> Result<(), Fail> {
+    assert_eq!(rt; stands_after_two_sweeps(&rt, rt.alloc(), true), Some(16));
     Ok(())
 }

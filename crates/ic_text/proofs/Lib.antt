@@ -1,5 +1,6 @@
 pub mod Lexing
 pub mod Table
+pub mod NameSlots
 pub mod StartLinks
 pub mod Steps
 pub mod Pending

@@ -18,7 +18,7 @@ next_some None i h = absurd cc
 next_some (Some j) i h = (j, refl, cc)
 
 -- no number behind none
-next_none : (o : Option ℕ) → next o ≡ None → o ≡ None
+pub next_none : (o : Option ℕ) → next o ≡ None → o ≡ None
 next_none None h = refl
 next_none (Some j) h = absurd cc
 
@@ -27,7 +27,6 @@ pub record IsAt (x : List ℕ) (ns : List Seen) (i : ℕ) : Type 0 where
   pub within : i < length ns
   pub count : (d : Seen) → times x (names_of ns) ≡ (get_or ns i d).times
   pub more : (o : ℕ) (d : Seen) → enter x o (names_of ns) ≡ names_of (set ns i (record (get_or ns i d) { times = (get_or ns i d).times + 1 }))
-  pub kept : (o : ℕ) (y : List ℕ) → place y (enter x o (names_of ns)) ≡ place y (names_of ns)
 
 -- where a name has a number
 pub is_at : (x : List ℕ) (ns : List Seen) (i : ℕ) → place x (names_of ns) ≡ Some i → IsAt x ns i
@@ -41,7 +40,6 @@ is_at x (n ∷ ns) i h = by_test (bytes_eq x n.text.now) refl (λ j. is_at x ns 
           within = omega arith;
           count = λ d. rw e refl;
           more = λ o d. rw e refl;
-          kept = λ o y. rw e refl;
         })
     by_test false e ih =
         let k = next_some (place x (names_of ns)) i (rw e at h) in
@@ -51,7 +49,6 @@ is_at x (n ∷ ns) i h = by_test (bytes_eq x n.text.now) refl (λ j. is_at x ns 
           within = omega (arith, m.within);
           count = λ d. rw e (m.count d);
           more = λ o d. rw e (ap (λ (w : List Entry). name_of n ∷ w) (m.more o d));
-          kept = λ o y. rw e (ap (λ (p : Option ℕ). cond (bytes_eq y n.text.now) (Some 0) (next p)) (m.kept o y));
         })
 
 -- a name that has not occurred

@@ -1,4 +1,5 @@
 pub mod Names
+pub mod NameSlots
 pub mod Sides
 pub mod Reading
 pub mod Table

@@ -57,18 +57,18 @@ pub struct Builder<'a> {
 }
 
 impl<'a> Builder<'a> {
-    /// Nothing has been read.
-    pub fn new(alloc: Global) -> Builder<'a>
-        ensures { state_of result ≡ initial }
+    /// Nothing has been read, of a text of so many bytes.
+    pub fn new(alloc: Global, bytes: usize) -> Result<Builder<'a>, AllocError>
+        ensures { IfOk result (λ b. state_of b ≡ initial) }
     {
-        Builder {
+        Ok(Builder {
             kinds: Vec::new(alloc),
             links: Links::new(alloc),
-            names: Names::new(alloc),
+            names: Names::new(alloc, bytes)?,
             stack: Vec::new(alloc),
             side: Side::Beginning,
             profile: Profile::Classic,
-        }
+        })
     }
 
     /// A term with this root comes, if one may come here.

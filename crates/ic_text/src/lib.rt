@@ -5,6 +5,7 @@ mod builder;
 pub mod fault;
 mod lexer;
 mod links;
+mod name_slots;
 mod names;
 pub mod read;
 mod seen;

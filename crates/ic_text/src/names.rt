@@ -3,42 +3,45 @@ ghost use Rattle.ic_grammar.specs.Texts.{is_reserved};
 ghost use Rattle.ic_text.specs.Names.{enter, number, times, is_free, is_reserved_free};
 ghost use Rattle.ic_text.specs.Table.{first_of};
 
+use crate::name_slots::{keep, look_up, slot_for, slots_for};
 use crate::seen::{Occurrence, Seen};
+use ic_slots::SlotIndex;
 use std::alloc::{AllocError, Global};
 use std::collections::BTreeMap;
 use std::marker::Model;
 
-/// The names of a text, numbered by first occurrence.
+/// The names of a text, numbered by first occurrence. A slot has the number of the first name that came to it, and the
+/// others have the names that came to a slot of another.
 #[derive(Drop)]
 pub struct Names<'a> {
     seen: Vec<Seen<'a>>,
-    places: BTreeMap<&'a [u8], usize>,
+    slots: SlotIndex,
+    others: BTreeMap<&'a [u8], usize>,
 }
 
 impl<'a> Model for Names<'a> {
-    ghost use Rattle.std.specs.Prelude.{◌≡◌, ℕ, List};
-    ghost use Rattle.std.specs.BTreeMap.{get_by};
-    ghost use Rattle.std.specs.Ordering.{nat_cmp};
-    ghost use Rattle.std.specs.Cmp.Lexicographic.{slice_cmp};
-    ghost use Rattle.ic_text.specs.Names.{Entry, place};
+    ghost use Rattle.std.specs.Prelude.{List};
+    ghost use Rattle.ic_text.specs.Names.{Entry};
+    ghost use Rattle.ic_text.specs.NameSlots.{Finds, other_of};
     ghost use Rattle.ic_text.specs.Table.{names_of};
 
     ghost Value = { List Entry };
 
     ghost view = { λ n. names_of n.seen.items };
 
-    ghost invariant = { λ n. (x : List ℕ) → get_by (λ k. slice_cmp nat_cmp x k.now) n.places ≡ place x (names_of n.seen.items) };
+    ghost invariant = { λ n. Finds (names_of n.seen.items) n.slots (other_of n.others) };
 }
 
 impl<'a> Names<'a> {
-    /// No name has occurred.
-    pub fn new(alloc: Global) -> Names<'a>
-        ensures { result ≡ [] }
+    /// No name has occurred, of a text of so many bytes.
+    pub fn new(alloc: Global, bytes: usize) -> Result<Names<'a>, AllocError>
+        ensures { IfOk result (λ n. n ≡ []) }
     {
-        Names {
+        Ok(Names {
             seen: Vec::new(alloc),
-            places: BTreeMap::new(alloc),
-        }
+            slots: slots_for(alloc, bytes)?,
+            others: BTreeMap::new(alloc),
+        })
     }
 
     /// One more occurrence of a name, which begins at the byte `first`.
@@ -49,7 +52,8 @@ impl<'a> Names<'a> {
         ensures before { IfOk result (λ o. o.before ≡ times text.now self.old) }
         ensures entered { IfOk result (λ _. self.new ≡ enter text.now first self.old) }
     {
-        match self.places.get(text).copied() {
+        let slot = slot_for(text, self.slots.len());
+        match look_up(&self.seen, &self.others, self.slots.get(slot), text) {
             Some(number) => {
                 let name = &mut self.seen[number];
                 let before = name.times;
@@ -63,8 +67,8 @@ impl<'a> Names<'a> {
                     first,
                     times: 1,
                 })?;
-                match self.places.insert(text, number) {
-                    Ok(_) => Ok(Occurrence { number, before: 0 }),
+                match keep(&mut self.slots, &mut self.others, slot, text, number) {
+                    Ok(()) => Ok(Occurrence { number, before: 0 }),
                     Err(_) => {
                         let _ = self.seen.pop();
                         Err(AllocError)

@@ -38,7 +38,7 @@ fn read(alloc: Global, text: &[u8]) -> Result<Start, TextFault>
         return Err(TextFault::Refused(Refusal::TooLong));
     }
     let mut lexer = Lexer::new(text);
-    let mut builder = Builder::new(alloc);
+    let mut builder = Builder::new(alloc, text.len())?;
     while let Some((at, piece)) = lexer.next() {
         builder.take(at, piece)?;
     }

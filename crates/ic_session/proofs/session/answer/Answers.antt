@@ -8,17 +8,17 @@ use Rattle.ic_session.specs.Faults.{fault_of}
 use Rattle.ic_session.specs.Sessions.{partly}
 use Rattle.ic_session.proofs.session.answer.Goals as goal
 
-pub returns-in_err-write_reply-clause-begun : goal.returns-in_err-write_reply-clause-begun
-returns-in_err-write_reply-clause-begun g c =
+pub returns-in_err-reply-clause-begun : goal.returns-in_err-reply-clause-begun
+returns-in_err-reply-clause-begun g c =
     let turn = c.in_ok-after.ensures.turns in
-    let front = subst (λ bytes. AppendsFront (g.W.Write.contents c.args.writer.now) (g.W.Write.contents c.write_reply.new.writer) bytes) c.bytes.ensures c.in_err-write_reply.ensures.front in
-    at_error c.from_residual-in_err-write_reply.result (partly turn front)
+    let front = subst (λ bytes. AppendsFront (g.W.Write.contents c.args.writer.now) (g.W.Write.contents c.reply.new.writer) bytes) c.bytes.ensures c.in_err-reply.ensures.front in
+    at_error c.from_residual-in_err-reply.result (partly turn front)
 
 -- a fault of writing is none of reading
 not_read : {f : Fault} → f ≡ fault.Write → f ≢ fault.Read
 not_read writes reads = (let both : ◌≡◌ {A = Fault} fault.Write fault.Read = sym writes ∙ reads in cc)
 
-pub returns-in_err-write_reply-clause-fault : goal.returns-in_err-write_reply-clause-fault
-returns-in_err-write_reply-clause-fault g c =
-    let p = err_from_is_err_and c.from_residual-in_err-write_reply.result c.from_residual-in_err-write_reply.ensures.1 in
-    rw p.1 (not_read (p.2 ∙ ap fault_of c.in_err-write_reply.ensures.fault))
+pub returns-in_err-reply-clause-fault : goal.returns-in_err-reply-clause-fault
+returns-in_err-reply-clause-fault g c =
+    let p = err_from_is_err_and c.from_residual-in_err-reply.result c.from_residual-in_err-reply.ensures.1 in
+    rw p.1 (not_read (p.2 ∙ ap fault_of c.in_err-reply.ensures.fault))

@@ -1,4 +1,4 @@
-use Rattle.std.proofs.Common.{take, drop, ◌+◌, refl, arith, sym, ◌∙◌}
+use Rattle.std.proofs.Common.{take, drop, ◌+◌, length, refl, arith, sym, ap, length-append, ◌∙◌}
 use Rattle.std.specs.Prelude.{slice_index_or}
 use Rattle.std.proofs.lemmas.List.{take_more, take_all}
 use Rattle.ic_name.specs.declared.kinds.Kind.TheVariants.{Gamma}
@@ -9,15 +9,15 @@ use Rattle.ic_set.proofs.InPlace.{split_at}
 use Rattle.ic_set.proofs.EnteredInTurn.{enters_none, next_can, next_enters}
 use Rattle.ic_set.proofs.entering.enter_all.Goals as goal
 
-pub returns-in_err-ids-clause-unchanged : goal.returns-in_err-ids-clause-unchanged
-returns-in_err-ids-clause-unchanged c = at_error c.from_residual.result (alike_self _)
+pub returns-in_err-reserve-clause-unchanged : goal.returns-in_err-reserve-clause-unchanged
+returns-in_err-reserve-clause-unchanged c = at_error c.from_residual.result (alike_self _)
 
 pub loop-agent-init : goal.loop-agent-init
 loop-agent-init c =
-    let capacity = c.in_ok-ids.ensures.capacity in
-    let none = c.in_ok-ids.ensures.len in
+    let none = c.in_ok-reserve.ensures.items ∙ c.new-ids.ensures.items in
+    let room = c.in_ok-reserve.ensures.ok in
     record {
-      entered = rw c.in_ok-ids.ensures.items (enters_none _ c.args.serial);
+      entered = rw none (enters_none _ c.args.serial);
       names = refl;
       events = refl;
       room = omega arith;
@@ -38,7 +38,7 @@ insert-requires c =
 pub returns-in_default-clause-unchanged : goal.returns-in_default-clause-unchanged
 returns-in_default-clause-unchanged c =
     let i = c.loop-agent.invariant.entered in
-    c.remove_all.ensures.left i.entered _ (i.under ∙ sym c.deref.ensures.value) (rw c.in_default.ensures.unchanged (alike_back i.alike))
+    c.remove_all.ensures.left i.entered _ (i.under ∙ sym c.as_slice.ensures) (rw c.in_default.ensures.unchanged (alike_back i.alike))
 
 pub returns-in_default-clause-names : goal.returns-in_default-clause-names
 returns-in_default-clause-names c = c.remove_all.ensures.names ∙ c.in_default.ensures.names ∙ c.loop-agent.invariant.names
@@ -60,7 +60,7 @@ loop-agent-preserved c =
     let i = c.loop-agent.invariant in
     let room = i.room in
     let pushed = c.push_reserved.ensures in
-    let len = pushed.len in
+    let len = ap length pushed.items ∙ length-append c.loop-agent.ids.items _ in
     let capacity = pushed.capacity in
     let there = rw i.names at c.in-Ok.ensures.entered.1 in
     record {

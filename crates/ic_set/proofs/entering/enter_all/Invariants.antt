@@ -1,4 +1,4 @@
-use Rattle.std.proofs.Common.{◌≡◌, ◌+◌, ◌≤◌, length, take, vec_len, vec_capacity}
+use Rattle.std.proofs.Common.{◌≡◌, ◌+◌, ◌≤◌, length, take}
 use Rattle.ic_set.specs.Entering.{agents_in, Enters}
 use Rattle.ic_set.proofs.entering.enter_all.Given as goal
 
@@ -7,5 +7,5 @@ invariant-loop-agent l = record {
   entered : Enters l.initial.roster.agents (agents_in l.initial.roster.names (take l.agent-index l.entering)) l.serial l.ids.items l.roster.agents;
   names : l.roster.names ≡ l.initial.roster.names;
   events : l.roster.events ≡ l.initial.roster.events;
-  room : vec_len l.ids + length l.entering ≤ vec_capacity l.ids + l.agent-index;
+  room : length l.ids.items + length l.entering ≤ l.ids.capacity + l.agent-index;
 }

@@ -8,9 +8,9 @@ pub loop-at-init : goal.loop-at-init
 loop-at-init c =
     let new = c.new-lexer.ensures in
     record {
-      so_far = rw (new.tokens, c.new-builder.ensures) refl;
+      so_far = rw (new.tokens, c.in_ok-builder.ensures) refl;
       room = omega (arith, new.at, new.rest);
-      within = rw (c.new-builder.ensures, new.at) within_start;
+      within = rw (c.in_ok-builder.ensures, new.at) within_start;
       short = omega (arith, c.if-text-gt-MAX_TEXT.false);
     }
 
@@ -37,6 +37,6 @@ finish-requires-clause-read c = sym c.loop-at.invariant.so_far ∙ run_ends _ _ 
 
 pub returns-in_err-take : goal.returns-in_err-take
 returns-in_err-take c =
-    let p = err_from_is_err_and c.from_residual.result c.from_residual.ensures.1 in
+    let p = err_from_is_err_and c.from_residual-in_err-take.result c.from_residual-in_err-take.ensures.1 in
     let i = c.loop-at.invariant in
     rw (p.1, p.2) (fails c.in_err-take.field-0.0 _ _ _ _ _ c.args.text.now c.in-Some.ensures.taken c.in_err-take.ensures i.so_far i.short)

@@ -1,7 +1,7 @@
-use Rattle.std.proofs.Common.{◌≡◌, ◌∙◌, sym, [], arith, rules}
+use Rattle.std.proofs.Common.{◌≡◌, ◌∙◌, sym, [], arith}
 use Rattle.std.proofs.lemmas.Bool.{eqb-true}
 use Rattle.ic_lines.proofs.Taken.{whole_taken, longer_taken, part_taken, end_taken, no_bytes}
-use Rattle.ic_lines.proofs.Work.{filled_less, whole_less, part_less, same_work, fault_later}
+use Rattle.ic_lines.proofs.Work.{filled_less, whole_less, part_less, same_work}
 use Rattle.ic_lines.proofs.input.Input.next_line.Goals as goal
 
 pub returns-in-Whole-clause-taken : goal.returns-in-Whole-clause-taken
@@ -70,10 +70,3 @@ returns-else-is_empty-clause-less g c =
     let less = filled_less c.take_front.new.self c.fill.new.self c.in_ok-fill.ensures.counted in
     let before = c.loop-self.invariant.less in
     omega arith
-
-pub returns-in_err-fill-clause-fault : goal.returns-in_err-fill-clause-fault
-returns-in_err-fill-clause-fault g c =
-    let same = c.take_front.ensures.reads in
-    let fewer = c.loop-self.invariant.fewer in
-    let later = fault_later c.args.self.now.reads c.take_front.new.self.reads c.fill.new.self.reads c.in_err-fill.field-0.0 (omega arith) c.in_err-fill.ensures.fewer c.in_err-fill.ensures.fault in
-    search (rules, later)

@@ -85,7 +85,7 @@ put_event-requires-clause-can g c =
     let ends = ends_same c.outcome-rules.ensures.links c.profile.ensures (ap (λ (e : Event). e.lead_kind) same) (ap (λ (e : Event). e.other_kind) same) in
     let enters : Enters v.agents (agents_in c.children_for.new.roster.names c.in_ok-children.children.items) (c.args.line + 1) c.in_ok-born.born.items c.enter_all.new.roster.agents = rw (c.children_for.ensures.agents, c.deref-2.ensures.value) at c.in_ok-born.ensures.entered in
     let lawful : IsLawful ls = record { slim = c.lawful.ensures.slim; own_ids = c.lawful.ensures.own_ids } in
-    rw (its, c.deref-3.ensures.value, ends, c.deref-4.ensures.value, events)
+    rw (its, c.as_slice.ensures, ends, c.deref-3.ensures.value, events)
     (can_put_in v c.args.self.now.set (ap (λ (w : NamedView). w.set) c.self.view_is) ls kept c.self.invariant e c.args.pair active c.args.line c.requires.new_line
     _ (c.in_ok-children.ensures.children ∙ ap born_agents same) c.in_ok-born.born.items _ enters c.lawful-2.ensures.names
     c.rank_over-rank.result c.in_ok-causes.causes.items (c.in_ok-causes.ensures e active) lawful)
@@ -104,7 +104,7 @@ invariant_of-self-in-Ok g c =
     let ends = ends_same c.outcome-rules.ensures.links c.profile.ensures (ap (λ (e : Event). e.lead_kind) same) (ap (λ (e : Event). e.other_kind) same) in
     let enters : Enters v.agents (agents_in c.children_for.new.roster.names c.in_ok-children.children.items) (c.args.line + 1) c.in_ok-born.born.items c.enter_all.new.roster.agents = rw (c.children_for.ensures.agents, c.deref-2.ensures.value) at c.in_ok-born.ensures.entered in
     let over = rw c.deref.ensures.value at c.rank_over-rank.ensures in
-    let puts = rw (its, c.deref-3.ensures.value, ends, c.deref-4.ensures.value, events) at c.in-Ok.ensures.put.1 in
+    let puts = rw (its, c.as_slice.ensures, ends, c.deref-3.ensures.value, events) at c.in-Ok.ensures.put.1 in
     rw c.put_event.ensures.agents
     (put_keeps v c.args.self.now.set (ap (λ (w : NamedView). w.set) c.self.view_is) ls kept c.self.invariant e c.args.pair active c.args.line c.requires.new_line
     _ (c.in_ok-children.ensures.children ∙ ap born_agents same) c.in_ok-born.born.items _ enters c.lawful-2.ensures.names
@@ -123,7 +123,7 @@ returns-in-Ok-clause-admitted g c = λ e active. (
     let ends = ends_same c.outcome-rules.ensures.links c.profile.ensures (ap (λ (e : Event). e.lead_kind) same) (ap (λ (e : Event). e.other_kind) same) in
     let enters : Enters v.agents (agents_in c.children_for.new.roster.names c.in_ok-children.children.items) (c.args.line + 1) c.in_ok-born.born.items c.enter_all.new.roster.agents = rw (c.children_for.ensures.agents, c.deref-2.ensures.value) at c.in_ok-born.ensures.entered in
     let over = rw c.deref.ensures.value at c.rank_over-rank.ensures in
-    let puts = rw (its, c.deref-3.ensures.value, ends, c.deref-4.ensures.value, events) at c.in-Ok.ensures.put.1 in
+    let puts = rw (its, c.as_slice.ensures, ends, c.deref-3.ensures.value, events) at c.in-Ok.ensures.put.1 in
     rw c.put_event.ensures.agents
     (put_admits v c.args.self.now.set (ap (λ (w : NamedView). w.set) c.self.view_is) ls kept c.self.invariant e c.args.pair active c.args.line c.requires.new_line
     _ (c.in_ok-children.ensures.children ∙ ap born_agents same) c.in_ok-born.born.items _ enters c.lawful-2.ensures.names
@@ -144,7 +144,7 @@ invariant_of-self-in-Err g c =
     let view = c.self.inside in
     let enters = rw (c.children_for.ensures.agents, c.deref-2.ensures.value) at c.in_ok-born.ensures.entered in
     let left = c.in-Err.ensures.unchanged in
-    let back = gone_again enters.entered c.put_event.ensures.agents enters.under c.deref-in-Err.ensures.value enters.alike c.remove_all.ensures.left in
+    let back = gone_again enters.entered c.put_event.ensures.agents enters.under c.as_slice-in-Err.ensures enters.alike c.remove_all.ensures.left in
     let events = events_again (c.enter_all.ensures.events ∙ c.children_for.ensures.events) left.events c.remove_all.ensures.events in
     kept_alike view.start back events left.links left.causes c.self.invariant
 
@@ -154,6 +154,6 @@ returns-clause-unchanged g c =
     let v : SetView = record { start = view.start; agents = view.roster.agents; events = view.roster.events } in
     let enters = rw (c.children_for.ensures.agents, c.deref-2.ensures.value) at c.in_ok-born.ensures.entered in
     let left = c.in-Err.ensures.unchanged in
-    let back = gone_again enters.entered c.put_event.ensures.agents enters.under c.deref-in-Err.ensures.value enters.alike c.remove_all.ensures.left in
+    let back = gone_again enters.entered c.put_event.ensures.agents enters.under c.as_slice-in-Err.ensures enters.alike c.remove_all.ensures.left in
     let events = events_again (c.enter_all.ensures.events ∙ c.children_for.ensures.events) left.events c.remove_all.ensures.events in
     same_again {v = v} (ap (λ (w : NamedView). w.set) c.self.view_is) back events

@@ -1,12 +1,13 @@
-ghost use Rattle.std.specs.Prelude.{IfSome, IfNone};
+ghost use Rattle.std.specs.Prelude.{IfSome, IfNone, IfOk};
 ghost use Rattle.ic_name.specs.Events.{Event as AnEvent};
 ghost use Rattle.ic_theory.specs.Active.{IsActive};
-ghost use Rattle.ic_set.specs.Pairs.{IsLeastPair};
+ghost use Rattle.ic_set.specs.Pairs.{IsLeastPair, AreActivePairs};
 ghost use Rattle.ic_set.specs.Views.{standing};
 
 use crate::set::StandingSet;
 use ic_link::LinkStore;
 use ic_set::ActivePair;
+use std::alloc::AllocError;
 
 impl<L: LinkStore> StandingSet<L> {
     /// The active pair with the least lead; `None` where no pair is active. It takes no memory.
@@ -16,7 +17,14 @@ impl<L: LinkStore> StandingSet<L> {
     {
         self.bare.lawful();
         let name = self.queue.least()?;
-        let agent = self.bare.roster().named(name)?;
-        self.bare.pair_with(agent)
+        self.bare.led_by_name(name)
+    }
+
+    /// All active pairs, by lead. It goes over the queue of leads alone.
+    pub fn active(&self) -> Result<Vec<ActivePair>, AllocError>
+        ensures { IfOk result (λ pairs. AreActivePairs self.now.set pairs.items) }
+    {
+        self.queue.lawful();
+        self.bare.active_among(self.queue.leads())
     }
 }

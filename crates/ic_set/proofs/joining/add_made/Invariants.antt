@@ -1,0 +1,7 @@
+use Rattle.std.proofs.Common.{◌++◌, take}
+use Rattle.ic_path.specs.Orders.{Alike}
+use Rattle.ic_set.specs.Joining.{made_links}
+use Rattle.ic_set.proofs.joining.add_made.Given as goal
+
+abbrev pub invariant-loop-place : goal.invariant-loop-place
+invariant-loop-place g l = Alike (take l.place (made_links l.event l.pair l.born 0 l.ends) ++ g.L.LinkStore.links l.initial.store) (g.L.LinkStore.links l.store)
