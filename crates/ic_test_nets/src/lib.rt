@@ -14,6 +14,8 @@ mod printing;
 #[cfg(test)]
 mod profiles;
 #[cfg(test)]
+mod shared_slots;
+#[cfg(test)]
 mod side_by_side;
 #[cfg(test)]
 mod starts;

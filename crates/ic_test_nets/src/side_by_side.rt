@@ -10,7 +10,11 @@ use std::alloc::{AllocError, Global};
 use std::test::Fail;
 
 /// Puts a link into both stores. An error comes where it finds no room, or memory is wanting.
-fn put_both(table: &mut PortTable, rows: &mut LinkRows, link: Link) -> Result<(), AllocError>
+pub(crate) fn put_both(
+    table: &mut PortTable,
+    rows: &mut LinkRows,
+    link: Link,
+) -> Result<(), AllocError>
     requires { Alike table.old.links rows.old }
     ensures { OnOk result (Alike table.new.links rows.new) }
 {
@@ -23,7 +27,7 @@ fn put_both(table: &mut PortTable, rows: &mut LinkRows, link: Link) -> Result<()
 }
 
 /// Takes the links of an event out of both stores.
-fn take_both(table: &mut PortTable, rows: &mut LinkRows, event: EventId)
+pub(crate) fn take_both(table: &mut PortTable, rows: &mut LinkRows, event: EventId)
     requires { Alike table.old.links rows.old }
     ensures { Alike table.new.links rows.new }
 {

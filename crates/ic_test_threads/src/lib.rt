@@ -16,6 +16,8 @@ mod refused_growth;
 #[cfg(test)]
 mod settling;
 #[cfg(test)]
+mod stale;
+#[cfg(test)]
 mod stress;
 #[cfg(test)]
 mod sweeps;

@@ -13,7 +13,7 @@ use std::test::Fail;
 use std::thread::Threads;
 
 /// A proposal that the first active pair meets.
-fn first_pair(bench: &Bench<Store>) -> Option<Proposal> {
+pub(crate) fn first_pair(bench: &Bench<Store>) -> Option<Proposal> {
     let pairs = bench.active().ok()?;
     let pair = pairs.first()?;
     bench.propose(pair.lead, pair.other).ok()
