@@ -6,7 +6,7 @@
 It runs what `rt ci` has built: each test below and each worked session again and again, the first time with the first
 allocation refused, then with the second one, and so on until a run meets none that is refused. With words given, only tests
 and sessions whose names contain one of them are run. It needs a C compiler, for the few lines that refuse. All of it takes
-about two minutes.
+about four minutes.
 
 Tests: each passes whichever allocation is refused. It looks at what is left where a call is answered by want of memory,
 and makes the call again.
@@ -39,7 +39,7 @@ TESTS = {
 }
 
 # A session that takes memory more often than MANY times has so many of its allocations refused as take about these seconds.
-MANY = 1500
+MANY = 5000
 SECONDS = 4
 
 STATUS_OF_NO_MEMORY = 3
