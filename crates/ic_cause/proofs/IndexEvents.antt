@@ -8,8 +8,8 @@ use Rattle.ic_path.specs.Orders.{IsIn}
 use Rattle.ic_path.proofs.Picks.{pick_before, pick_behind, in_first, in_more}
 use Rattle.ic_name.specs.declared.ids.EventId.{EventId}
 use Rattle.ic_name.specs.Spots.{same_event}
-use Rattle.ic_spots.specs.declared.event_rows.EventRow.{EventRow}
-use Rattle.ic_spots.specs.Events.{EventSlots, bare, slot_in, slot_kept, slot_under}
+use Rattle.ic_events.specs.declared.event_rows.EventRow.{EventRow}
+use Rattle.ic_events.specs.Events.{EventSlots, bare, slot_in, slot_kept, slot_under}
 use Rattle.ic_cause.specs.Nodes.{row_events, events_of}
 use Rattle.ic_cause.proofs.EventOrder.{same_event_true}
 

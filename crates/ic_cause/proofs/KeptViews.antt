@@ -8,7 +8,7 @@ use Rattle.std.proofs.lemmas.List.Elements.{All-contains}
 use Rattle.ic_path.proofs.Picks.{in-contains}
 use Rattle.ic_name.specs.declared.ids.EventId.{EventId}
 use Rattle.ic_name.specs.Spots.{same_event}
-use Rattle.ic_spots.specs.Events.{slot_under}
+use Rattle.ic_events.specs.Events.{slot_under}
 use Rattle.ic_cause.specs.declared.nodes.Node.{Node}
 use Rattle.ic_cause.specs.EventOrders.{event_cmp}
 use Rattle.ic_cause.specs.Dependents.{Causes, KeptEvents, causes_in, DependsOn, AreDependents}

@@ -6,7 +6,7 @@ use Rattle.slab.specs.Slab.{Slab, get, with_value, Updates}
 use Rattle.slab.proofs.SlabLemmas.{Updates-with_value}
 use Rattle.ic_name.specs.declared.ids.EventId.{EventId}
 use Rattle.ic_name.specs.Spots.{same_event}
-use Rattle.ic_spots.specs.Events.{EventSlots, slot_under, GivesEvent, KeepsEvents}
+use Rattle.ic_events.specs.Events.{EventSlots, slot_under, GivesEvent, KeepsEvents}
 use Rattle.ic_cause.specs.declared.nodes.Node.{Node}
 use Rattle.ic_cause.specs.Nodes.{Nodes, node_in, node_of, IsSound}
 use Rattle.ic_cause.specs.LentNodes.{WritesNode}

@@ -5,8 +5,8 @@ use Rattle.std.specs.List.{list_any}
 use Rattle.ic_path.specs.Orders.{Pick, IsIn}
 use Rattle.ic_name.specs.declared.ids.EventId.{EventId}
 use Rattle.ic_name.specs.Spots.{same_event}
-use Rattle.ic_spots.specs.declared.event_rows.EventRow.{EventRow}
-use Rattle.ic_spots.specs.Events.{EventSlots, slot_under}
+use Rattle.ic_events.specs.declared.event_rows.EventRow.{EventRow}
+use Rattle.ic_events.specs.Events.{EventSlots, slot_under}
 use Rattle.ic_cause.specs.declared.nodes.Node.{Node}
 use Rattle.ic_cause.specs.Dependents.{Causes, KeptEvents}
 

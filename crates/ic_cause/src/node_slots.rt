@@ -8,8 +8,8 @@ ghost use Rattle.ic_cause.specs.Nodes.{node_of};
 ghost use Rattle.ic_cause.specs.LentNodes.{lends_node};
 
 use crate::nodes::Node;
+use ic_events::EventIndex;
 use ic_name::EventId;
-use ic_spots::EventIndex;
 use slab::Slab;
 use std::alloc::{AllocError, Global};
 use std::marker::Model;

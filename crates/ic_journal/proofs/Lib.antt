@@ -7,3 +7,4 @@ pub mod KeptBenches
 pub mod PairLimits
 pub mod NamedPairs
 pub mod ChangedLines
+pub mod LedEvents

@@ -25,7 +25,7 @@ use ic_cause::RankedEvent;
 use ic_link::LinkStore;
 use ic_name::{AgentId, AgentName, Event, EventId, EventName, Kind, Line};
 use ic_names::NameTable;
-use ic_net::Net;
+use ic_net::{Net, NetSheet};
 use ic_roster::AgentEntry;
 use ic_set::ActivePair;
 use std::alloc::AllocError;
@@ -45,6 +45,31 @@ impl<L: LinkStore> Bench<L> {
         ensures absent { IfNone result ((x : Stander) → IsIn x self.now.events → pair x.event ≢ name.now) }
     {
         self.set.bare().roster().find_event(name)
+    }
+
+    /// The id of the standing event that the agent of this name leads; `None` where it leads none. It takes no memory.
+    pub fn event_led_by(&self, lead: &AgentName) -> Option<EventId>
+        ensures found { IfSome result (λ id. (x : Stander) × IsIn x self.now.events × (x.id ≡ id) × (x.event.lead ≡ lead.now)) }
+        ensures absent { IfNone result ((x : Stander) → IsIn x self.now.events → x.event.lead ≢ lead.now) }
+    {
+        let set = self.set.bare();
+        set.lawful();
+        let roster = set.roster();
+        let Some(agent) = roster.find(lead) else {
+            return None;
+        };
+        let Some(entry) = roster.agent(agent) else {
+            unreachable!()
+        };
+        roster.led_by(entry.name)
+    }
+
+    /// The active pair of this event's agents; `None` where the event isn't active. It takes no memory.
+    pub fn pair_of(&self, event: &Event) -> Option<ActivePair>
+        ensures found { IfSome result (λ pair. IsPairOf (set_of self.now) event.now pair) }
+        ensures absent { IfNone result (IsActive self.now.start (standing (set_of self.now)) event.now → ⊥) }
+    {
+        self.set.bare().active_pair(event)
     }
 
     /// The active pair of the agents of this event's name; `None` where no wire joins their principal ports. It takes no
@@ -243,6 +268,13 @@ impl<L: LinkStore> Bench<L> {
         ensures every_order { IfOk result (λ net. (order : List AnEvent) → Alike (standing (set_of self.now)) (then_fired [] order) → AreAfterCauses self.now.start (then_fired [] order) (then_fired [] order) → IsSameNet (shown net) (steps (net_of self.now.start []) order)) }
     {
         self.set.bare().net()
+    }
+
+    /// The net of what stands, with its agents in the order of their names, to be read once.
+    pub fn sheet(&self) -> Result<NetSheet, AllocError>
+        ensures { IfOk result (λ sheet. IsSameNet (shown sheet) (net_of self.now.start (standing (set_of self.now)))) }
+    {
+        self.set.bare().sheet()
     }
 
     /// The history: each call with its reply, numbered from 0 on.

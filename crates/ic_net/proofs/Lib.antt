@@ -15,3 +15,4 @@ pub mod WholeTables
 pub mod StepTables
 pub mod Replayed
 pub mod Makings
+pub mod InOrder

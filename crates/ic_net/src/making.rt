@@ -5,20 +5,21 @@ ghost use Rattle.std.specs.Ordering.{nat_cmp};
 ghost use Rattle.ic_name.specs.Names.{name_cmp};
 ghost use Rattle.ic_theory.specs.Listed.{shown};
 ghost use Rattle.ic_net.specs.Nets.{IsReached, partner_list};
-ghost use Rattle.ic_net.specs.Makings.{with_agent, listed_parts};
+ghost use Rattle.ic_net.specs.Makings.{AreInOrder, place_in, with_agent, listed_parts};
 
 use crate::agents::{NetAgent, Partners};
-use crate::net::Net;
+use crate::sheet::NetSheet;
 use ic_name::{AgentName, Kind, Port, Profile};
 use std::alloc::{AllocError, Global};
+use std::cmp::Ordering;
 use std::collections::BTreeMap;
 use std::marker::Model;
 
 /// A net that is put together from its parts: its agents, each with its kind and the partners of its ports by number, its
-/// free names, each with its partner, its number of rings, and its profile.
+/// free names, each with its partner, its number of rings, and its profile. Agents lie in the order of their names.
 #[derive(Drop)]
 pub struct NetMaker {
-    agents: BTreeMap<AgentName, NetAgent>,
+    agents: Vec<(AgentName, NetAgent)>,
     frees: BTreeMap<u32, Port>,
     profile: Profile,
 }
@@ -30,8 +31,11 @@ impl Model for NetMaker {
     ghost Value = { NetParts };
 
     ghost use Rattle.ic_net.specs.Nets.{listed_agent};
+    ghost use Rattle.ic_net.specs.Makings.{AreInOrder};
 
-    ghost view = { λ m. record { agents = map listed_agent m.agents.entries; frees = m.frees.entries; profile = m.profile } };
+    ghost view = { λ m. record { agents = map listed_agent m.agents.items; frees = m.frees.entries; profile = m.profile } };
+
+    ghost invariant = { λ m. AreInOrder m.agents.items };
 }
 
 impl NetMaker {
@@ -42,7 +46,7 @@ impl NetMaker {
         ensures profile { result.profile ≡ profile }
     {
         NetMaker {
-            agents: BTreeMap::new(alloc),
+            agents: Vec::new(alloc),
             frees: BTreeMap::new(alloc),
             profile,
         }
@@ -64,8 +68,8 @@ impl NetMaker {
         self.agents.len()
     }
 
-    /// An agent comes, with the partners of its ports. Agents may come in any order; one of the same name is replaced. At an
-    /// error memory ran out.
+    /// An agent comes, with the partners of its ports. Agents may come in any order; one of the same name is replaced. It takes
+    /// constant time, save for growth, where it comes after all others. At an error memory ran out.
     pub fn push_agent(
         &mut self,
         name: AgentName,
@@ -76,7 +80,7 @@ impl NetMaker {
         ensures frees { OnOk result (self.new.frees ≡ self.old.frees) }
         ensures profile { OnOk result (self.new.profile ≡ self.old.profile) }
     {
-        let _ = self.agents.insert(name, NetAgent { kind, partners })?;
+        put_in_order(&mut self.agents, name, NetAgent { kind, partners })?;
         Ok(())
     }
 
@@ -92,7 +96,7 @@ impl NetMaker {
     }
 
     /// The net of what was put together, with this number of rings. It takes no memory.
-    pub fn finish(self, rings: u64) -> Net
+    pub fn finish(self, rings: u64) -> NetSheet
         requires few_agents { length self.agents < 2 ^ 32 }
         requires few_frees { length self.frees < 2 ^ 32 }
         requires few_rings { rings < 2 ^ 63 }
@@ -105,11 +109,53 @@ impl NetMaker {
             frees,
             profile,
         } = self;
-        Net {
+        NetSheet {
             agents,
             frees,
             rings,
             profile,
         }
     }
+}
+
+/// Puts an agent where it comes in the order of names, in place of one with its name. At an error the agents stay.
+fn put_in_order(
+    agents: &mut Vec<(AgentName, NetAgent)>,
+    name: AgentName,
+    agent: NetAgent,
+) -> Result<(), AllocError>
+    requires { AreInOrder agents.old.items }
+    ensures put { OnOk result (agents.new.items ≡ insert_entry name_cmp agents.old.items name agent) }
+    ensures order { AreInOrder agents.new.items }
+{
+    match place_for(agents, &name) {
+        Ok(place) => {
+            agents[place] = (name, agent);
+            Ok(())
+        }
+        Err(place) => {
+            agents.insert(place, (name, agent))?;
+            Ok(())
+        }
+    }
+}
+
+/// The place of the agent of this name; as an error, the place before which it would come.
+fn place_for(agents: &[(AgentName, NetAgent)], name: &AgentName) -> Result<usize, usize>
+    requires { AreInOrder agents.now }
+    ensures { result ≡ place_in agents.now name.now }
+{
+    if let Some((last, _)) = agents.last() {
+        if name.cmp(last).is_gt() {
+            return Err(agents.len());
+        }
+    }
+    for place in 0..agents.len() {
+        match name.cmp(&agents[place].0) {
+            Ordering::Less => return Err(place),
+            Ordering::Equal => return Ok(place),
+            Ordering::Greater => {}
+        }
+    }
+    Err(agents.len())
 }

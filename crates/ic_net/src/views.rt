@@ -40,6 +40,24 @@ pub(crate) fn agent_views_of(
     Ok(views)
 }
 
+/// These agents, in the order in which they lie.
+pub(crate) fn listed_views_of(
+    alloc: Global,
+    agents: &[(AgentName, NetAgent)],
+) -> Result<Vec<AgentView<'_>>, AllocError>
+    ensures { IfOk result (λ views. map shown_agent views.items ≡ map listed_agent agents.now) }
+{
+    let mut views = Vec::with_capacity(alloc, agents.len())?;
+    for (name, agent) in agents {
+        views.push(AgentView {
+            name,
+            kind: agent.kind,
+            partners: agent.partners.as_slice(),
+        })?;
+    }
+    Ok(views)
+}
+
 /// The entries of a table of names, in order.
 pub(crate) fn free_views_of(
     alloc: Global,

@@ -57,6 +57,19 @@ pub(crate) fn agent_wires(agents: &BTreeMap<AgentName, NetAgent>) -> u64
     wires
 }
 
+/// The wires whose lesser end is a port of one of these agents.
+pub(crate) fn listed_wires(agents: &[(AgentName, NetAgent)]) -> u64
+    requires few { 3 * length agents.now < 2 ^ 64 }
+    ensures count { result ≡ count_by is_lesser_end (flat_map agent_ends (map listed_agent agents.now)) }
+    ensures few { result ≤ 3 * length agents.now }
+{
+    let mut wires = 0;
+    for (name, agent) in agents {
+        wires += lesser_ends(name, agent.partners.as_slice());
+    }
+    wires
+}
+
 /// The wires between two names.
 pub(crate) fn name_wires(frees: &BTreeMap<u32, Port>) -> u64
     requires few { length frees.now.entries < 2 ^ 64 }

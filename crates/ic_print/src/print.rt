@@ -10,7 +10,7 @@ use crate::free::put_free_wires;
 use crate::numbered::NumberedAgents;
 use crate::put::{put_agents, put_header, put_profile, put_rings};
 use ic_name::Profile;
-use ic_net::{AgentView, FreeView, Net};
+use ic_net::{AgentView, FreeView, Net, NetSheet};
 use std::alloc::{AllocError, Global};
 
 /// The length of the shortest line of an agent, but for the name in it.
@@ -27,7 +27,25 @@ pub fn print_net(alloc: Global, net: &Net, names: &[Vec<u8>]) -> Result<Vec<u8>,
     net.lawful();
     let agents = net.agent_views(alloc)?;
     let frees = net.free_views(alloc)?;
-    print_sheet(
+    print_parts(
+        alloc,
+        agents.as_slice(),
+        net.wires(),
+        frees.as_slice(),
+        net.rings(),
+        net.profile(),
+        names,
+    )
+}
+
+/// The printed text of a net whose agents lie in the order of their names, as `print_net` gives it.
+pub fn print_sheet(alloc: Global, net: &NetSheet, names: &[Vec<u8>]) -> Result<Vec<u8>, AllocError>
+    ensures { IfOk result (λ text. text.items ≡ net_text (map (λ t. t.items) names.now) net.now) }
+{
+    net.lawful();
+    let agents = net.agent_views(alloc)?;
+    let frees = net.free_views(alloc)?;
+    print_parts(
         alloc,
         agents.as_slice(),
         net.wires(),
@@ -39,7 +57,7 @@ pub fn print_net(alloc: Global, net: &Net, names: &[Vec<u8>]) -> Result<Vec<u8>,
 }
 
 /// The printed text of a net that is lent in parts, of which `wires` counts the wires, with these texts of names.
-pub(crate) fn print_sheet(
+pub(crate) fn print_parts(
     alloc: Global,
     agents: &[AgentView<'_>],
     wires: u64,

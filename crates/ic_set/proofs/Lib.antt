@@ -45,6 +45,7 @@ pub mod ReachedAgents
 pub mod GrownSets
 pub mod LookedUp
 pub mod QueuedLeads
+pub mod KeyedOrders
 pub mod PlacedOrders
 pub mod OrderedIds
 pub mod RankedEvents

@@ -1,13 +1,9 @@
 -- The leads in a queue, and what its front tells.
-use Rattle.std.proofs.Common.{◌≡◌, ◌≢◌, ℕ, false, ◌<◌, List, [], ◌∷◌, length, ◌⊎◌, inl, inr, Option, Some, None, IfSome, IfNone, refl, sym, ap, subst, ◌∙◌}
-use Rattle.std.specs.Ordering.{is_gt}
-use Rattle.std.specs.declared.cmp.Ordering.{Ordering}
-use Rattle.std.specs.declared.cmp.Ordering.TheVariants.{Less, Equal, Greater}
-use Rattle.ic_name.specs.Names.{Name, name_cmp}
+use Rattle.std.proofs.Common.{◌≡◌, ℕ, ◌<◌, List, [], ◌∷◌, length, ◌⊎◌, inl, inr, Option, Some, None, IfSome, IfNone, sym, ap, subst, ◌∙◌}
+use Rattle.ic_name.specs.Names.{Name}
 use Rattle.ic_name.specs.Events.{Event}
 use Rattle.ic_name.specs.declared.ids.AgentId.{AgentId}
 use Rattle.ic_name.specs.declared.kinds.Kind.{Kind}
-use Rattle.ic_name.proofs.NameOrder.{name_flip}
 use Rattle.ic_names.specs.Tables.{name_at, IsTable}
 use Rattle.ic_names.specs.declared.table.NameId.{NameId}
 use Rattle.ic_path.specs.Orders.{IsIn, Alike}
@@ -19,8 +15,8 @@ use Rattle.ic_queue.specs.Queues.{places, IsHeap, IsLeast}
 use Rattle.ic_queue.proofs.Heaps.{one_least}
 use Rattle.ic_roster.specs.Rosters.{Member}
 use Rattle.ic_set.specs.declared.pairs.ActivePair.{ActivePair}
-use Rattle.ic_set.specs.Pairs.{IsPairOf, IsLeastPair}
-use Rattle.ic_set.specs.Queues.{Leads, IsQueued, HasLeads, FrontLeads}
+use Rattle.ic_set.specs.Pairs.{IsPairOf}
+use Rattle.ic_set.specs.Queues.{Leads, IsQueued, HasLeads}
 use Rattle.ic_set.specs.Sets.{IsStandingSet}
 use Rattle.ic_set.specs.Views.{NamedView, standing}
 use Rattle.ic_set.proofs.ActivePairs.{one_id, one_pair, pair_of}
@@ -29,15 +25,6 @@ use Rattle.ic_set.proofs.LedPairs.{second_leads_none}
 -- an agent of a pair
 abbrev pub IsOf : ActivePair → AgentId → Type 0
 IsOf p a = (p.lead ≡ a) ⊎ (p.other ≡ a)
-
--- the order the other way round
-not_greater : (n m : Name) → name_cmp n m ≢ Less → is_gt (name_cmp m n) ≡ false
-not_greater n m none = by (name_cmp m n) refl
-  where
-    by : (o : Ordering) → name_cmp m n ≡ o → is_gt (name_cmp m n) ≡ false
-    by Less h = ap is_gt h
-    by Equal h = ap is_gt h
-    by Greater h = absurd (none (name_flip m n h))
 
 module _ (v : NamedView) (set : IsStandingSet v.set) where
   -- where an agent of a pair leads one, it leads that pair
@@ -53,25 +40,6 @@ module _ (v : NamedView) (set : IsStandingSet v.set) where
   pub lead_queued : (leads : List Lead) (id : AgentId) (n : ℕ) (kind : Kind) → IsIn (record { id = id; name = name_at v.names n; kind = kind }) v.set.agents → n < length v.names → IsIn n (places leads)
       → (e : Event) (p : ActivePair) → IsPairOf v.set e p → p.lead ≡ id → IsQueued v.names leads e.lead
   lead_queued leads id n kind there inside queued e p h same = (n, record { within = inside; named = sym (ap (λ (m : Member). m.name) (one_id v.set set _ _ h.lead there same)) }, queued)
-
-  -- the pair that the front's name leads has the least lead
-  front_least : (leads : List Lead) (n : ℕ) → HasLeads v leads → IsLeast v.names leads n → (e : Event) (p : ActivePair) → IsPairOf v.set e p → e.lead ≡ name_at v.names n → IsLeastPair v.set p
-  front_least leads n all least e p h named = record {
-    event = e;
-    pair = h;
-    least = λ f a. (
-        let q = pair_of v.set set f a in
-        let queued = all f q.0 q.1 in
-        let none : name_cmp f.lead (name_at v.names n) ≢ Less = subst (λ m. name_cmp m (name_at v.names n) ≢ Less) queued.1.named (least.none_less queued.0 queued.2) in
-        subst (λ m. is_gt (name_cmp m f.lead) ≡ false) (sym named) (not_greater f.lead (name_at v.names n) none));
-  }
-
-  -- so it is what is answered for the front's name
-  pub found_least : (leads : List Lead) (n : ℕ) → HasLeads v leads → FrontLeads v leads → IsLeast v.names leads n → (o : Option ActivePair)
-      → IfSome o (λ p. (e : Event) × IsPairOf v.set e p × (e.lead ≡ name_at v.names n)) → IfNone o (Leads v n → ⊥)
-      → IfSome o (λ p. IsLeastPair v.set p) × IfNone o ((e : Event) → IsActive v.set.start (standing v.set) e → ⊥)
-  found_least leads n all front least None some none = absurd (none (front n least))
-  found_least leads n all front least (Some p) some none = (front_least leads n all least some.0 p some.1 some.2, tt)
 
   -- without leads no pair is active
   pub none_led : (leads : List Lead) → leads ≡ [] → HasLeads v leads → (e : Event) → IsActive v.set.start (standing v.set) e → ⊥

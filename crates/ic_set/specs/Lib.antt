@@ -12,3 +12,4 @@ pub mod Admission
 pub mod Placed
 pub mod Queues
 pub mod Reading
+pub mod Meetings

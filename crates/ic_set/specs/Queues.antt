@@ -1,5 +1,5 @@
--- The queue of the leads of a set's active pairs, and the agents that may lead new ones.
-use Rattle.std.specs.Prelude.{◌≡◌, ◌≢◌, ℕ, ◌≤◌, List, length, ◌⊎◌, Option, Some}
+-- Leads of active pairs in a queue, and the agents that may lead new ones.
+use Rattle.std.specs.Prelude.{◌≡◌, ◌≢◌, ℕ, List, ◌⊎◌, Option, Some}
 use Rattle.ic_name.specs.Names.{Name}
 use Rattle.ic_name.specs.Events.{Event}
 use Rattle.ic_name.specs.declared.ids.AgentId.{AgentId}
@@ -11,7 +11,7 @@ use Rattle.ic_theory.specs.Wires.{IsWire}
 use Rattle.ic_theory.specs.Starts.{Start}
 use Rattle.ic_names.specs.Tables.{name_at, StandsAt}
 use Rattle.ic_queue.specs.declared.queue.Lead.{Lead}
-use Rattle.ic_queue.specs.Queues.{places, IsHeap, IsLeast}
+use Rattle.ic_queue.specs.Queues.{places}
 use Rattle.ic_roster.specs.Rosters.{Member}
 use Rattle.ic_set.specs.declared.pairs.ActivePair.{ActivePair}
 use Rattle.ic_set.specs.Pairs.{IsPairOf}
@@ -28,17 +28,6 @@ IsQueued ns leads name = (n : ℕ) × StandsAt ns name n × IsIn n (places leads
 -- the lead of each active pair is in the queue
 abbrev pub HasLeads : NamedView → List Lead → Type 0
 HasLeads v leads = (e : Event) (p : ActivePair) → IsPairOf v.set e p → IsQueued v.names leads e.lead
-
--- the agent with the least name in the queue leads an active pair
-abbrev pub FrontLeads : NamedView → List Lead → Type 0
-FrontLeads v leads = (n : ℕ) → IsLeast v.names leads n → Leads v n
-
--- the leads are in the queue, the front is one of them, and there is room for each name that is known
-pub record KeepsQueue (v : NamedView) (leads : List Lead) (space : ℕ) : Type 0 where
-  pub heap : IsHeap v.names leads
-  pub each : HasLeads v leads
-  pub front : FrontLeads v leads
-  pub room : length v.names ≤ space
 
 -- a wire leads from the agent's principal port to an auxiliary port of one of the event's agents
 abbrev pub IsNextTo : Start → List Event → Event → Name → Type 0

@@ -1,7 +1,6 @@
 ghost use Rattle.std.specs.Prelude.{◌≡◌, ℕ};
 ghost use Rattle.ic_name.specs.Events.{Event as AnEvent};
 ghost use Rattle.ic_theory.specs.Causes.{canonical_cmp};
-ghost use Rattle.ic_cause.specs.Places.{place_cmp};
 ghost use Rattle.ic_roster.specs.Rosters.{event_in};
 
 use ic_names::NameTable;
@@ -16,8 +15,7 @@ pub(crate) fn canonical_order(
     b: Interaction,
     b_rank: u32,
 ) -> Ordering
-    ensures canonical { (rank : AnEvent → ℕ) → rank (event_in names.now a) ≡ a_rank → rank (event_in names.now b) ≡ b_rank → result ≡ canonical_cmp rank (event_in names.now a) (event_in names.now b) }
-    ensures places { result ≡ place_cmp (a_rank, event_in names.now a) (b_rank, event_in names.now b) }
+    ensures { (rank : AnEvent → ℕ) → rank (event_in names.now a) ≡ a_rank → rank (event_in names.now b) ≡ b_rank → result ≡ canonical_cmp rank (event_in names.now a) (event_in names.now b) }
 {
     a_rank
         .cmp(&b_rank)

@@ -14,7 +14,7 @@ use crate::orders::Placed;
 use ic_cause::RankedEvent;
 use ic_link::LinkStore;
 use ic_name::Event;
-use ic_net::{Net, NetMaker};
+use ic_net::{Net, NetMaker, NetSheet};
 use ic_roster::Roster;
 use std::alloc::{AllocError, Global};
 
@@ -25,12 +25,10 @@ const TOO_MANY_AGENTS: usize = 1 << 32;
 const TOO_MANY_RINGS: u64 = 1 << 63;
 
 impl<L: LinkStore> BareSet<L> {
-    /// The net of the set: the one in which the steps of its events end, in each causal order of them (Lafont 1997).
-    /// At an error memory ran out, or the net would have more agents or rings than can be counted.
-    pub fn net(&self) -> Result<Net, AllocError>
-        ensures left { IfOk result (λ net. IsSameNet (shown net) (net_of self.now.set.start (standing self.now.set))) }
-        ensures defined { IfOk result (λ _. (order : List AnEvent) → Alike (standing self.now.set) (then_fired [] order) → AreAfterCauses self.now.set.start (then_fired [] order) (then_fired [] order) → AreDefined (net_of self.now.set.start []) order) }
-        ensures every_order { IfOk result (λ net. (order : List AnEvent) → Alike (standing self.now.set) (then_fired [] order) → AreAfterCauses self.now.set.start (then_fired [] order) (then_fired [] order) → IsSameNet (shown net) (steps (net_of self.now.set.start []) order)) }
+    /// The net of the set, with its agents in the order of their names, to be read once. At an error memory ran out, or the
+    /// net would have more agents or rings than can be counted.
+    pub fn sheet(&self) -> Result<NetSheet, AllocError>
+        ensures { IfOk result (λ sheet. IsSameNet (shown sheet) (net_of self.now.set.start (standing self.now.set))) }
     {
         self.lawful();
         self.start.lawful();
@@ -42,6 +40,18 @@ impl<L: LinkStore> BareSet<L> {
             return Err(AllocError);
         }
         Ok(maker.finish(rings))
+    }
+
+    /// The net of the set: the one in which the steps of its events end, in each causal order of them (Lafont 1997).
+    /// At an error memory ran out, or the net would have more agents or rings than can be counted.
+    pub fn net(&self) -> Result<Net, AllocError>
+        ensures left { IfOk result (λ net. IsSameNet (shown net) (net_of self.now.set.start (standing self.now.set))) }
+        ensures defined { IfOk result (λ _. (order : List AnEvent) → Alike (standing self.now.set) (then_fired [] order) → AreAfterCauses self.now.set.start (then_fired [] order) (then_fired [] order) → AreDefined (net_of self.now.set.start []) order) }
+        ensures every_order { IfOk result (λ net. (order : List AnEvent) → Alike (standing self.now.set) (then_fired [] order) → AreAfterCauses self.now.set.start (then_fired [] order) (then_fired [] order) → IsSameNet (shown net) (steps (net_of self.now.set.start []) order)) }
+    {
+        self.lawful();
+        let net = self.sheet()?.into_net(self.alloc)?;
+        Ok(net)
     }
 
     /// The standing events with their ranks, in canonical order.

@@ -2,22 +2,24 @@ ghost use Rattle.std.specs.Prelude.{◌≡◌, All, List, map, IfOk};
 ghost use Rattle.ic_name.specs.declared.ids.EventId.{EventId as AnEventId};
 ghost use Rattle.ic_path.specs.Orders.{Pick, IsIn};
 ghost use Rattle.ic_set.specs.Orders.{AreInOrder, IsAny, IsCauseOf, DependsOn};
-ghost use Rattle.ic_set.specs.Placed.{IsPlaced, ArePlaced};
+ghost use Rattle.ic_set.specs.Placed.{keyed_cmp, place, IsPlaced, ArePlaced};
 ghost use Rattle.ic_set.specs.Removal.{Stands};
 
 use crate::bare::BareSet;
-use crate::comparing::canonical_order;
 use ic_link::LinkStore;
 use ic_name::EventId;
+use ic_names::{NameKey, NameTable};
 use ic_roster::Interaction;
 use std::alloc::{AllocError, Global};
+use std::cmp::Ordering;
 
-/// A standing event that is put in order.
+/// A standing event that is put in order, with the key of its lead's name.
 #[derive(Clone, Copy)]
 pub(crate) struct Placed {
     pub id: EventId,
     pub interaction: Interaction,
     pub rank: u32,
+    pub key: NameKey,
 }
 
 impl<L: LinkStore> BareSet<L> {
@@ -63,13 +65,7 @@ impl<L: LinkStore> BareSet<L> {
         self.lawful();
         let mut placed = self.placed(ids)?;
         let names = self.roster.names();
-        placed.sort_by(|a, b| canonical_order(
-            names,
-            a.interaction,
-            a.rank,
-            b.interaction,
-            b.rank,
-        ))?;
+        placed.sort_by(|a, b| placed_order(names, a, b))?;
         Ok(placed)
     }
 
@@ -79,6 +75,7 @@ impl<L: LinkStore> BareSet<L> {
         ensures under { IfOk result (λ placed. map (λ p. p.id) placed.items ≡ ids.now) }
         ensures shown { IfOk result (λ placed. All (IsPlaced self.now) placed.items) }
     {
+        let names = self.roster.names();
         let mut placed = Vec::with_capacity(self.alloc, ids.len())?;
         for id in ids {
             let Some(entry) = self.roster.event(*id) else {
@@ -88,10 +85,22 @@ impl<L: LinkStore> BareSet<L> {
                 id: *id,
                 interaction: entry.interaction,
                 rank: entry.rank,
+                key: names.key(entry.interaction.lead),
             })?;
         }
         Ok(placed)
     }
+}
+
+/// The canonical order of two events, in which the table is asked only where ranks and keys are one. It takes no memory.
+fn placed_order(names: &NameTable, a: &Placed, b: &Placed) -> Ordering
+    ensures { result ≡ keyed_cmp (place names.now a.now) (place names.now b.now) }
+{
+    a.rank
+        .cmp(&b.rank)
+        .then_with(|| a.key.number().cmp(&b.key.number()))
+        .then_with(|| names.cmp(a.interaction.lead, b.interaction.lead))
+        .then_with(|| names.cmp(a.interaction.other, b.interaction.other))
 }
 
 /// The ids of these events.

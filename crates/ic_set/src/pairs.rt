@@ -1,4 +1,4 @@
-ghost use Rattle.std.specs.Prelude.{◌≡◌, ◌≢◌, ◌<◌, ◌≤◌, ◌⊎◌, ◌↔◌, [], length, slice_get, Some, IsTrue, IfSome, IfNone, IfOk};
+ghost use Rattle.std.specs.Prelude.{◌≡◌, ◌≢◌, ◌<◌, ◌≤◌, ◌⊎◌, [], length, slice_get, Some, IfSome, IfNone, IfOk};
 ghost use Rattle.ic_name.specs.declared.ids.AgentId.{AgentId as AnAgentId};
 ghost use Rattle.ic_name.specs.declared.ids.Spot.TheVariants.{Agent};
 ghost use Rattle.ic_name.specs.Events.{Event as AnEvent};
@@ -13,6 +13,7 @@ ghost use Rattle.ic_theory.specs.Sets.{consumed_times};
 ghost use Rattle.ic_theory.specs.Wires.{IsWire};
 ghost use Rattle.ic_roster.specs.Rosters.{Member as AMember, Stander};
 ghost use Rattle.ic_queue.specs.Queues.{AreNamed, StandOnce};
+ghost use Rattle.ic_set.specs.Meetings.{HasEntry, IsMeeting};
 ghost use Rattle.ic_set.specs.Pairs.{AreJoined, IsPairOf, IsActivePair, AreActivePairs, ArePairsOf, AreLedBy};
 ghost use Rattle.ic_set.specs.Queues.{Leads, HasLeads, Reaches, AreBeside};
 ghost use Rattle.ic_set.specs.Removal.{Stands};
@@ -20,8 +21,8 @@ ghost use Rattle.ic_set.specs.Views.{standing};
 
 use crate::bare::BareSet;
 use ic_link::{Far, LinkStore};
-use ic_name::{AgentId, AgentName, Event, EventId, Kind, Spot};
-use ic_names::{NameId, NameTable};
+use ic_name::{AgentId, Event, EventId, Spot};
+use ic_names::NameId;
 use ic_queue::queue::Lead;
 use ic_roster::AgentEntry;
 use std::alloc::AllocError;
@@ -41,22 +42,49 @@ pub struct Fired {
     pub awoken: [Option<ActivePair>; 4],
 }
 
+/// An agent's entry, and the agent whose principal port a wire joins to its own, with the entry of that.
+#[derive(Clone, Copy)]
+struct Meeting {
+    entry: AgentEntry,
+    partner: AgentId,
+    other: AgentEntry,
+}
+
 impl<L: LinkStore> BareSet<L> {
     /// The agent whose principal port a wire joins to that of this agent; `None` where there is none. It takes no memory.
     pub fn partner(&self, agent: AgentId) -> Option<AgentId>
         ensures found { IfSome result (λ partner. AreJoined self.now.set agent partner) }
         ensures absent { IfNone result ((partner : AnAgentId) → AreJoined self.now.set agent partner → ⊥) }
     {
+        Some(self.meeting(agent)?.partner)
+    }
+
+    /// This agent and its partner, each looked up once; `None` where it has none. It takes no memory.
+    fn meeting(&self, agent: AgentId) -> Option<Meeting>
+        ensures found { IfSome result (λ meeting. IsMeeting self.now agent meeting) }
+        ensures absent { IfNone result ((partner : AnAgentId) → AreJoined self.now.set agent partner → ⊥) }
+    {
+        let entry = self.unled(agent)?;
+        let partner = principal_end(self.store.far(Spot::Agent(agent, 0)))?;
+        let other = self.unled(partner)?;
+        Some(Meeting {
+            entry,
+            partner,
+            other,
+        })
+    }
+
+    /// The entry of an agent that leads no event; `None` for any other, which has no partner. It takes no memory.
+    fn unled(&self, agent: AgentId) -> Option<AgentEntry>
+        ensures found { IfSome result (λ entry. HasEntry self.now agent entry) }
+        ensures unled { IfSome result (λ entry. (x : Stander) → IsIn x self.now.set.events → x.event.lead ≢ name_at self.now.names entry.name.place) }
+        ensures absent { IfNone result ((partner : AnAgentId) → AreJoined self.now.set agent partner → ⊥) }
+    {
         let entry = self.roster.agent(agent)?;
         if self.roster.led_by(entry.name).is_some() {
             return None;
         }
-        let partner = principal_end(self.store.far(Spot::Agent(agent, 0)))?;
-        let other = self.roster.agent(partner)?;
-        if self.roster.led_by(other.name).is_some() {
-            return None;
-        }
-        Some(partner)
+        Some(entry)
     }
 
     /// The ids of the agents of an event, where it is active; `None` where it isn't. It takes no memory.
@@ -65,26 +93,21 @@ impl<L: LinkStore> BareSet<L> {
         ensures absent { IfNone result (IsActive self.now.set.start (standing self.now.set) event.now → ⊥) }
     {
         event.lawful();
-        let names = self.roster.names();
         let lead = self.roster.find(event.lead())?;
-        if !is_agent(
-            names,
-            self.roster.agent(lead)?,
-            event.lead(),
-            event.lead_kind(),
-        ) {
+        let meeting = self.meeting(lead)?;
+        if meeting.entry.kind != event.lead_kind() {
             return None;
         }
-        let other = self.partner(lead)?;
-        if !is_agent(
-            names,
-            self.roster.agent(other)?,
-            event.other(),
-            event.other_kind(),
-        ) {
+        if meeting.other.kind != event.other_kind() {
             return None;
         }
-        Some(ActivePair { lead, other })
+        if !self.roster.names().is(meeting.other.name, event.other()) {
+            return None;
+        }
+        Some(ActivePair {
+            lead,
+            other: meeting.partner,
+        })
     }
 
     /// The active pair that this agent is of, if it is of one. It takes no memory.
@@ -93,10 +116,10 @@ impl<L: LinkStore> BareSet<L> {
         ensures absent { IfNone result ((e : AnEvent) (pair : APair) → (pair.lead ≡ agent) ⊎ (pair.other ≡ agent) → IsPairOf self.now.set e pair → ⊥) }
     {
         self.lawful();
-        let partner = self.partner(agent)?;
-        let first = self.roster.agent(agent)?.name;
-        let second = self.roster.agent(partner)?.name;
-        match self.roster.names().cmp(first, second) {
+        let meeting = self.meeting(agent)?;
+        let partner = meeting.partner;
+        let names = self.roster.names();
+        match names.cmp(meeting.entry.name, meeting.other.name) {
             Ordering::Less => Some(ActivePair {
                 lead: agent,
                 other: partner,
@@ -252,12 +275,4 @@ pub(crate) fn principal_end(far: Far) -> Option<AgentId>
         return None;
     }
     Some(agent)
-}
-
-/// Whether the agent has this name and this kind.
-fn is_agent(names: &NameTable, agent: AgentEntry, name: &AgentName, kind: Kind) -> bool
-    requires { agent.name.place < length names.now }
-    ensures { IsTrue result ↔ ((name_at names.now agent.name.place ≡ name.now) × (agent.kind ≡ kind)) }
-{
-    names.is(agent.name, name) && agent.kind == kind
 }

@@ -2,3 +2,4 @@ pub mod TakenElements
 pub mod Awakened
 pub mod PairsAdmitted
 pub mod PairsLeft
+pub mod Fronts

@@ -1,6 +1,6 @@
 -- The queue of leads of a set once an event is admitted.
-use Rattle.std.proofs.Common.{◌≡◌, ◌≢◌, ℕ, ◌<◌, ◌≤◌, List, [], ◌∷◌, length, Option, Some, inl, inr, sym, subst, ◌∙◌}
-use Rattle.ic_name.specs.Names.{Name, name_cmp}
+use Rattle.std.proofs.Common.{◌≡◌, ◌≢◌, ℕ, ◌≤◌, List, [], ◌∷◌, length, Option, Some, None, inl, inr, sym, subst}
+use Rattle.ic_name.specs.Names.{Name}
 use Rattle.ic_name.specs.Events.{Event}
 use Rattle.ic_name.specs.declared.ids.AgentId.{AgentId}
 use Rattle.ic_name.specs.declared.ids.EventId.{EventId}
@@ -11,51 +11,46 @@ use Rattle.ic_theory.specs.Active.{IsActive}
 use Rattle.ic_theory.specs.Rules.{born_kinds}
 use Rattle.ic_theory.proofs.Normal.{active-alike}
 use Rattle.ic_queue.specs.declared.queue.Lead.{Lead}
-use Rattle.ic_queue.specs.Queues.{places, IsHeap, IsLeast}
-use Rattle.ic_queue.proofs.Heaps.{kept_heap, queued_inside}
+use Rattle.ic_queue.proofs.Heaps.{kept_heap}
 use Rattle.ic_roster.specs.Rosters.{Stander}
 use Rattle.ic_set.specs.declared.pairs.ActivePair.{ActivePair}
 use Rattle.ic_set.specs.Changes.{Admits, IsSame}
 use Rattle.ic_set.specs.Pairs.{IsPairOf, ArePairsOf, AreLedBy, Awakes}
-use Rattle.ic_set.specs.Queues.{IsQueued, HasLeads, AreBeside, KeepsQueue}
+use Rattle.ic_set.specs.Queues.{IsQueued, HasLeads, AreBeside}
 use Rattle.ic_set.specs.Sets.{IsStandingSet}
 use Rattle.ic_set.specs.Views.{SetView, NamedView, standing}
+use Rattle.ic_standing.specs.Fronts.{IsFront, KeepsQueue}
 use Rattle.ic_standing.proofs.Awakened.{awoken}
-use Rattle.ic_set.proofs.GrownNames.{Keeps, kept_name}
+use Rattle.ic_set.proofs.GrownNames.{Keeps}
 use Rattle.ic_set.proofs.GrownSets.{Grows}
 
--- a pair of a set is one of the same set
-pair_same : (v w : SetView) → w.start ≡ v.start → Alike v.agents w.agents → Alike v.events w.events → (f : Event) (q : ActivePair) → IsPairOf v f q → IsPairOf w f q
-pair_same v w start agents events f q h = record {
-  active = subst (λ s. IsActive s (standing w) f) (sym start) (active-alike v.start (alike-map (λ (x : Stander). x.event) events) h.active);
-  lead = alike-in agents h.lead;
-  other = alike-in agents h.other;
-}
+module _ (v w : SetView) (start : w.start ≡ v.start) (agents : Alike v.agents w.agents) (events : Alike v.events w.events) where
+  -- an event that is active in a set is active in the same set
+  active_same : (f : Event) → IsActive v.start (standing v) f → IsActive w.start (standing w) f
+  active_same f a = subst (λ s. IsActive s (standing w) f) (sym start) (active-alike v.start (alike-map (λ (x : Stander). x.event) events) a)
 
--- a place of the queue is one of the table
-queued_at : (ns : List Name) (leads : List Lead) → IsHeap ns leads → (n : ℕ) → IsIn n (places leads) → n < length ns
-queued_at ns leads heap n i = queued_inside heap.named i
+  -- and a pair of a set is one of the same set
+  pair_same : (f : Event) (q : ActivePair) → IsPairOf v f q → IsPairOf w f q
+  pair_same f q h = record { active = active_same f h.active; lead = alike-in agents h.lead; other = alike-in agents h.other }
 
--- the least place of a longer table was the least before
-least_before : (old new : List Name) (leads : List Lead) → Keeps old new → IsHeap old leads → (n : ℕ) → IsLeast new leads n → IsLeast old leads n
-least_before old new leads keeps heap n least = record {
-  present = least.present;
-  none_less = λ m i less. least.none_less m i (
-      let first = (kept_name old new keeps m (queued_at old leads heap m i)).named in
-      let second = (kept_name old new keeps n (queued_at old leads heap n least.present)).named in
-      (λ u. name_cmp (first u) (second u)) ∙ less);
-}
+-- so is its front
+front_same : (v w : SetView) → IsSame v w → (pair : Option ActivePair) → IsFront v pair → IsFront w pair
+front_same v w same None front = (tt, λ f a. front.1 f (active_same w v (sym same.start) (alike_back same.agents) (alike_back same.events) f a))
+front_same v w same (Some p) front = let l = front.0 in (
+  record {
+    event = l.event;
+    pair = pair_same v w same.start same.agents same.events l.event p l.pair;
+    least = λ f a. l.least f (active_same w v (sym same.start) (alike_back same.agents) (alike_back same.events) f a);
+  },
+  tt,
+)
 
 -- the same set keeps its queue, however many names become known
-pub same_keeps : (v w : NamedView) (leads : List Lead) (room room' : ℕ) → IsSame v.set w.set → Keeps v.names w.names → length w.names ≤ room' → KeepsQueue v leads room → KeepsQueue w leads room'
-same_keeps v w leads room room' same keeps enough k = record {
+pub same_keeps : (v w : NamedView) (leads : List Lead) (room room' : ℕ) (pair : Option ActivePair) → IsSame v.set w.set → Keeps v.names w.names → length w.names ≤ room' → KeepsQueue v leads room pair → KeepsQueue w leads room' pair
+same_keeps v w leads room room' pair same keeps enough k = record {
   heap = kept_heap v.names w.names leads keeps k.heap;
   each = λ f q h. (let queued = k.each f q (pair_same w.set v.set (sym same.start) (alike_back same.agents) (alike_back same.events) f q h) in (queued.0, keeps f.lead queued.0 queued.1, queued.2));
-  front = λ n least. (
-      let there = queued_at v.names leads k.heap n least.present in
-      let stands = kept_name v.names w.names keeps n there in
-      let l = k.front n (least_before v.names w.names leads keeps k.heap n least) in
-      (l.0, l.1, pair_same v.set w.set same.start same.agents same.events l.0 l.1 l.2, l.3 ∙ sym stands.named));
+  front = front_same v.set w.set same pair k.front;
   room = enough;
 }
 

@@ -10,14 +10,12 @@ use ic_set::ActivePair;
 use std::alloc::AllocError;
 
 impl<L: LinkStore> StandingSet<L> {
-    /// The active pair with the least lead; `None` where no pair is active. It takes no memory.
+    /// The active pair with the least lead, in constant time; `None` where no pair is active. It takes no memory.
     pub fn least_active(&self) -> Option<ActivePair>
         ensures found { IfSome result (λ pair. IsLeastPair self.now.set pair) }
         ensures absent { IfNone result ((e : AnEvent) → IsActive self.now.set.start (standing self.now.set) e → ⊥) }
     {
-        self.bare.lawful();
-        let name = self.queue.least()?;
-        self.bare.led_by_name(name)
+        self.front
     }
 
     /// All active pairs, by lead. It goes over the queue of leads alone.

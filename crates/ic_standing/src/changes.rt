@@ -43,7 +43,7 @@ impl<L: LinkStore> StandingSet<L> {
         self.bare.lawful();
         let awoken = self.bare.awoken(id, &beside);
         put_leads(&mut self.queue, &self.bare, &awoken);
-        drop_stale(&mut self.queue, &self.bare);
+        self.front = drop_stale(&mut self.queue, &self.bare);
         Ok(Fired { id, awoken })
     }
 
@@ -58,6 +58,6 @@ impl<L: LinkStore> StandingSet<L> {
         let lead = self.bare.take_out(id);
         self.bare.lawful();
         self.queue.put(self.bare.roster().names(), lead);
-        drop_stale(&mut self.queue, &self.bare);
+        self.front = drop_stale(&mut self.queue, &self.bare);
     }
 }

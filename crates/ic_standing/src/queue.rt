@@ -5,7 +5,8 @@ ghost use Rattle.ic_path.specs.Orders.{IsIn};
 ghost use Rattle.ic_queue.specs.Queues.{IsHeap};
 ghost use Rattle.ic_set.specs.declared.pairs.ActivePair.{ActivePair as APair};
 ghost use Rattle.ic_set.specs.Pairs.{IsPairOf, IsActivePair};
-ghost use Rattle.ic_set.specs.Queues.{IsQueued, HasLeads, FrontLeads};
+ghost use Rattle.ic_set.specs.Queues.{IsQueued, HasLeads};
+ghost use Rattle.ic_standing.specs.Fronts.{IsFront};
 
 use ic_link::LinkStore;
 use ic_name::AgentId;
@@ -66,20 +67,25 @@ fn put_pair<L: LinkStore>(queue: &mut LeadQueue, set: &BareSet<L>, pair: Option<
     queue.put(set.roster().names(), entry.name);
 }
 
-/// Names at the front whose agents lead no active pair go. It takes no memory.
-pub(crate) fn drop_stale<L: LinkStore>(queue: &mut LeadQueue, set: &BareSet<L>)
+/// Names at the front whose agents lead no active pair go. The pair that the front leads then is answered. It takes no
+/// memory.
+pub(crate) fn drop_stale<L: LinkStore>(
+    queue: &mut LeadQueue,
+    set: &BareSet<L>,
+) -> Option<ActivePair>
     requires heap { IsHeap set.now.names queue.old.leads }
     requires each { HasLeads set.now queue.old.leads }
     ensures heap { IsHeap set.now.names queue.new.leads }
     ensures each { HasLeads set.now queue.new.leads }
-    ensures front { FrontLeads set.now queue.new.leads }
+    ensures front { IsFront set.now.set result }
     ensures room { queue.old.room ≤ queue.new.room }
 {
     set.lawful();
     while let Some(name) = queue.least() {
-        if set.led_by_name(name).is_some() {
-            break;
+        if let Some(pair) = set.led_by_name(name) {
+            return Some(pair);
         }
         queue.take_least(set.roster().names());
     }
+    None
 }

@@ -4,30 +4,31 @@ ghost use Rattle.ic_set.specs.Changes.{IsOver};
 use crate::queue::{drop_stale, put_all};
 use ic_link::LinkStore;
 use ic_queue::LeadQueue;
-use ic_set::BareSet;
+use ic_set::{ActivePair, BareSet};
 use ic_start::Start;
 use std::alloc::{AllocError, Global};
 use std::marker::Model;
 
 /// The standing set of a bench over a start: its events, and the agents, the links and the causes that they leave, with
-/// a queue of the leads of its active pairs. There is room in it for each name that is known, so an undo takes none. The
-/// name of an agent that leads no pair any more goes when it comes to the front. All but the queue is in a box, so that a
-/// proof of a function that lets go of the set has one step for it.
+/// a queue of the leads of its active pairs, and the pair at the front of it. There is room in the queue for each name
+/// that is known, so an undo takes none. The name of an agent that leads no pair any more goes when it comes to the front.
+/// All but the queue and its front is in a box, so that a proof of a function that lets go of the set has one step for it.
 #[derive(Drop)]
 pub struct StandingSet<L: LinkStore> {
     pub(crate) bare: Box<BareSet<L>>,
     pub(crate) queue: LeadQueue,
+    pub(crate) front: Option<ActivePair>,
 }
 
 impl<L: LinkStore> Model for StandingSet<L> {
-    ghost use Rattle.ic_set.specs.Queues.{KeepsQueue};
     ghost use Rattle.ic_set.specs.Views.{NamedView};
+    ghost use Rattle.ic_standing.specs.Fronts.{KeepsQueue};
 
     ghost Value = { NamedView };
 
     ghost view = { λ a. a.bare.value };
 
-    ghost invariant = { λ a. KeepsQueue a.bare.value a.queue.leads a.queue.room };
+    ghost invariant = { λ a. KeepsQueue a.bare.value a.queue.leads a.queue.room a.front };
 }
 
 impl<L: LinkStore> StandingSet<L> {
@@ -41,14 +42,15 @@ impl<L: LinkStore> StandingSet<L> {
         let mut queue = LeadQueue::new(alloc);
         queue.reserve(bare.roster().names().len())?;
         put_all(&mut queue, &bare, &ids);
-        drop_stale(&mut queue, &bare);
+        let front = drop_stale(&mut queue, &bare);
         Ok(StandingSet {
             bare: Box::new(alloc, bare)?,
             queue,
+            front,
         })
     }
 
-    /// All of the set but its queue of leads.
+    /// All of the set but its queue of leads and the front of that.
     pub fn bare(&self) -> &BareSet<L>
         ensures { result.now ≡ self.now }
     {

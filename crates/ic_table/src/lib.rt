@@ -3,6 +3,7 @@
 
 mod changes;
 mod labels;
+mod packed_spot;
 mod records;
 mod slots;
 mod splices;

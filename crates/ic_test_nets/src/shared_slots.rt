@@ -1,5 +1,5 @@
-// Ports of agents of which two are under one slot: a row has the ports of one of them alone, and those of the other must not
-// be read from it.
+// Ports of agents of which two are under one slot: a port's own slot has the record of one of them alone, and that of the
+// other must not be read from it.
 use crate::side_by_side::{put_both, take_both};
 use crate::tables::event;
 use ic_link::{Far, LinkRows, LinkStore};

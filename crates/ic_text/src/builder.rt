@@ -154,7 +154,7 @@ impl<'a> Builder<'a> {
     #[tactic(auto, unfolding(crate::specs::Reading::advance, crate::specs::Reading::step, crate::specs::Reading::over))]
     fn take_symbol(&mut self, at: usize, kind: Kind) -> Result<(), TextFault>
         requires within { IsWithin (state_of self.old) at }
-        requires early { at < 2 ^ 32 }
+        requires early { at < MAX_TEXT }
         ensures { Gives (λ _. state_of self.new) result (advance (state_of self.old) at (symbol kind)) }
     {
         let number = self.kinds.len();
@@ -186,7 +186,7 @@ impl<'a> Builder<'a> {
     #[tactic(auto, unfolding(crate::specs::Reading::advance, crate::specs::Reading::step, crate::specs::Reading::over))]
     fn take_name(&mut self, at: usize, text: &'a [u8]) -> Result<(), TextFault>
         requires within { IsWithin (state_of self.old) at }
-        requires early { at < 2 ^ 32 }
+        requires early { at < MAX_TEXT }
         ensures { Gives (λ _. state_of self.new) result (advance (state_of self.old) at (name text.entry.now)) }
     {
         let occurrence = self.names.enter(text, at)?;
@@ -221,7 +221,7 @@ impl<'a> Builder<'a> {
     #[tactic(auto, unfolding(crate::specs::Reading::advance, crate::specs::Reading::step, crate::specs::Reading::over))]
     pub fn take(&mut self, at: usize, piece: Lexeme<'a>) -> Result<(), TextFault>
         requires within { IsWithin (state_of self.old) at }
-        requires early { at < 2 ^ 32 }
+        requires early { at < MAX_TEXT }
         ensures { Gives (λ _. state_of self.new) result (advance (state_of self.old) at (token_of piece.entry)) }
     {
         match piece {

@@ -73,11 +73,13 @@ impl Links {
         Ok(())
     }
 
-    /// The links, by place.
+    /// The links, by place, in no more memory than they need.
     pub fn into_vec(self) -> Vec<Link>
         ensures joins { map join_of result.items ≡ self }
         ensures of_start { AreOfStart 0 result.items }
     {
-        self.links
+        let mut links = self.links;
+        links.shrink_to_fit();
+        links
     }
 }

@@ -1,4 +1,5 @@
-ghost use Rattle.std.specs.Prelude.{◌≡◌, ℕ, ◌<◌, List, length, None, IfOk, IfSome, OnOk, OnErr};
+ghost use Rattle.std.specs.Prelude.{◌≡◌, ℕ, ◌/◌, ◌<◌, List, length, min, None, IfOk, IfSome, OnOk, OnErr};
+ghost use Rattle.ic_grammar.specs.declared.limits.TheConstants.{MAX_TEXT};
 ghost use Rattle.ic_slots.specs.Slots.{slot_of};
 ghost use Rattle.ic_text.specs.NameSlots.{hash_of, slot_for, found, other_of, IsKept};
 ghost use Rattle.ic_text.specs.Table.{names_of};
@@ -9,10 +10,10 @@ use ic_slots::SlotIndex;
 use std::alloc::{AllocError, Global};
 use std::collections::BTreeMap;
 
-/// Empty slots for the names of a text of so many bytes: one for each four of them, and one more.
+/// Empty slots for the names of a text of so many bytes: more than one for each four of them.
 pub fn slots_for(alloc: Global, bytes: usize) -> Result<SlotIndex, AllocError>
     ensures empty { IfOk result (λ s. (k : ℕ) → slot_of s k ≡ None) }
-    ensures some { IfOk result (λ s. 0 < length s) }
+    ensures many { IfOk result (λ s. min bytes MAX_TEXT / 4 < length s) }
 {
     let mut slots = SlotIndex::new(alloc);
     slots.reserve((bytes.min(MAX_TEXT) / 4) as u32)?;
@@ -56,8 +57,8 @@ pub fn look_up(
     others.get(name).copied()
 }
 
-/// Keeps the number of a new name in its slot, if that holds none, and else among the others. It is an error where memory
-/// runs out, or the number is too great for a slot; then nothing changes.
+/// Keeps the number of a new name in its slot, if that holds none, and else among the others. It is an error only where
+/// memory runs out for these; then nothing changes.
 pub fn keep<'a>(
     slots: &mut SlotIndex,
     others: &mut BTreeMap<&'a [u8], usize>,
@@ -65,15 +66,13 @@ pub fn keep<'a>(
     name: &'a [u8],
     number: usize,
 ) -> Result<(), AllocError>
-    requires { slot < length slots.old }
+    requires slot { slot < length slots.old }
+    requires few { number < u32.MAX }
     ensures kept { OnOk result (IsKept (slot_of slots.old slot) slot name.now number slots.old slots.new (other_of others.old) (other_of others.new)) }
     ensures slots_stay { OnErr result (slots.new ≡ slots.old) }
     ensures others_stay { OnErr result ((x : List ℕ) → other_of others.new x ≡ other_of others.old x) }
 {
     if slots.get(slot).is_none() {
-        if number >= u32::MAX as usize {
-            return Err(AllocError);
-        }
         slots.put(slot, number as u32);
         return Ok(());
     }

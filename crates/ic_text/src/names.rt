@@ -1,4 +1,4 @@
-ghost use Rattle.std.specs.Prelude.{◌≡◌, ◌≤◌, [], length, IfOk, map, count_by, find, option_map, ◌==◌, ◌&&◌};
+ghost use Rattle.std.specs.Prelude.{◌≡◌, ◌<◌, ◌≤◌, [], length, IfOk, map, count_by, find, option_map, ◌==◌, ◌&&◌};
 ghost use Rattle.ic_grammar.specs.Texts.{is_reserved};
 ghost use Rattle.ic_text.specs.Names.{enter, number, times, is_free, is_reserved_free};
 ghost use Rattle.ic_text.specs.Table.{first_of};
@@ -46,7 +46,8 @@ impl<'a> Names<'a> {
 
     /// One more occurrence of a name, which begins at the byte `first`.
     pub fn enter(&mut self, text: &'a [u8], first: usize) -> Result<Occurrence, AllocError>
-        requires { times text.now self.old ≤ 2 }
+        requires twice { times text.now self.old ≤ 2 }
+        requires few { length self.old < u32.MAX }
         ensures number { IfOk result (λ o. o.number ≡ number text.now self.old) }
         ensures within { IfOk result (λ o. o.number ≤ length self.old) }
         ensures before { IfOk result (λ o. o.before ≡ times text.now self.old) }

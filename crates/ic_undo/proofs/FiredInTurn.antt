@@ -7,7 +7,7 @@ use Rattle.ic_name.specs.declared.limits.TheConstants.{MAX_LINES}
 use Rattle.ic_name.specs.declared.lines.Call.{Call}
 use Rattle.ic_name.specs.declared.lines.Call.TheVariants.{Fire}
 use Rattle.ic_name.specs.declared.lines.Reply.{Reply}
-use Rattle.ic_name.specs.declared.lines.Reply.TheVariants.{Fired, NotActive, Deep, Full}
+use Rattle.ic_name.specs.declared.lines.Reply.TheVariants.{Fired, Deep, Full}
 use Rattle.ic_path.specs.Orders.{Alike}
 use Rattle.ic_path.proofs.Alikes.{alike_self, alike_back, alike_then, alike_past, alike-cons, alike-map}
 use Rattle.ic_theory.specs.Active.{IsActive}
@@ -17,10 +17,10 @@ use Rattle.ic_theory.proofs.Normal.{active-alike}
 use Rattle.ic_roster.specs.Rosters.{Stander}
 use Rattle.ic_set.specs.Views.{standing}
 use Rattle.ic_journal.specs.Benches.{IsBench}
-use Rattle.ic_journal.specs.Calls.{Steps, Stays, Fires}
+use Rattle.ic_journal.specs.Calls.{Steps, Stays, Fires, FiresPair}
 use Rattle.ic_journal.specs.Views.{BenchView, set_of}
-use Rattle.ic_journal.specs.declared.faults.FireFault.{FireFault}
-use Rattle.ic_journal.specs.declared.faults.FireFault.TheVariants as fire
+use Rattle.ic_journal.specs.declared.faults.PairFault.{PairFault}
+use Rattle.ic_journal.specs.declared.faults.PairFault.TheVariants as fault
 use Rattle.ic_journal.proofs.MachineSteps.{events_at}
 use Rattle.ic_journal.proofs.SameSets.{full-alike}
 use Rattle.ic_undo.specs.GoingBack.{AreFirable, AreFired, firing}
@@ -79,9 +79,8 @@ module _ (mid new : BenchView) (lawful : IsBench mid) (e : Event) (later : List 
       let a = events_at mid at in
       fires_reply e refl other (active-alike mid.start a r.0) r.1 (λ f. r.2 (full-alike mid.start e (alike_back a) f)) (s.step lawful.running.state at).1
 
-  pub only_memory : (f : FireFault) → length mid.lines + length (e ∷ later) ≤ MAX_LINES → ((x : Event) → f ≢ fire.Memory x) → Fires mid e (Err f) new → ⊥
-  only_memory fire.NotActive fit other h = never NotActive (λ q. cc) h.0
-  only_memory fire.Deep fit other h = never Deep (λ q. cc) h.0
-  only_memory fire.Full fit other h = never Full (λ q. cc) h.0
-  only_memory (fire.HistoryFull g) fit other h = let n = h.0 in omega (arith, n, fit)
-  only_memory (fire.Memory g) fit other h = other g refl
+  pub only_memory : (f : PairFault) → length mid.lines + length (e ∷ later) ≤ MAX_LINES → f ≢ fault.Memory → FiresPair mid e (Err f) new → ⊥
+  only_memory fault.Deep fit other h = never Deep (λ q. cc) h.0
+  only_memory fault.Full fit other h = never Full (λ q. cc) h.0
+  only_memory fault.HistoryFull fit other h = let n = h.0 in omega (arith, n, fit)
+  only_memory fault.Memory fit other h = other refl

@@ -1,16 +1,17 @@
 -- Places of events by their leads.
-use Rattle.std.proofs.Common.{◌≡◌, ◌≢◌, ◌↔◌, ℕ, zero, suc, Bool, true, false, cond, IsTrue, List, [], ◌∷◌, ◌++◌, Option, Some, None, IfSome, length, slice_get, get_or, inl, inr, refl, sym, ap, subst, ◌∙◌}
-use Rattle.std.specs.BTreeMap.{is_at}
+use Rattle.std.proofs.Common.{◌≡◌, ◌≢◌, ◌↔◌, ◌==◌, ℕ, zero, suc, Bool, true, false, IsTrue, List, [], ◌∷◌, ◌++◌, Option, Some, None, IfSome, length, slice_get, get_or, inl, inr, refl, sym, ap, subst, eq-eqb, ◌∙◌}
 use Rattle.std.specs.Option.{is_some}
-use Rattle.std.specs.Prelude.{IfNone}
+use Rattle.std.specs.Prelude.{IfNone, if◌then◌else◌}
+use Rattle.std.proofs.lemmas.Bool.{eqb-true}
 use Rattle.std.proofs.lemmas.Option.{slice_get_within, get_or_from_slice_get}
-use Rattle.ic_name.specs.Names.{Name, name_cmp}
+use Rattle.ic_name.specs.Names.{Name}
 use Rattle.ic_name.specs.Events.{Event}
-use Rattle.ic_name.proofs.NameOrder.{name_cmp_total, name_tied}
+use Rattle.ic_names.specs.Tables.{StandsAt, IsAbsent, IsTable, GrowsUpTo}
+use Rattle.ic_names.proofs.Growing.{grown_keeps}
+use Rattle.ic_slots.specs.Slots.{slot_of, Gives, Keeps}
 use Rattle.ic_path.specs.Orders.{IsIn}
 use Rattle.ic_path.proofs.Picks.{none_in, contains-in}
 use Rattle.ic_undo.specs.Marks.{ArePlaces}
-use Rattle.ic_undo.proofs.KeyTests.{key_passes, only_key}
 use Rattle.ic_undo.proofs.Places.{parts}
 
 -- what stands at a place is in the list
@@ -29,34 +30,56 @@ still_at (y ∷ xs) ys zero x h = h
 still_at (y ∷ xs) ys (suc p) x h = still_at xs ys p x h
 
 -- no events have no places
-pub places_none : (at : Name → Option ℕ) → ((n : Name) → at n ≡ None) → ArePlaces [] at
-places_none at none = record { each = λ e i. absurd (none_in i); only = λ n p h. (let f = none n in absurd cc) }
+pub places_none : (leads : List Name) → ArePlaces [] leads []
+places_none leads = record { each = λ e i. absurd (none_in i); only = λ k p h. cc }
 
--- one event more
-pub places_more : (es : List Event) (e : Event) (key : Name) (old new : Name → Option ℕ) → key ≡ e.lead → ArePlaces es old → ((n : Name) → new n ≡ cond (is_at (name_cmp key) n) (Some (length es)) (old n)) → ArePlaces (es ++ e ∷ []) new
-places_more es e key old new is h put = record {
-  each = λ f i. there f (is_at (name_cmp key) f.lead) refl i;
-  only = λ n p now. back n p (is_at (name_cmp key) n) refl (sym (put n) ∙ now);
+-- one event more, whose lead is entered at a place and has that of the event there
+pub places_more : (es : List Event) (e : Event) (old new : List Name) (n : Name) (k : ℕ) (at more : List (Option ℕ)) → n ≡ e.lead → ArePlaces es old at → GrowsUpTo old n new → StandsAt new n k → Gives k (Some (length es)) at more
+    → ArePlaces (es ++ e ∷ []) new more
+places_more es e old new n k at more is h grown stands put = record {
+  each = λ f i. elim (parts es i) [
+    | inl j ↦ (let p = h.each f j in kept f.lead p.0 p.1 (grown_keeps old new n f.lead p.0 grown p.2) p.3 (p.0 == k) refl)
+    | inr r ↦ elim r [ inl q ↦ (k, length es, subst (λ m. StandsAt new m k) (is ∙ ap (λ (x : Event). x.lead) (sym q)) stands, here) | inr j ↦ absurd (none_in j) ]
+  ];
+  only = λ j p now. back j p (j == k) refl (sym (put j) ∙ now);
 }
   where
-    there : (f : Event) (b : Bool) → is_at (name_cmp key) f.lead ≡ b → IsIn f (es ++ e ∷ []) → (p : ℕ) × (new f.lead ≡ Some p)
-    there f true t i = (length es, put f.lead ∙ ap (λ b. cond b (Some (length es)) (old f.lead)) t)
-    there f false t i = elim (parts es i) [
-      | inl j ↦ (let p = h.each f j in (p.0, put f.lead ∙ ap (λ b. cond b (Some (length es)) (old f.lead)) t ∙ p.1))
-      | inr r ↦ elim r [
-        | inl q ↦ (let same : key ≡ f.lead = is ∙ ap (λ (x : Event). x.lead) (sym q) in let u : is_at (name_cmp key) f.lead ≡ true = subst (λ n. is_at (name_cmp key) n ≡ true) same (key_passes name_cmp_total key) in absurd cc)
-        | inr j ↦ absurd (none_in j)
-      ]
-    ]
+    given : (j : ℕ) (b : Bool) → j == k ≡ b → slot_of more j ≡ (if b then Some (length es) else slot_of at j)
+    given j b t = put j ∙ ap (λ c. if c then Some (length es) else slot_of at j) t
 
-    back : (n : Name) (p : ℕ) (b : Bool) → is_at (name_cmp key) n ≡ b → cond b (Some (length es)) (old n) ≡ Some p → (f : Event) × (slice_get (es ++ e ∷ []) p ≡ Some f) × (f.lead ≡ n)
-    back n p true t s = let q : length es ≡ p = cc in (e, subst (λ k. slice_get (es ++ e ∷ []) k ≡ Some e) q (last_at es e), sym is ∙ sym (only_key name_tied key n t))
-    back n p false t s = let f = h.only n p s in (f.0, still_at es (e ∷ []) p f.0 f.1, f.2)
+    here : slot_of more k ≡ Some (length es)
+    here = given k true (eq-eqb k k refl)
 
--- where a look-up finds nothing no event has the lead
-pub none_led : (es : List Event) (at : Name → Option ℕ) (n : Name) (r : Option ℕ) → ArePlaces es at → r ≡ at n → IfNone r ((e : Event) → IsIn e es → e.lead ≢ n)
-none_led es at n None h is = λ e i same. (let p = h.each e i in let q : at n ≡ Some p.0 = subst (λ m. at m ≡ Some p.0) same p.1 in absurd cc)
-none_led es at n (Some p) h is = tt
+    kept : (m : Name) (j p : ℕ) → StandsAt new m j → slot_of at j ≡ Some p → (b : Bool) → j == k ≡ b → (i : ℕ) × (q : ℕ) × StandsAt new m i × (slot_of more i ≡ Some q)
+    kept m j p s o true t = (j, length es, s, given j true t)
+    kept m j p s o false t = (j, p, s, given j false t ∙ o)
+
+    back : (j p : ℕ) (b : Bool) → j == k ≡ b → (if b then Some (length es) else slot_of at j) ≡ Some p → (f : Event) × (slice_get (es ++ e ∷ []) p ≡ Some f) × StandsAt new f.lead j
+    back j p true t s =
+        let q : length es ≡ p = cc in
+        (e, subst (λ i. slice_get (es ++ e ∷ []) i ≡ Some e) q (last_at es e), subst (λ m. StandsAt new m j) is (subst (λ i. StandsAt new n i) (sym (eqb-true j k t)) stands))
+    back j p false t s = let f = h.only j p s in (f.0, still_at es (e ∷ []) p f.0 f.1, grown_keeps old new n f.0.lead j grown f.2)
+
+-- room for more places leaves them as they are
+pub places_kept : (es : List Event) (leads : List Name) (at more : List (Option ℕ)) → ArePlaces es leads at → Keeps at more → ArePlaces es leads more
+places_kept es leads at more h same = record {
+  each = λ e i. (let p = h.each e i in (p.0, p.1, p.2, same p.0 ∙ p.3));
+  only = λ k p now. h.only k p (sym (same k) ∙ now);
+}
+
+module _ (es : List Event) (leads : List Name) (at : List (Option ℕ)) (h : ArePlaces es leads at) (n : Name) where
+  -- no event has a lead that isn't in the table
+  pub absent_lead : IsAbsent leads n → (e : Event) → IsIn e es → e.lead ≢ n
+  absent_lead absent e i same = let p = h.each e i in absent p.0 p.2.within (p.2.named ∙ same)
+
+  -- nor one under whose place no place is found
+  pub none_led : IsTable leads → (k : ℕ) → StandsAt leads n k → (r : Option ℕ) → r ≡ slot_of at k → IfNone r ((e : Event) → IsIn e es → e.lead ≢ n)
+  none_led table k stands (Some p) is = tt
+  none_led table k stands None is = λ e i same.
+      let p = h.each e i in
+      let q : p.0 ≡ k = table.once p.0 k p.2.within stands.within (p.2.named ∙ same ∙ sym stands.named) in
+      let there : slot_of at k ≡ Some p.1 = subst (λ j. slot_of at j ≡ Some p.1) q p.3 in
+      absurd cc
 
 -- whether one is found tells whether an event is in the list that is in it where one of its lead is
 pub led_tells : (es : List Event) (x : Event) (n : Name) (r : Option ℕ) → n ≡ x.lead → ((e : Event) → IsIn e es → e.lead ≡ x.lead → IsIn x es)
@@ -67,12 +90,3 @@ led_tells es x n (Some p) same inside found absent = (λ t. inside found.0 (in_a
 -- what is read at a place is what stands there
 pub read_at : (xs ys : List Event) (p : ℕ) (x read : Event) → ys ≡ xs → slice_get xs p ≡ Some x → read ≡ get_or ys p read → read ≡ x
 read_at xs ys p x read same at is = is ∙ ap (λ zs. get_or zs p read) same ∙ get_or_from_slice_get xs p x read at
-
--- what a test for something says of what was found, or of nothing
-pub found_of : {X : Type 0} (r : Option X) (P : X → Type 0) → is_some r ≡ true → IfSome r P → (x : X) × P x
-found_of None P t h = absurd cc
-found_of (Some x) P t h = (x, h)
-
-pub none_of : {X : Type 0} (r : Option X) {Q : Type 0} → is_some r ≡ false → IfNone r Q → Q
-none_of None t h = h
-none_of (Some x) t h = absurd cc

@@ -32,5 +32,6 @@ pub mod SameHistories
 mod StoodSince
 mod KeyTests
 mod LedPlaces
+mod LentEvents
 mod OutsideOrders
 mod MissingOrders

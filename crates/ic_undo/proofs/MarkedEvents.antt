@@ -3,7 +3,7 @@ use Rattle.std.proofs.Common.{◌≡◌, ℕ, zero, suc, ◌+◌, ◌<◌, List,
 use Rattle.std.specs.Prelude.{if◌then◌else◌}
 use Rattle.std.specs.List.Sorted.{IsStrictlySortedBy}
 use Rattle.std.proofs.lemmas.List.{map-id, map-append}
-use Rattle.ic_name.specs.Events.{Event, Pair, pair}
+use Rattle.ic_name.specs.Events.{Event}
 use Rattle.ic_name.specs.Same.{same_name}
 use Rattle.ic_name.proofs.SameFacts.{same_name_self}
 use Rattle.ic_path.specs.Orders.{here, IsIn, Alike}
@@ -97,15 +97,15 @@ module _ (v : BenchView) (set : IsStandingSet (set_of v)) (es : List Event) (k :
   pub stands_or_not : (e : Event) → IsIn e es → IsIn e (standing (set_of v)) ⊎ (IsIn e (standing (set_of v)) → ⊥)
   stands_or_not e i = in_or_not v.start set.proper k.sound set.sound e i
 
-  -- an event of the mark stands where one of its name does
-  pub stands_named : (e : Event) → IsIn e es → (x : Stander) × IsIn x v.events × (pair x.event ≡ pair e) → IsIn e (standing (set_of v))
-  stands_named e i (x, j, same) =
+  -- an event of the mark stands where one of its lead does
+  pub stands_led : (e : Event) → IsIn e es → (x : Stander) × IsIn x v.events × (x.event.lead ≡ e.lead) → IsIn e (standing (set_of v))
+  stands_led e i (x, j, same) =
       let there = in-map (λ (y : Stander). y.event) j in
-      subst (λ f. IsIn f (standing (set_of v))) (one_led v.start set.proper set.sound k.sound x.event e there i (ap (λ (p : Pair). p.lead) same)) there
+      subst (λ f. IsIn f (standing (set_of v))) (one_led v.start set.proper set.sound k.sound x.event e there i same) there
 
-  -- and then one of its name does
-  pub named_stands : (e : Event) → IsIn e (standing (set_of v)) → (x : Stander) × IsIn x v.events × (pair x.event ≡ pair e)
-  named_stands e i = let x = map_cases (λ (y : Stander). y.event) v.events i in (x.0, x.1, ap pair x.2)
+  -- and then one of its lead does
+  pub led_stands : (e : Event) → IsIn e (standing (set_of v)) → (x : Stander) × IsIn x v.events × (x.event.lead ≡ e.lead)
+  led_stands e i = let x = map_cases (λ (y : Stander). y.event) v.events i in (x.0, x.1, ap (λ (f : Event). f.lead) x.2)
 
   -- the events of the mark that don't stand, chosen in its order, are the missing ones
   pub missing_chosen : {came : List Event} → Chosen (λ e. IsIn e (standing (set_of v)) → ⊥) es came → AreMissing v marked came

@@ -1,5 +1,5 @@
 -- Events of a mark that don't stand, found among some events and put in the mark's order by their places.
-use Rattle.std.proofs.Common.{◌≡◌, ◌<◌, ℕ, Bool, true, false, cond, List, [], ◌∷◌, ◌++◌, map, Some, slice_get, length, inl, inr, refl, sym, ap, subst, ◌∙◌}
+use Rattle.std.proofs.Common.{◌≡◌, ◌<◌, ℕ, Bool, true, false, cond, List, [], ◌∷◌, ◌++◌, Bor, map, Some, slice_get, length, inl, inr, refl, sym, ap, subst, ◌∙◌}
 use Rattle.std.specs.BTreeMap.{is_at}
 use Rattle.std.specs.BTreeSet.{BTreeSet, IsOrdered, contains}
 use Rattle.std.specs.List.{AllByRecursion}
@@ -27,6 +27,7 @@ use Rattle.ic_undo.specs.Marks.{MarkView, IsMark}
 use Rattle.ic_undo.proofs.Backs.{in-map, map_cases}
 use Rattle.ic_undo.proofs.KeyTests.{key_passes, only_key}
 use Rattle.ic_undo.proofs.LedPlaces.{in_at}
+use Rattle.ic_undo.proofs.LentEvents.{lent, lent-append}
 use Rattle.ic_undo.proofs.MarkedEvents.{one_led}
 use Rattle.ic_undo.proofs.Places.{once_sorted, parts}
 
@@ -35,8 +36,8 @@ one_value : {X : Type 0} {x y : X} → Some x ≡ Some y → x ≡ y
 one_value h = cc
 
 -- one place more
-pub read_more : (es : List Event) (ps : List ℕ) (came : List Event) (p : ℕ) (e : Event) → map (slice_get es) ps ≡ map Some came → slice_get es p ≡ Some e → map (slice_get es) (ps ++ p ∷ []) ≡ map Some (came ++ e ∷ [])
-read_more es ps came p e read at = map-append (slice_get es) ps (p ∷ []) ∙ (λ i. read i ++ at i ∷ []) ∙ sym (map-append Some came (e ∷ []))
+pub read_more : (es : List Event) (ps : List ℕ) (came : List (Bor Event)) (p : ℕ) (e : Bor Event) → map (slice_get es) ps ≡ map Some (lent came) → slice_get es p ≡ Some e.now → map (slice_get es) (ps ++ p ∷ []) ≡ map Some (lent (came ++ e ∷ []))
+read_more es ps came p e read at = map-append (slice_get es) ps (p ∷ []) ∙ (λ i. read i ++ at i ∷ []) ∙ sym (map-append Some (lent came) (e.now ∷ [])) ∙ ap (map Some) (sym (lent-append came (e ∷ [])))
 
 -- what is read at ascending places of a sorted list is sorted
 sorted_read : {X : Type 0} (cmp : X → X → Ordering) (xs : List X) → IsStrictlySortedBy cmp xs → (ps : List ℕ) → IsStrictlySortedBy nat_cmp ps → (ys : List X) → map (slice_get xs) ps ≡ map Some ys → IsStrictlySortedBy cmp ys

@@ -27,7 +27,7 @@ use Rattle.ic_set.specs.Views.{standing, events_of}
 use Rattle.ic_set.proofs.Namings.{same_lead, same_stander}
 use Rattle.ic_journal.specs.Reads.{IsRankOf}
 use Rattle.ic_journal.specs.Views.{BenchView, set_of}
-use Rattle.ic_undo.specs.declared.outside_among.Place.{Place}
+use Rattle.ic_undo.specs.declared.among.Place.{Place}
 use Rattle.ic_undo.specs.Among.{AreOutsideIds, place_cmp, place_of}
 use Rattle.ic_undo.specs.GoingBack.{IsOutside}
 use Rattle.ic_undo.specs.Marks.{MarkView, IsMark}

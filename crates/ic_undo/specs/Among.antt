@@ -7,7 +7,7 @@ use Rattle.ic_name.specs.declared.ids.EventId.{EventId}
 use Rattle.ic_path.specs.Orders.{IsIn}
 use Rattle.ic_roster.specs.Rosters.{Stander}
 use Rattle.ic_journal.specs.Views.{BenchView}
-use Rattle.ic_undo.specs.declared.outside_among.Place.{Place}
+use Rattle.ic_undo.specs.declared.among.Place.{Place}
 use Rattle.ic_undo.specs.GoingBack.{IsOutside, IsMissing}
 use Rattle.ic_undo.specs.Marks.{MarkView}
 

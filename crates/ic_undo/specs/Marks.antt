@@ -4,6 +4,8 @@ use Rattle.std.specs.List.Sorted.{IsStrictlySortedBy}
 use Rattle.ic_name.specs.Names.{Name}
 use Rattle.ic_name.specs.Events.{Event}
 use Rattle.ic_name.specs.declared.limits.TheConstants.{MAX_AGENTS, MAX_LINES}
+use Rattle.ic_slots.specs.Slots.{slot_of}
+use Rattle.ic_names.specs.Tables.{StandsAt}
 use Rattle.ic_path.specs.Orders.{IsIn, Alike}
 use Rattle.ic_theory.specs.Starts.{Start}
 use Rattle.ic_theory.specs.Sets.{agents}
@@ -31,7 +33,8 @@ pub record Marks (v : BenchView) (m : MarkView) : Type 0 where
   pub start : m.start ≡ v.start
   pub events : Alike (standing (set_of v)) m.events
 
--- under the lead of each of the events there is a place, and under a name there is only the place of an event that it leads
-pub record ArePlaces (es : List Event) (at : Name → Option ℕ) : Type 0 where
-  pub each : (e : Event) → IsIn e es → (p : ℕ) × (at e.lead ≡ Some p)
-  pub only : (n : Name) (p : ℕ) → at n ≡ Some p → (e : Event) × (slice_get es p ≡ Some e) × (e.lead ≡ n)
+-- the lead of each of the events stands in the table, and under its place there is a place; and that is always the place of
+-- an event that the agent of the name leads
+pub record ArePlaces (es : List Event) (leads : List Name) (at : List (Option ℕ)) : Type 0 where
+  pub each : (e : Event) → IsIn e es → (k : ℕ) × (p : ℕ) × StandsAt leads e.lead k × (slot_of at k ≡ Some p)
+  pub only : (k p : ℕ) → slot_of at k ≡ Some p → (e : Event) × (slice_get es p ≡ Some e) × StandsAt leads e.lead k

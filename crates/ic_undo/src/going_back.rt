@@ -1,4 +1,4 @@
-ghost use Rattle.std.specs.Prelude.{◌≡◌, ◌+◌, ◌≤◌, IfErr, IfOk, OnOk, length};
+ghost use Rattle.std.specs.Prelude.{◌≡◌, ◌+◌, ◌≤◌, IfErr, IfOk, OnOk, length, map};
 ghost use Rattle.ic_name.specs.declared.limits.TheConstants.{MAX_LINES};
 ghost use Rattle.ic_path.specs.Orders.{Alike};
 ghost use Rattle.ic_set.specs.Orders.{AreInOrder};
@@ -11,8 +11,8 @@ use crate::faults::{BackFault, Counts};
 use crate::marks::Mark;
 use crate::missing::missing_events;
 use crate::outside::outside_events;
-use ic_journal::{Bench, FireFault, LinkStore, Proposal, ReserveFault};
-use ic_name::EventId;
+use ic_journal::{Bench, LinkStore, PairFault, ReserveFault};
+use ic_name::{Event, EventId};
 use std::alloc::Global;
 
 /// Nothing was undone, and nothing fired.
@@ -56,11 +56,11 @@ pub(crate) fn go_over<L: LinkStore>(
     bench: &mut Bench<L>,
     mark: &Mark,
     gone: &[EventId],
-    missing: Vec<Proposal>,
+    missing: Vec<&Event>,
 ) -> Result<Counts, BackFault>
     requires start { mark.now.start ≡ bench.old.start }
     requires outside { AreInOrder (set_of bench.old) (IsOutside mark.now) gone.now }
-    requires missing { AreMissing bench.old mark.now missing.items }
+    requires missing { AreMissing bench.old mark.now (map (λ e. e.now) missing.items) }
     ensures back { IfOk result (λ counts. IsBack bench.old mark.now counts bench.new) }
     ensures stands { OnOk result (Alike mark.now.events (standing (set_of bench.new))) }
     ensures fault { IfErr result (λ fault. IsntBack bench.old mark.now fault bench.new) }
@@ -83,22 +83,24 @@ pub(crate) fn go_over<L: LinkStore>(
 }
 
 /// Fires these events, the first one first, and answers how many they are; where memory runs out, how many were fired.
-fn fire_each<L: LinkStore>(bench: &mut Bench<L>, events: Vec<Proposal>) -> Result<u32, u32>
-    requires firable { AreFirable bench.old.start (standing (set_of bench.old)) events.items }
+fn fire_each<L: LinkStore>(bench: &mut Bench<L>, events: Vec<&Event>) -> Result<u32, u32>
+    requires firable { AreFirable bench.old.start (standing (set_of bench.old)) (map (λ e. e.now) events.items) }
     requires fit { length bench.old.lines + length events.items ≤ MAX_LINES }
-    ensures all { IfOk result (λ count. AreFired bench.old events.items bench.new × (count ≡ length events.items)) }
-    ensures some { IfErr result (λ count. AreSomeFired bench.old events.items count bench.new) }
+    ensures all { IfOk result (λ count. AreFired bench.old (map (λ e. e.now) events.entry.items) bench.new × (count ≡ length events.entry.items)) }
+    ensures some { IfErr result (λ count. AreSomeFired bench.old (map (λ e. e.now) events.entry.items) count bench.new) }
 {
     let mut fired = 0;
     for event in events {
         bench.lawful();
-        match bench.fire(event) {
+        let Some(pair) = bench.pair_of(event) else {
+            unreachable!()
+        };
+        match bench.fire_pair(pair) {
             Ok(_) => fired += 1,
-            Err(FireFault::Memory(_)) => return Err(fired),
-            Err(FireFault::NotActive) => unreachable!(),
-            Err(FireFault::Deep) => unreachable!(),
-            Err(FireFault::Full) => unreachable!(),
-            Err(FireFault::HistoryFull(_)) => unreachable!(),
+            Err(PairFault::Memory) => return Err(fired),
+            Err(PairFault::Deep) => unreachable!(),
+            Err(PairFault::Full) => unreachable!(),
+            Err(PairFault::HistoryFull) => unreachable!(),
         }
     }
     Ok(fired)

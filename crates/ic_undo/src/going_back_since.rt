@@ -5,11 +5,10 @@ ghost use Rattle.ic_journal.specs.Views.{set_of};
 ghost use Rattle.ic_undo.specs.GoingBack.{IsBack, IsntBack};
 ghost use Rattle.ic_undo.specs.Stood.{StoodAt};
 
+use crate::among::{Differences, differences_among};
 use crate::faults::{BackFault, Counts};
 use crate::going_back::{NOTHING, back, go_over};
 use crate::marks::Mark;
-use crate::missing_among::missing_among;
-use crate::outside_among::outside_among;
 use ic_journal::{Bench, LinkStore};
 use std::alloc::Global;
 
@@ -36,11 +35,9 @@ pub fn back_since<L: LinkStore>(
     let Ok(changed) = bench.changed_since(since) else {
         return Err(BackFault::Memory(NOTHING));
     };
-    let Ok(gone) = outside_among(alloc, bench, mark, &changed) else {
+    let Ok(Differences { outside, missing }) = differences_among(alloc, bench, mark, &changed)
+    else {
         return Err(BackFault::Memory(NOTHING));
     };
-    let Ok(missing) = missing_among(alloc, bench, mark, &changed) else {
-        return Err(BackFault::Memory(NOTHING));
-    };
-    go_over(bench, mark, &gone, missing)
+    go_over(bench, mark, &outside, missing)
 }

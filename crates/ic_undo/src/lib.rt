@@ -3,6 +3,7 @@
 #![tactic(auto)]
 
 pub mod absorbing;
+mod among;
 mod backwards;
 mod event_places;
 pub mod faults;
@@ -12,9 +13,7 @@ pub mod laws;
 pub mod marking;
 pub mod marks;
 mod missing;
-mod missing_among;
 mod outside;
-mod outside_among;
 mod ready;
 pub mod resting;
 mod turns;

@@ -3,10 +3,10 @@ ghost use Rattle.ic_name.specs.Events.{Event as AnEvent};
 ghost use Rattle.ic_path.specs.Orders.{IsIn};
 ghost use Rattle.ic_undo.specs.Marks.{IsMark};
 
+use crate::event_places::EventPlaces;
 use ic_journal::{Bench, LinkStore};
 use ic_name::{AgentName, Event};
 use ic_start::Start;
-use std::collections::BTreeMap;
 use std::marker::Model;
 
 /// What stood on a bench at one time, with its start: a place to go back to. For each of its events it has the place in
@@ -15,19 +15,17 @@ use std::marker::Model;
 pub struct Mark {
     pub(crate) start: Start,
     pub(crate) events: Vec<Event>,
-    pub(crate) places: BTreeMap<AgentName, u32>,
+    pub(crate) places: EventPlaces,
 }
 
 impl Model for Mark {
-    ghost use Rattle.std.specs.BTreeMap.{get};
-    ghost use Rattle.ic_name.specs.Names.{name_cmp};
     ghost use Rattle.ic_undo.specs.Marks.{MarkView, IsMark, ArePlaces};
 
     ghost Value = { MarkView };
 
     ghost view = { λ m. record { start = m.start; events = m.events.items } };
 
-    ghost invariant = { λ m. IsMark (record { start = m.start; events = m.events.items }) × ArePlaces m.events.items (get name_cmp m.places) };
+    ghost invariant = { λ m. IsMark (record { start = m.start; events = m.events.items }) × ArePlaces m.events.items m.places.leads m.places.places };
 }
 
 impl Mark {
@@ -59,11 +57,14 @@ impl Mark {
         &self.events
     }
 
-    /// The place of the event that this agent leads; `None` where it leads none of them. It takes no memory.
+    /// The place of the event that this agent leads, in time that grows as the depth of its name; `None` where it leads none
+    /// of them. It takes no memory.
     pub(crate) fn place_of(&self, lead: &AgentName) -> Option<u32>
         ensures found { IfSome result (λ place. (e : AnEvent) × (slice_get self.now.events place ≡ Some e) × (e.lead ≡ lead.now)) }
         ensures absent { IfNone result ((e : AnEvent) → IsIn e self.now.events → e.lead ≢ lead.now) }
     {
-        self.places.get(lead).copied()
+        self.places.leads.lawful();
+        let name = self.places.leads.find(lead)?;
+        self.places.places.get(name.place)
     }
 }

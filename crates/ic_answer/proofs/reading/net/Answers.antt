@@ -7,6 +7,6 @@ use Rattle.ic_answer.proofs.reading.net.Goals as goal
 
 pub returns : goal.returns
 returns g c =
-    IfOk-weaker c.print_net.result _ _
-    (λ text e. told_net c.args.bench.now _ _ c.lawful.ensures c.lawful-2.ensures.listing c.in_ok-net.ensures.left (c.names.ensures ∙ ap (λ (s : Start). s.names) c.start.ensures) text.items e)
-    c.print_net.ensures
+    IfOk-weaker c.print_sheet.result _ _
+    (λ text e. told_net c.args.bench.now _ _ c.lawful.ensures c.lawful-2.ensures.listing c.in_ok-net.ensures (c.names.ensures ∙ ap (λ (s : Start). s.names) c.start.ensures) text.items e)
+    c.print_sheet.ensures

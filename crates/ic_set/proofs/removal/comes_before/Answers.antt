@@ -11,4 +11,4 @@ returns-in_default-event c = λ x y rank i j e f noted. absurd (c.in_default-eve
 
 pub returns : goal.returns
 returns c = λ x y rank i j e f noted.
-    (c.is_lt.ensures ∙ ap is_lt (compared c.args.roster.now.events c.lawful.ensures.lines x y _ _ rank c.canonical_order.result i j c.in-Some.ensures.found c.in-Some-event.ensures.found e f noted (rw c.names.ensures at c.canonical_order.ensures.canonical)))
+    (c.is_lt.ensures ∙ ap is_lt (compared c.args.roster.now.events c.lawful.ensures.lines x y _ _ rank c.canonical_order.result i j c.in-Some.ensures.found c.in-Some-event.ensures.found e f noted (rw c.names.ensures at c.canonical_order.ensures)))

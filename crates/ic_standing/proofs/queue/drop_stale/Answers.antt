@@ -1,11 +1,10 @@
-use Rattle.std.proofs.Common.{◌<◌, length, arith, sym, subst, ◌∙◌}
+use Rattle.std.proofs.Common.{◌<◌, length, arith, ◌∙◌}
 use Rattle.std.proofs.lemmas.List.{length-map}
 use Rattle.ic_path.proofs.Alikes.{alike-length}
 use Rattle.ic_queue.specs.Queues.{place_of}
-use Rattle.ic_queue.proofs.Heaps.{one_least, queued_inside}
-use Rattle.ic_roster.proofs.Options.{at_none, at_some}
-use Rattle.ic_set.specs.Queues.{Leads}
-use Rattle.ic_set.proofs.QueuedLeads.{others_lead, takes_front}
+use Rattle.ic_queue.proofs.Heaps.{queued_inside}
+use Rattle.ic_set.proofs.QueuedLeads.{none_led, others_lead, takes_front}
+use Rattle.ic_standing.proofs.Fronts.{front_least}
 use Rattle.ic_standing.proofs.queue.drop_stale.Goals as goal
 
 pub led_by_name-requires : goal.led_by_name-requires
@@ -35,13 +34,15 @@ loop-name-preserved g c =
     let after = c.take_least.ensures.room in
     record {
       heap = rw names at c.take_least.ensures.heap;
-      each = others_lead c.args.set.now _ _ c.in-Some.name.place c.loop-name.invariant.each (at_none c.led_by_name.result (sym c.is_some.ensures ∙ c.if-is_some.false) c.led_by_name.ensures.absent) taken;
+      each = others_lead c.args.set.now _ _ c.in-Some.name.place c.loop-name.invariant.each c.in_default-led_by_name.ensures.absent taken;
       room = omega arith;
     }
 
-pub returns-then-is_some-clause-front : goal.returns-then-is_some-clause-front
-returns-then-is_some-clause-front g c =
-    let heap = c.loop-name.invariant.heap in
-    let least = c.in-Some.ensures.least c.args.set.now.names heap in
-    let led = at_some c.led_by_name.result (sym c.is_some.ensures ∙ c.if-is_some.true) c.led_by_name.ensures.found in
-    λ n also. subst (Leads c.args.set.now) (one_least c.args.set.now.names _ c.in-Some.name.place n c.lawful.ensures.table heap least also) (led.1.0, led.0, led.1.1, led.1.2)
+pub returns-in-Some-led_by_name-clause-front : goal.returns-in-Some-led_by_name-clause-front
+returns-in-Some-led_by_name-clause-front g c =
+    let least = c.in-Some.ensures.least c.args.set.now.names c.loop-name.invariant.heap in
+    let led = c.in-Some-led_by_name.ensures.found in
+    (front_least c.args.set.now c.lawful.ensures.set _ c.in-Some.name.place c.loop-name.invariant.each least led.0 _ led.1 led.2, tt)
+
+pub returns-clause-front : goal.returns-clause-front
+returns-clause-front g c = (tt, none_led c.args.set.now c.lawful.ensures.set _ c.in_default.ensures.none c.loop-name.invariant.each)

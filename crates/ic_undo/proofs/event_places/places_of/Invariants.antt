@@ -1,9 +1,7 @@
 use Rattle.std.proofs.Common.{take}
-use Rattle.std.specs.BTreeMap.{get}
-use Rattle.ic_name.specs.Names.{name_cmp}
 use Rattle.ic_undo.specs.Marks.{ArePlaces}
 use Rattle.ic_undo.proofs.event_places.places_of.Given as goal
 
 -- the places of the first events are noted
 abbrev pub invariant-loop-place : goal.invariant-loop-place
-invariant-loop-place l = ArePlaces (take l.place l.events) (get name_cmp l.places)
+invariant-loop-place l = ArePlaces (take l.place l.events) l.leads l.places

@@ -9,18 +9,15 @@ use Rattle.ic_undo.proofs.going_back_since.back_since.Goals as goal
 pub returns-in_default-clause-fault : goal.returns-in_default-clause-fault
 returns-in_default-clause-fault g c = nothing_done c.args.bench.now c.lawful.ensures c.args.mark.now c.requires.start c.lawful-2.ensures c.args.bench.now (unchanged c.args.bench.now)
 
-pub outside_among-requires-clause-among : goal.outside_among-requires-clause-among
-outside_among-requires-clause-among g c = λ x i out.
+pub differences_among-requires-clause-outside : goal.differences_among-requires-clause-outside
+differences_among-requires-clause-outside g c = λ x i out.
     subst (λ (es : List Event). IsIn x.event es) (sym c.deref.ensures.value)
     ((c.in-Ok.ensures x.event).1 (outside_changed c.args.bench.now c.lawful.ensures c.args.mark.now c.args.since c.requires.stood x i out))
 
-pub returns-in_default-outside_among-clause-fault : goal.returns-in_default-outside_among-clause-fault
-returns-in_default-outside_among-clause-fault g c = nothing_done c.args.bench.now c.lawful.ensures c.args.mark.now c.requires.start c.lawful-2.ensures c.args.bench.now (unchanged c.args.bench.now)
-
-pub missing_among-requires-clause-among : goal.missing_among-requires-clause-among
-missing_among-requires-clause-among g c = λ e missing.
-    subst (λ (es : List Event). IsIn e es) (sym c.deref-2.ensures.value)
+pub differences_among-requires-clause-missing : goal.differences_among-requires-clause-missing
+differences_among-requires-clause-missing g c = λ e missing.
+    subst (λ (es : List Event). IsIn e es) (sym c.deref.ensures.value)
     ((c.in-Ok.ensures e).1 (missing_changed c.args.bench.now c.lawful.ensures c.args.mark.now c.args.since c.requires.stood e missing))
 
-pub returns-in_default-missing_among-clause-fault : goal.returns-in_default-missing_among-clause-fault
-returns-in_default-missing_among-clause-fault g c = nothing_done c.args.bench.now c.lawful.ensures c.args.mark.now c.requires.start c.lawful-2.ensures c.args.bench.now (unchanged c.args.bench.now)
+pub returns-in_default-differences_among-clause-fault : goal.returns-in_default-differences_among-clause-fault
+returns-in_default-differences_among-clause-fault g c = nothing_done c.args.bench.now c.lawful.ensures c.args.mark.now c.requires.start c.lawful-2.ensures c.args.bench.now (unchanged c.args.bench.now)

@@ -1,6 +1,4 @@
 use Rattle.std.proofs.Common.{◌≡◌, List, length, sym, subst, ap, arith, ◌∙◌}
-use Rattle.std.specs.BTreeMap.{get}
-use Rattle.ic_name.specs.Names.{name_cmp}
 use Rattle.ic_name.specs.Events.{Event}
 use Rattle.ic_set.specs.Orders.{AreCanonical}
 use Rattle.ic_journal.specs.Views.{set_of}
@@ -22,5 +20,5 @@ invariant_of-result g c =
     let few = rw same at c.lawful-2.ensures.few_agents in
     let canonical = subst (λ es. AreCanonical (set_of c.args.bench.now) es) (sym c.in_ok-events.ensures) c.in_ok-ranked.ensures.in_order in (
       rw same (bench_mark c.args.bench.now c.lawful.ensures few c.in_ok-events.events.items canonical),
-      subst (λ (es : List Event). ArePlaces es (get name_cmp c.in_ok-places.places)) c.deref.ensures.value c.in_ok-places.ensures,
+      subst (λ (es : List Event). ArePlaces es c.in_ok-places.places.leads c.in_ok-places.places.places) c.deref.ensures.value c.in_ok-places.ensures,
     )

@@ -1,6 +1,6 @@
 use Rattle.std.proofs.Common.{◌≡◌, Some, refl, sym, ap, ◌∙◌}
 use Rattle.std.specs.Prelude.{option_and_then}
-use Rattle.ic_spots.specs.Events.{slot_under}
+use Rattle.ic_events.specs.Events.{slot_under}
 use Rattle.ic_cause.specs.Nodes.{node_in}
 use Rattle.ic_cause.proofs.SlotNodes.{nodes_in, node_written}
 use Rattle.ic_cause.proofs.node_slots.NodeSlots.get_mut.Goals as goal

@@ -9,5 +9,5 @@ use Rattle.ic_net.proofs.making.NetMaker.lawful.Goals as goal
 
 pub returns-clause-in_order : goal.returns-clause-in_order
 returns-clause-in_order c =
-    let inside : IsStrictlySortedBy name_cmp (map (λ (a : Listed). a.name) (map listed_agent c.self.inside.agents.entries)) = rw (keys_listed c.self.inside.agents.entries) c.len.ensures.ordered in
+    let inside : IsStrictlySortedBy name_cmp (map (λ (a : Listed). a.name) (map listed_agent c.self.inside.agents.items)) = rw (keys_listed c.self.inside.agents.items) c.self.invariant in
     subst (λ (p : NetParts). IsStrictlySortedBy name_cmp (map (λ (a : Listed). a.name) p.agents)) c.self.view_is inside

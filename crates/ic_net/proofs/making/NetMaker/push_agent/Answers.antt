@@ -8,6 +8,6 @@ use Rattle.ic_net.proofs.making.NetMaker.push_agent.Goals as goal
 pub returns-clause-agents : goal.returns-clause-agents
 returns-clause-agents c =
     let agent : NetAgent = record { kind = c.args.kind; partners = c.args.partners } in
-    ap (map listed_agent) c.in_ok-insert.ensures.entries
-    ∙ put_listed c.self.inside.agents.entries c.args.name agent
+    ap (map listed_agent) c.in_ok-put_in_order.ensures.put
+    ∙ put_listed c.self.inside.agents.items c.args.name agent
     ∙ ap (λ (p : NetParts). with_agent p.agents (listed_agent (c.args.name, agent))) c.self.view_is

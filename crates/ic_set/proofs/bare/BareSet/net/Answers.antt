@@ -1,32 +1,17 @@
-use Rattle.std.proofs.Common.{sym, subst, ◌∙◌}
+use Rattle.std.proofs.Common.{sym, subst}
 use Rattle.ic_theory.specs.Listed.{ListedNet, shown}
 use Rattle.ic_theory.specs.Nets.{IsSameNet}
-use Rattle.ic_net.proofs.Makings.{sound_reached}
-use Rattle.ic_cause.specs.Dependents.{causes_in}
 use Rattle.ic_set.specs.Reading.{net_in}
 use Rattle.ic_set.specs.Views.{standing}
-use Rattle.ic_set.proofs.ReadNets.{net_read}
 use Rattle.ic_set.proofs.SetNets.{causal_defined, causal_net}
 use Rattle.ic_set.proofs.bare.BareSet.net.Goals as goal
-
-pub finish-requires-clause-reached : goal.finish-requires-clause-reached
-finish-requires-clause-reached g c =
-    sound_reached c.args.self.now.set.start (standing c.args.self.now.set) c.lawful.ensures.set.proper c.lawful.ensures.set.sound _
-    (net_read c.args.self.now _ c.self.view_is _ (causes_in c.self.inside.dependents) c.self.invariant c.put_frees.new.maker c.rings-rings.result _ c.in_ok-put_frees.ensures.agents c.in_ok-put_agents.ensures.agents
-    c.in_ok-put_frees.ensures.frees c.rings-rings.ensures (c.in_ok-put_frees.ensures.profile ∙ c.in_ok-put_agents.ensures.profile ∙ c.new-maker.ensures.profile ∙ c.profile.ensures))
-
--- what is read is the net of the set
-same_net : goal.returns-clause-left
-same_net g c =
-    subst (λ (n : ListedNet). IsSameNet (shown n) (net_in c.args.self.now.set)) (sym c.finish.ensures)
-    (net_read c.args.self.now _ c.self.view_is _ (causes_in c.self.inside.dependents) c.self.invariant c.put_frees.new.maker c.rings-rings.result _ c.in_ok-put_frees.ensures.agents c.in_ok-put_agents.ensures.agents
-    c.in_ok-put_frees.ensures.frees c.rings-rings.ensures (c.in_ok-put_frees.ensures.profile ∙ c.in_ok-put_agents.ensures.profile ∙ c.new-maker.ensures.profile ∙ c.profile.ensures))
-
-pub returns-clause-left : goal.returns-clause-left
-returns-clause-left g c = same_net g c
 
 pub returns-clause-defined : goal.returns-clause-defined
 returns-clause-defined g c = λ order a after. causal_defined c.args.self.now.set.start c.lawful.ensures.set.proper (standing c.args.self.now.set) c.lawful.ensures.set.sound order a after
 
+pub returns-clause-left : goal.returns-clause-left
+returns-clause-left g c = subst (λ (n : ListedNet). IsSameNet (shown n) (net_in c.args.self.now.set)) (sym c.in_ok-net.ensures) c.in_ok-sheet.ensures
+
 pub returns-clause-every_order : goal.returns-clause-every_order
-returns-clause-every_order g c = λ order a after. causal_net c.args.self.now.set.start c.lawful.ensures.set.proper (standing c.args.self.now.set) c.lawful.ensures.set.sound order a after (shown c.finish.result) (same_net g c)
+returns-clause-every_order g c = λ order a after. causal_net c.args.self.now.set.start c.lawful.ensures.set.proper (standing c.args.self.now.set) c.lawful.ensures.set.sound order a after (shown c.in_ok-net.net)
+    (subst (λ (n : ListedNet). IsSameNet (shown n) (net_in c.args.self.now.set)) (sym c.in_ok-net.ensures) c.in_ok-sheet.ensures)

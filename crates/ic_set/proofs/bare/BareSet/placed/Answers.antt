@@ -17,5 +17,5 @@ loop-id-preserved g c =
     let none : EventId = record { slot = 0; line = 0 } in
     let pushed = c.in_ok-push.ensures.items in record {
       under = rw (pushed, map-append (λ p. p.id) c.loop-id.placed.items, take_more c.args.ids.now c.loop-id.id-index none c.loop-id-test.true) (ap (λ ds. ds ++ slice_index_or c.args.ids.now c.loop-id.id-index none ∷ []) c.loop-id.invariant.under);
-      shown = rw pushed (All-push (IsPlaced c.args.self.now) c.loop-id.placed.items _ c.loop-id.invariant.shown (rw (← c.self.view_is) (_, c.in-Some.ensures.found, refl, refl, refl, c.in-Some.ensures.named)));
+      shown = rw pushed (All-push (IsPlaced c.args.self.now) c.loop-id.placed.items _ c.loop-id.invariant.shown (rw (← c.self.view_is) (_, c.in-Some.ensures.found, refl, refl, refl, record { named = c.in-Some.ensures.named; key = rw c.names-names.ensures at c.key.ensures })));
     }

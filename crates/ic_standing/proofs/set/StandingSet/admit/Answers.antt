@@ -4,11 +4,11 @@ use Rattle.ic_path.proofs.Picks.{in_first}
 use Rattle.ic_cause.proofs.KeptViews.{at_error}
 use Rattle.ic_queue.proofs.Heaps.{kept_heap}
 use Rattle.ic_set.specs.Pairs.{IsPairOf}
-use Rattle.ic_set.specs.Queues.{KeepsQueue}
 use Rattle.ic_set.specs.Sets.{IsStandingSet}
 use Rattle.ic_set.specs.Views.{NamedView}
 use Rattle.ic_set.proofs.Admissions.{same_self}
 use Rattle.ic_set.proofs.GrownNames.{grown_keeps, grown_length}
+use Rattle.ic_standing.specs.Fronts.{KeepsQueue}
 use Rattle.ic_standing.proofs.PairsAdmitted.{same_keeps, admitted_awakes, admitted_each}
 use Rattle.ic_standing.proofs.set.StandingSet.admit.Goals as goal
 
@@ -32,7 +32,7 @@ invariant_of-self-in_err-id g c =
     let grown = rw c.deref_mut.ensures.value at c.admit.ensures.grown in
     let count : c.len-names.result ≡ length before = c.len-names.ensures ∙ ap length (c.names.ensures ∙ c.roster.ensures.names ∙ ap (λ (v : NamedView). v.names) c.deref-3.ensures) in
     let enough : length after ≤ c.reserve.new.self.room = omega (arith, count, grown_length before after grown, c.in_ok-reserve.ensures.reserved) in
-    rw c.reserve.ensures.same (same_keeps c.self.inside.bare.value c.admit.new.self c.self.inside.queue.leads c.self.inside.queue.room _ (rw c.deref_mut.ensures.value at c.in_err-id.ensures.unchanged) (grown_keeps before after grown) enough c.self.invariant)
+    rw c.reserve.ensures.same (same_keeps c.self.inside.bare.value c.admit.new.self c.self.inside.queue.leads c.self.inside.queue.room _ c.self.inside.front (rw c.deref_mut.ensures.value at c.in_err-id.ensures.unchanged) (grown_keeps before after grown) enough c.self.invariant)
 
 pub awoken-awoken-requires : goal.awoken-awoken-requires
 awoken-awoken-requires g c =
@@ -56,8 +56,8 @@ put_leads-requires-clause-heap g c =
     let grown = rw c.deref_mut.ensures.value at c.admit.ensures.grown in
     rw (c.deref-6.ensures, c.reserve.ensures.same) (kept_heap c.self.inside.bare.value.names c.admit.new.self.names c.self.inside.queue.leads (grown_keeps _ _ grown) c.self.invariant.heap)
 
-pub drop_stale-requires-clause-each : goal.drop_stale-requires-clause-each
-drop_stale-requires-clause-each g c =
+pub drop_stale-self-inside-requires-clause-each : goal.drop_stale-self-inside-requires-clause-each
+drop_stale-self-inside-requires-clause-each g c =
     let e = c.requires.active.0 in
     let active : IsPairOf c.self.inside.bare.value.set e c.args.pair = rw c.self.view_is c.requires.active.1 in
     let a = (rw c.deref_mut.ensures.value at c.in_ok-id.ensures.admitted) e active in
@@ -78,9 +78,9 @@ invariant_of-self-2 g c =
     let grown = rw c.deref_mut.ensures.value at c.admit.ensures.grown in
     let count : c.len-names.result ≡ length before = c.len-names.ensures ∙ ap length (c.names.ensures ∙ c.roster.ensures.names ∙ ap (λ (v : NamedView). v.names) c.deref-3.ensures) in
     let all = c.put_leads.ensures.room in
-    let left = c.drop_stale.ensures.room in
-    let enough : length after ≤ c.drop_stale.new.queue.room = omega (arith, count, grown_length before after grown, c.in_ok-reserve.ensures.reserved, all, left) in
-    let kept : KeepsQueue c.deref-7.result.now c.drop_stale.new.queue.leads c.drop_stale.new.queue.room = record { heap = c.drop_stale.ensures.heap; each = c.drop_stale.ensures.each; front = c.drop_stale.ensures.front; room = rw c.deref-7.ensures enough } in
+    let left = c.drop_stale-self-inside.ensures.room in
+    let enough : length after ≤ c.drop_stale-self-inside.new.queue.room = omega (arith, count, grown_length before after grown, c.in_ok-reserve.ensures.reserved, all, left) in
+    let kept : KeepsQueue c.deref-7.result.now c.drop_stale-self-inside.new.queue.leads c.drop_stale-self-inside.new.queue.room c.drop_stale-self-inside.result = record { heap = c.drop_stale-self-inside.ensures.heap; each = c.drop_stale-self-inside.ensures.each; front = c.drop_stale-self-inside.ensures.front; room = rw c.deref-7.ensures enough } in
     rw c.deref-7.ensures at kept
 
 pub returns-clause-awoken : goal.returns-clause-awoken

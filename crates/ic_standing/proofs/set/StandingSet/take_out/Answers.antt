@@ -1,8 +1,9 @@
 use Rattle.std.proofs.Common.{◌≡◌, ◌≤◌, length, inl, inr, refl, sym, arith, ap}
-use Rattle.ic_set.specs.Queues.{HasLeads, KeepsQueue}
+use Rattle.ic_set.specs.Queues.{HasLeads}
 use Rattle.ic_set.specs.Removal.{Stands}
 use Rattle.ic_set.specs.Sets.{IsStandingSet}
 use Rattle.ic_set.proofs.QueuedLeads.{still_queued}
+use Rattle.ic_standing.specs.Fronts.{KeepsQueue}
 use Rattle.ic_standing.proofs.PairsLeft.{left_each}
 use Rattle.ic_standing.proofs.set.StandingSet.take_out.Goals as goal
 
@@ -20,13 +21,13 @@ put-requires-clause-heap g c = rw (c.names.ensures, c.roster.ensures.names, c.de
 pub put-requires-clause-room : goal.put-requires-clause-room
 put-requires-clause-room g c = rw (c.names.ensures, c.roster.ensures.names, c.deref-3.ensures, c.take_out-lead.ensures.names, c.deref_mut.ensures.value) c.self.invariant.room
 
-pub drop_stale-requires-clause-heap : goal.drop_stale-requires-clause-heap
-drop_stale-requires-clause-heap g c =
+pub drop_stale-self-inside-requires-clause-heap : goal.drop_stale-self-inside-requires-clause-heap
+drop_stale-self-inside-requires-clause-heap g c =
     let heap = c.put.ensures.heap in
     rw c.deref-4.ensures (rw (c.names.ensures, c.roster.ensures.names, c.deref-3.ensures) at heap)
 
-pub drop_stale-requires-clause-each : goal.drop_stale-requires-clause-each
-drop_stale-requires-clause-each g c =
+pub drop_stale-self-inside-requires-clause-each : goal.drop_stale-self-inside-requires-clause-each
+drop_stale-self-inside-requires-clause-each g c =
     let stands : Stands c.deref_mut.result.now.set c.args.id = rw (c.deref_mut.ensures.value, c.self.view_is) c.requires.standing in
     let names = c.take_out-lead.new.self.names in
     let place = c.take_out-lead.result.place in
@@ -43,8 +44,8 @@ pub invariant_of-self : goal.invariant_of-self
 invariant_of-self g c =
     let room = c.self.invariant.room in
     let more = c.put.ensures.room in
-    let left = c.drop_stale.ensures.room in
+    let left = c.drop_stale-self-inside.ensures.room in
     let names : length c.take_out-lead.new.self.names ≡ length c.self.inside.bare.value.names = rw c.deref_mut.ensures.value at (ap length c.take_out-lead.ensures.names) in
-    let enough : length c.take_out-lead.new.self.names ≤ c.drop_stale.new.queue.room = omega (arith, room, more, left, names) in
-    let kept : KeepsQueue c.deref-4.result.now c.drop_stale.new.queue.leads c.drop_stale.new.queue.room = record { heap = c.drop_stale.ensures.heap; each = c.drop_stale.ensures.each; front = c.drop_stale.ensures.front; room = rw c.deref-4.ensures enough } in
+    let enough : length c.take_out-lead.new.self.names ≤ c.drop_stale-self-inside.new.queue.room = omega (arith, room, more, left, names) in
+    let kept : KeepsQueue c.deref-4.result.now c.drop_stale-self-inside.new.queue.leads c.drop_stale-self-inside.new.queue.room c.drop_stale-self-inside.result = record { heap = c.drop_stale-self-inside.ensures.heap; each = c.drop_stale-self-inside.ensures.each; front = c.drop_stale-self-inside.ensures.front; room = rw c.deref-4.ensures enough } in
     rw c.deref-4.ensures at kept

@@ -19,7 +19,7 @@ overflow_add-name c =
     let h : place c.args.text.now (names_of c.self.inside.seen.items) ≡ Some c.in-Some.number = looks _ _ _ _ _ _ _ _ _ c.self.invariant c.deref.ensures.value c.len.ensures c.slot_for-slot.ensures.slot c.get.ensures c.look_up.ensures ∙ c.in-Some.is in
     let k = (is_at c.args.text.now c.self.inside.seen.items _ h).count c.index_mut-name.result.now in
     let e : c.index_mut-name.result.now.times ≡ times c.args.text.now c.args.self.now = cc (k, c.index_mut-name.ensures.value, c.self.view_is) in
-    omega (arith, e, c.requires)
+    omega (arith, e, c.requires.twice)
 
 pub invariant_of-self : goal.invariant_of-self
 invariant_of-self c =

@@ -1,7 +1,0 @@
-use Rattle.std.proofs.Common.{◌≡◌, Some, map, slice_get}
-use Rattle.std.specs.Map.Iter.{deref}
-use Rattle.ic_undo.proofs.missing_among.events_at.Given as goal
-
--- the events at the first places are noted
-abbrev pub invariant-loop-place : goal.invariant-loop-place
-invariant-loop-place l = map (slice_get l.mark.events) (map deref l.yielded) ≡ map Some l.events.items
