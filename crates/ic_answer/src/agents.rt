@@ -11,7 +11,8 @@ pub fn tell_agents<L: LinkStore>(alloc: Global, bench: &Bench<L>) -> Result<Vec<
     ensures { IfOk result (λ text. InformsOf bench.now Agents text.items) }
 {
     bench.lawful();
-    let net = bench.net()?;
+    let sheet = bench.sheet()?;
+    let net = sheet.view(alloc)?;
     net.lawful();
     print_agents(alloc, &net, bench.start().names())
 }

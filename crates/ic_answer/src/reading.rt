@@ -9,7 +9,7 @@ ghost use Rattle.ic_answer.specs.Turns.{Tells};
 use crate::named::push_pair;
 use ic_cause::journal_text;
 use ic_journal::{ActivePair, Bench, LinkStore};
-use ic_print::print_sheet;
+use ic_print::print_view;
 use std::alloc::{AllocError, Global};
 
 /// The printed net.
@@ -17,9 +17,10 @@ pub(crate) fn net<L: LinkStore>(alloc: Global, bench: &Bench<L>) -> Result<Vec<u
     ensures { IfOk result (λ text. Tells bench.now Net text.items) }
 {
     bench.lawful();
-    let net = bench.sheet()?;
+    let sheet = bench.sheet()?;
+    let net = sheet.view(alloc)?;
     net.lawful();
-    print_sheet(alloc, &net, bench.start().names())
+    print_view(alloc, &net, bench.start().names())
 }
 
 /// How many active pairs there are, and their names, in order of leads.

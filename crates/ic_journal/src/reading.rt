@@ -25,9 +25,10 @@ use ic_cause::RankedEvent;
 use ic_link::LinkStore;
 use ic_name::{AgentId, AgentName, Event, EventId, EventName, Kind, Line};
 use ic_names::NameTable;
-use ic_net::{Net, NetSheet};
+use ic_net::Net;
 use ic_roster::AgentEntry;
 use ic_set::ActivePair;
+use ic_sheet::NetSheet;
 use std::alloc::AllocError;
 
 impl<L: LinkStore> Bench<L> {

@@ -174,9 +174,8 @@ impl AgentName {
             unreachable!()
         };
         for digit in digits {
-            let Ok(()) = out.extend_from_slice(&[b'.', b'0' + *digit]) else {
-                unreachable!()
-            };
+            out.push_reserved(b'.');
+            out.push_reserved(b'0' + *digit);
         }
         Ok(())
     }

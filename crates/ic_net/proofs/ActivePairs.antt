@@ -11,7 +11,6 @@ use Rattle.std.specs.Prelude.{if◌then◌else◌, slice_get, ◌⊎◌, ◌↔�
 use Rattle.ic_name.specs.Names.{Name, name_cmp}
 use Rattle.ic_name.specs.Same.{same_name}
 use Rattle.ic_name.proofs.SameFacts.{same_name_true, same_name_self}
-use Rattle.ic_name.proofs.NameOrder.{name_less_apart}
 use Rattle.ic_name.specs.Events.{Event}
 use Rattle.ic_name.specs.declared.ports.Port.{Port}
 use Rattle.ic_name.specs.declared.ports.Port.TheVariants as ports
@@ -19,6 +18,7 @@ use Rattle.ic_path.specs.Orders.{IsIn}
 use Rattle.ic_path.proofs.Picks.{none_in, in_first, in_more, in-cons_cases}
 use Rattle.ic_theory.specs.Steps.{Meets}
 use Rattle.ic_theory.specs.Listed.{NetAgent as Listed, ListedNet, IsListing, agent_among, partner_at, shown, led_pair, active_pairs}
+use Rattle.ic_sheet.proofs.WholeTables.{not_above}
 use Rattle.ic_net.specs.Nets.{pair_led_by}
 
 less_true : (r : Ordering) → is_lt r ≡ true → r ≡ Less
@@ -47,18 +47,6 @@ led_is n (Some (ports.Of m i)) a b h = go (eqb i 0) (is_lt (name_cmp n m)) refl 
 
 led_makes : (n : Name) (o : Option Port) (b : Name) → o ≡ Some (ports.Of b 0) → name_cmp n b ≡ Less → led_pair n o ≡ Some (n, b)
 led_makes n o b e h = rw (e, h) refl
-
-apart : (a b : Name) → (a ≡ b → ⊥) → same_name a b ≡ false
-apart a b n = go (same_name a b) refl
-  where
-    go : (x : Bool) → same_name a b ≡ x → same_name a b ≡ false
-    go true e = absurd (n (same_name_true a b e))
-    go false e = e
-
--- a name below all is not among them
-pub not_above : (n : Name) (as' : List Listed) → AllByRecursion (λ m. name_cmp n m ≡ Less) (map (λ (a : Listed). a.name) as') → agent_among n as' ≡ None
-not_above n [] h = refl
-not_above n (a ∷ as') h = rw (apart n a.name (name_less_apart n a.name h.0)) (not_above n as' h.1)
 
 -- the pairs of a list in order of names
 pairs_of : (as' : List Listed) (a b : Name) → IsStrictlySortedBy name_cmp (map (λ (x : Listed). x.name) as')

@@ -5,14 +5,11 @@ pub mod StartNets
 pub mod Lookups
 pub mod SameTables
 pub mod SortedTables
+pub mod Collected
 pub mod OneListing
 pub mod ActivePairs
 pub mod Rewirings
 pub mod Writes
 pub mod PutChildren
-pub mod ReachedNets
-pub mod WholeTables
 pub mod StepTables
 pub mod Replayed
-pub mod Makings
-pub mod InOrder

@@ -30,10 +30,12 @@ use Rattle.ic_theory.specs.Nets.{IsSameNet, kind_among, has_port, net_of}
 use Rattle.ic_theory.specs.Listed.{NetAgent as Listed, ListedNet, IsListing, agent_among, partner_at, free_among, shown}
 use Rattle.ic_start.specs.Starts.{IsStartSpot, AreStartLinks, port_at, join_of}
 use Rattle.ic_start.proofs.StartSpots.{one_port}
+use Rattle.ic_sheet.proofs.InOrder.{keys_listed}
 use Rattle.ic_net.specs.FarTables.{HasFarEnds, agent_partner, name_partner}
-use Rattle.ic_net.specs.declared.agents.NetAgent.{NetAgent}
+use Rattle.ic_sheet.specs.declared.agents.NetAgent.{NetAgent}
 use Rattle.ic_name.specs.declared.limits.TheConstants.{MAX_START_AGENTS}
-use Rattle.ic_net.specs.Nets.{at_ports, listed_agent, listed_from, frees_upto, IsNet, IsReached}
+use Rattle.ic_sheet.specs.Sheets.{listed_agent, IsNet, IsReached}
+use Rattle.ic_net.specs.Nets.{at_ports, listed_from, frees_upto}
 
 -- a start's link with ports for spots
 abbrev link_of : Link → NetLink
@@ -202,10 +204,6 @@ start_net s links ends times l ok joins in_place table long counts agents frees 
     partners (ports.Name j) = rw frees (at_name j (cases_lt j (length s.names)))
 
 -- the tables of a start are in order, and whole
-pub keys_listed : (es : List (Name × NetAgent)) → map (λ (a : Listed). a.name) (map listed_agent es) ≡ keys_of es
-keys_listed [] = refl
-keys_listed (e ∷ es) = ap (λ ns. e.0 ∷ ns) (keys_listed es)
-
 many_ports : (x : Kind) (f : ℕ → Port) → length (at_ports x f) ≡ arity x + 1
 many_ports Gamma f = refl
 many_ports Delta f = refl

@@ -1,28 +1,10 @@
--- What a net's tables list.
-use Rattle.std.specs.Prelude.{ℕ, ◌+◌, ◌<◌, ◌^◌, zero, suc, Bool, List, [], ◌∷◌, ◌++◌, length, Option, slice_get, if◌then◌else◌}
-use Rattle.std.specs.Ordering.{is_lt}
+-- What a net's tables list of a start, and which active pair an agent leads.
+use Rattle.std.specs.Prelude.{ℕ, ◌+◌, zero, suc, Bool, List, [], ◌∷◌, ◌++◌, Option, slice_get, if◌then◌else◌}
 use Rattle.ic_name.specs.Names.{Name, start_name}
-use Rattle.ic_name.specs.Events.{Event}
 use Rattle.ic_name.specs.declared.kinds.Kind.{Kind}
 use Rattle.ic_name.specs.declared.kinds.Kind.TheVariants.{Eps}
 use Rattle.ic_name.specs.declared.ports.Port.{Port}
-use Rattle.ic_name.specs.declared.ports.Port.TheVariants as port
-use Rattle.ic_theory.specs.Starts.{Start, IsProper}
-use Rattle.ic_theory.specs.Firings.{IsFired}
-use Rattle.ic_theory.specs.Nets.{Net, IsSameNet, net_of}
-use Rattle.ic_theory.specs.Listed.{NetAgent as Listed, ListedNet, IsListing, port_cmp, ends_from, led_pair, shown}
-use Rattle.ic_net.specs.declared.agents.Partners.{Partners}
-use Rattle.ic_net.specs.declared.agents.Partners.TheVariants.{One, Three}
-use Rattle.ic_net.specs.declared.agents.NetAgent.{NetAgent}
-
--- the partners by number
-abbrev pub partner_list : Partners → List Port
-partner_list (One ps) = ps
-partner_list (Three ps) = ps
-
--- an entry of the table of agents
-abbrev pub listed_agent : Name × NetAgent → Listed
-listed_agent x = record { name = x.0; kind = x.1.kind; partners = partner_list x.1.partners }
+use Rattle.ic_theory.specs.Listed.{NetAgent as Listed, led_pair}
 
 -- the values at an agent's ports, by number
 abbrev pub at_ports : {X : Type 0} → Kind → (ℕ → X) → List X
@@ -38,33 +20,6 @@ listed_from partner k (x ∷ xs) = record { name = start_name k; kind = x; partn
 abbrev pub frees_upto : (ℕ → Bool) → (ℕ → Port) → ℕ → List (ℕ × Port)
 frees_upto once partner zero = []
 frees_upto once partner (suc n) = frees_upto once partner n ++ (if once n then (n, partner n) ∷ [] else [])
-
--- a start and a firing of events over it that leave this net
-pub record IsReached (n : Net) : Type 0 where
-  pub start : Start
-  pub events : List Event
-  pub proper : IsProper start
-  pub fired : IsFired start events
-  pub net : IsSameNet n (net_of start events)
-
--- what a net keeps: it is listed in one way, it is of a size that can be counted, and it is that of a firing
-pub record IsNet (l : ListedNet) : Type 0 where
-  pub listing : IsListing l
-  pub few_agents : length l.agents < 2 ^ 32
-  pub few_frees : length l.frees < 2 ^ 32
-  pub few_rings : l.rings < 2 ^ 63
-  pub reached : IsReached (shown l)
-
--- the ports of an agent with their partners, and a name with its partner
-abbrev pub agent_ends : Listed → List (Port × Port)
-agent_ends a = ends_from a.name 0 a.partners
-
-abbrev pub name_end : ℕ × Port → Port × Port
-name_end x = (port.Name x.0, x.1)
-
--- a port that is less than its partner
-abbrev pub is_lesser_end : Port × Port → Bool
-is_lesser_end x = is_lt (port_cmp x.0 x.1)
 
 -- the active pair that an agent leads, if it does
 abbrev pub pair_led_by : Listed → Option (Name × Name)

@@ -1,17 +1,16 @@
 ghost use Rattle.std.specs.Prelude.{◌≡◌, ◌↔◌, ◌≤◌, ◌<◌, ◌^◌, [], length, map, IfOk, IsTrue, option_copied};
 ghost use Rattle.ic_theory.specs.Nets.{net_of, IsSameNet};
 ghost use Rattle.ic_theory.specs.Listed.{IsListing, shown, wires_of, active_pairs};
-ghost use Rattle.ic_net.specs.Nets.{IsReached};
-ghost use Rattle.ic_net.specs.Views.{shown_agent, shown_free};
+ghost use Rattle.ic_sheet.specs.Sheets.{IsReached};
 
-use crate::agents::NetAgent;
 use crate::far::far_table;
 use crate::pairs::active_of;
 use crate::same::{same_agents, same_frees};
 use crate::tables::{agents_of, frees_of, name_ends};
-use crate::views::{AgentView, FreeView, agent_views_of, free_views_of};
+use crate::views::{agent_views, free_views};
 use crate::wires::{agent_wires, name_wires};
 use ic_name::{AgentName, Kind, Port, Profile};
+use ic_sheet::{NetAgent, NetLists, NetSheet, NetView};
 use ic_start::Start;
 use std::alloc::{AllocError, Global};
 use std::collections::BTreeMap;
@@ -32,7 +31,7 @@ impl Model for Net {
 
     ghost Value = { ListedNet };
 
-    ghost use Rattle.ic_net.specs.Nets.{listed_agent, IsNet};
+    ghost use Rattle.ic_sheet.specs.Sheets.{listed_agent, IsNet};
 
     ghost view = { λ n. record { agents = map listed_agent n.agents.entries; frees = n.frees.entries; rings = n.rings; profile = n.profile } };
 
@@ -58,6 +57,21 @@ impl Net {
             frees,
             rings: table.rings,
             profile: start.profile(),
+        })
+    }
+
+    /// The net of a sheet, whose agents and free names are found from then on.
+    pub fn of_sheet(alloc: Global, sheet: NetSheet) -> Result<Net, AllocError>
+        ensures { IfOk result (λ net. net ≡ sheet) }
+    {
+        sheet.lawful();
+        let (rings, profile) = (sheet.rings(), sheet.profile());
+        let NetLists { agents, frees } = sheet.into_lists();
+        Ok(Net {
+            agents: BTreeMap::from_iter(alloc, agents)?,
+            frees: BTreeMap::from_iter(alloc, frees)?,
+            rings,
+            profile,
         })
     }
 
@@ -116,18 +130,13 @@ impl Net {
         active_of(alloc, &self.agents)
     }
 
-    /// The agents, in order of names.
-    pub fn agent_views(&self, alloc: Global) -> Result<Vec<AgentView<'_>>, AllocError>
-        ensures { IfOk result (λ views. map shown_agent views.items ≡ self.now.agents) }
+    /// The net, lent to be read.
+    pub fn view(&self, alloc: Global) -> Result<NetView<'_>, AllocError>
+        ensures { IfOk result (λ view. view ≡ self.now) }
     {
-        agent_views_of(alloc, &self.agents)
-    }
-
-    /// The names of the text that are loose ports, in order of numbers.
-    pub fn free_views(&self, alloc: Global) -> Result<Vec<FreeView<'_>>, AllocError>
-        ensures { IfOk result (λ views. map shown_free views.items ≡ self.now.frees) }
-    {
-        free_views_of(alloc, &self.frees)
+        let agents = agent_views(alloc, &self.agents)?;
+        let frees = free_views(alloc, &self.frees)?;
+        Ok(NetView::of(agents, frees, self.rings, self.profile))
     }
 
     /// Whether two nets are the same, name by name and port by port. It takes no memory.

@@ -1,29 +1,14 @@
 ghost use Rattle.std.specs.Prelude.{◌≡◌, map, IfOk};
-ghost use Rattle.ic_net.specs.Nets.{listed_agent};
-ghost use Rattle.ic_net.specs.Views.{shown_agent, shown_free};
+ghost use Rattle.ic_sheet.specs.Sheets.{listed_agent};
+ghost use Rattle.ic_sheet.specs.Views.{shown_agent, shown_free};
 
-use crate::agents::NetAgent;
-use ic_name::{AgentName, Kind, Port};
+use ic_name::{AgentName, Port};
+use ic_sheet::{AgentView, FreeView, NetAgent};
 use std::alloc::{AllocError, Global};
 use std::collections::BTreeMap;
 
-/// An agent of a net, to be read: its name, its kind, and the partners of its ports by number.
-#[derive(Clone, Copy)]
-pub struct AgentView<'a> {
-    pub name: &'a AgentName,
-    pub kind: Kind,
-    pub partners: &'a [Port],
-}
-
-/// A name of the text that is a loose port, to be read, by its number, with its partner.
-#[derive(Clone, Copy)]
-pub struct FreeView<'a> {
-    pub number: u32,
-    pub partner: &'a Port,
-}
-
 /// The entries of a table of agents, in order.
-pub(crate) fn agent_views_of(
+pub(crate) fn agent_views(
     alloc: Global,
     agents: &BTreeMap<AgentName, NetAgent>,
 ) -> Result<Vec<AgentView<'_>>, AllocError>
@@ -40,26 +25,8 @@ pub(crate) fn agent_views_of(
     Ok(views)
 }
 
-/// These agents, in the order in which they lie.
-pub(crate) fn listed_views_of(
-    alloc: Global,
-    agents: &[(AgentName, NetAgent)],
-) -> Result<Vec<AgentView<'_>>, AllocError>
-    ensures { IfOk result (λ views. map shown_agent views.items ≡ map listed_agent agents.now) }
-{
-    let mut views = Vec::with_capacity(alloc, agents.len())?;
-    for (name, agent) in agents {
-        views.push(AgentView {
-            name,
-            kind: agent.kind,
-            partners: agent.partners.as_slice(),
-        })?;
-    }
-    Ok(views)
-}
-
 /// The entries of a table of names, in order.
-pub(crate) fn free_views_of(
+pub(crate) fn free_views(
     alloc: Global,
     frees: &BTreeMap<u32, Port>,
 ) -> Result<Vec<FreeView<'_>>, AllocError>

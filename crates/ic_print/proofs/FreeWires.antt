@@ -15,8 +15,8 @@ use Rattle.ic_name.specs.declared.ports.Port.{Port}
 use Rattle.ic_name.specs.declared.ports.Port.TheVariants as port
 use Rattle.ic_print.specs.Lines.{lent_texts, with_free_wire}
 use Rattle.ic_print.specs.NetText.{free_wire, free_wires, name_text}
-use Rattle.ic_net.specs.Views.{shown_free}
-use Rattle.ic_net.specs.declared.views.FreeView.{FreeView}
+use Rattle.ic_sheet.specs.Views.{shown_free}
+use Rattle.ic_sheet.specs.declared.parts.FreeView.{FreeView}
 
 -- the map of texts that are lent orders them as the definition does
 pub lent_insert : (es : List (Bor (List ℕ) × Bor (List ℕ))) (k v : Bor (List ℕ)) → map lent_texts (insert_entry (λ x y. slice_cmp nat_cmp x.now y.now) es k v) ≡ insert_entry (slice_cmp nat_cmp) (map lent_texts es) k.now v.now

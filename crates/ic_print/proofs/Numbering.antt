@@ -18,8 +18,8 @@ use Rattle.ic_name.specs.declared.ports.Port.TheVariants.{Of}
 use Rattle.ic_name.specs.declared.ports.Port.TheVariants as port
 use Rattle.ic_name.proofs.SameFacts.{same_port_true, same_port_self}
 use Rattle.ic_theory.specs.Listed.{NetAgent, agent_among, partner_at}
-use Rattle.ic_net.specs.Views.{shown_agent}
-use Rattle.ic_net.specs.declared.views.AgentView.{AgentView}
+use Rattle.ic_sheet.specs.Views.{shown_agent}
+use Rattle.ic_sheet.specs.declared.parts.AgentView.{AgentView}
 use Rattle.ic_print.specs.NetText.{add, wire_of, partner_of, shown_ports, line_wires}
 use Rattle.ic_print.specs.Numbers.{bare, port_number, AreWired, IsNumbering, Enters, GivesNumber, number_at, port_wire, port_wires, wire_place}
 use Rattle.ic_print.specs.declared.numbers.WireNumbers.{WireNumbers}

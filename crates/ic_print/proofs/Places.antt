@@ -17,8 +17,8 @@ use Rattle.ic_name.specs.Same.{same_name}
 use Rattle.ic_name.proofs.NameOrder.{name_cmp_total, name_less_apart, name_tied, name_same_is_equal}
 use Rattle.ic_name.proofs.SameFacts.{same_name_true, same_name_self}
 use Rattle.ic_theory.specs.Listed.{NetAgent, agent_among}
-use Rattle.ic_net.specs.Views.{shown_agent}
-use Rattle.ic_net.specs.declared.views.AgentView.{AgentView}
+use Rattle.ic_sheet.specs.Views.{shown_agent}
+use Rattle.ic_sheet.specs.declared.parts.AgentView.{AgentView}
 
 -- the names
 abbrev pub names_of : List NetAgent → List Name

@@ -10,7 +10,7 @@ use Rattle.ic_name.specs.declared.kinds.Kind.TheVariants.{Gamma, Delta, Eps}
 use Rattle.ic_name.specs.declared.ports.Port.TheVariants.{Of}
 use Rattle.ic_theory.specs.Listed.{NetAgent, ListedNet, IsListing, agent_among, partner_at, shown}
 use Rattle.ic_theory.proofs.Loose.{partners_back}
-use Rattle.ic_net.specs.Nets.{IsReached}
+use Rattle.ic_sheet.specs.Sheets.{IsReached}
 use Rattle.ic_print.specs.NetText.{partner_of}
 use Rattle.ic_print.specs.Numbers.{AreWired}
 use Rattle.ic_print.proofs.Places.{found_at, place_found}

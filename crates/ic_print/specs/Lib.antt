@@ -2,4 +2,4 @@ pub mod AgentsText
 pub mod Lines
 pub mod NetText
 pub mod Numbers
-pub mod Sheets
+pub mod NumberedWires

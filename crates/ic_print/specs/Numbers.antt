@@ -8,7 +8,7 @@ use Rattle.ic_name.specs.Same.{same_port}
 use Rattle.ic_name.specs.declared.ports.Port.{Port}
 use Rattle.ic_name.specs.declared.ports.Port.TheVariants.{Of}
 use Rattle.ic_theory.specs.Listed.{NetAgent, agent_among, partner_at}
-use Rattle.ic_net.specs.Views.{shown_agent}
+use Rattle.ic_sheet.specs.Views.{shown_agent}
 use Rattle.ic_print.specs.NetText.{wire_of, partner_of, add}
 use Rattle.ic_print.specs.declared.placed.PlacedAgent.{PlacedAgent}
 use Rattle.ic_print.specs.declared.port_numbers.PortNumbers.{PortNumbers}

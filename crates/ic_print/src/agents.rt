@@ -1,26 +1,30 @@
 ghost use Rattle.std.specs.Prelude.{◌≡◌, ◌++◌, ◌+◌, map, length, IfOk, OnOk, All};
 ghost use Rattle.std.specs.List.{flat_map};
 ghost use Rattle.ic_name.specs.Kinds.{arity};
-ghost use Rattle.ic_net.specs.Views.{shown_agent};
+ghost use Rattle.ic_sheet.specs.Views.{shown_agent};
 ghost use Rattle.ic_print.specs.AgentsText.{agents_text, named_line};
 ghost use Rattle.ic_print.specs.Lines.{texts};
 ghost use Rattle.ic_print.specs.Numbers.{IsPlaced};
-ghost use Rattle.ic_print.specs.Sheets.{wires_in};
+ghost use Rattle.ic_print.specs.NumberedWires.{wires_in};
 
 use crate::numbered::NumberedAgents;
 use crate::placed::PlacedAgent;
 use crate::put::put_line;
-use ic_net::Net;
+use ic_sheet::NetView;
 use std::alloc::{AllocError, Global};
 
 /// Which line of the printed net is which agent's: how many agents there are, and in order of their names the line of each
 /// behind its name.
-pub fn print_agents(alloc: Global, net: &Net, names: &[Vec<u8>]) -> Result<Vec<u8>, AllocError>
+pub fn print_agents(
+    alloc: Global,
+    net: &NetView<'_>,
+    names: &[Vec<u8>],
+) -> Result<Vec<u8>, AllocError>
     ensures { IfOk result (λ text. text.items ≡ agents_text (texts names.now) net.now) }
 {
     net.lawful();
-    let agents = net.agent_views(alloc)?;
-    let numbered = NumberedAgents::new(alloc, agents.as_slice())?;
+    let agents = net.agents();
+    let numbered = NumberedAgents::new(alloc, agents)?;
     let mut out = format!(in alloc; "agents {}\n", agents.len())?.into_bytes();
     put_named(&mut out, &numbered, names)?;
     Ok(out)

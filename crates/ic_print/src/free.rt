@@ -2,11 +2,11 @@ ghost use Rattle.std.specs.Prelude.{◌≡◌, ◌++◌, map, IfOk, OnOk};
 ghost use Rattle.std.specs.List.{flat_map};
 ghost use Rattle.ic_print.specs.Lines.{lent_texts, texts, with_free_wire};
 ghost use Rattle.ic_print.specs.NetText.{free_line, free_wires};
-ghost use Rattle.ic_net.specs.Views.{shown_free};
+ghost use Rattle.ic_sheet.specs.Views.{shown_free};
 
 use crate::put::text_of;
 use ic_name::Port;
-use ic_net::FreeView;
+use ic_sheet::FreeView;
 use std::alloc::{AllocError, Global};
 use std::collections::BTreeMap;
 

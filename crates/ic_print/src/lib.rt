@@ -12,4 +12,4 @@ pub mod print;
 mod put;
 
 pub use agents::print_agents;
-pub use print::{print_net, print_sheet};
+pub use print::{print_net, print_view};

@@ -1,11 +1,11 @@
 ghost use Rattle.std.specs.Prelude.{map};
 ghost use Rattle.ic_print.specs.NetText.{numbered_wires};
 ghost use Rattle.ic_print.specs.Numbers.{IsNumbering};
-ghost use Rattle.ic_net.specs.Views.{shown_agent};
+ghost use Rattle.ic_sheet.specs.Views.{shown_agent};
 
 use crate::numbers::{WireNumbers, number_wires};
 use crate::placed::PlacedAgent;
-use ic_net::AgentView;
+use ic_sheet::AgentView;
 use std::alloc::{AllocError, Global};
 
 /// The agents of a net, and the numbers of the wires that their lines show by one.
@@ -19,7 +19,7 @@ pub(crate) struct NumberedAgents<'a> {
 impl<'a> NumberedAgents<'a> {
     ghost use Rattle.std.specs.Prelude.{◌≡◌, ◌<◌, ◌≤◌, ◌*◌, ◌^◌, length, unwrap_or, IfOk};
     ghost use Rattle.ic_print.specs.Numbers.{port_wire, wire_place, AreWired, IsPlaced};
-    ghost use Rattle.ic_print.specs.Sheets.{wires_in};
+    ghost use Rattle.ic_print.specs.NumberedWires.{wires_in};
 
     /// The agents with the numbers of their wires.
     pub(crate) fn new(

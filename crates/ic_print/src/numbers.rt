@@ -2,13 +2,13 @@ ghost use Rattle.std.specs.Prelude.{◌≡◌, ◌+◌, ◌<◌, ◌≤◌, ◌*
 ghost use Rattle.ic_name.specs.Kinds.{arity};
 ghost use Rattle.ic_print.specs.NetText.{line_wires, numbered_wires};
 ghost use Rattle.ic_print.specs.Numbers.{number_at, AreWired, Enters, GivesNumber, IsNumbering, IsPlaced, port_wires};
-ghost use Rattle.ic_net.specs.Views.{shown_agent};
+ghost use Rattle.ic_sheet.specs.Views.{shown_agent};
 
 use crate::placed::{PlacedAgent, place_of};
 use crate::port_numbers::PortNumbers;
 use crate::ports::partner;
 use ic_name::{Kind, Port};
-use ic_net::AgentView;
+use ic_sheet::AgentView;
 use std::alloc::{AllocError, Global};
 
 /// Numbers of wires between agents, each kept at both ports that the wire joins.

@@ -2,10 +2,10 @@ ghost use Rattle.std.specs.Prelude.{◌≡◌, map, IsSome, slice_get};
 ghost use Rattle.std.specs.List.Sorted.{IsStrictlySortedBy};
 ghost use Rattle.ic_name.specs.Names.{name_cmp};
 ghost use Rattle.ic_theory.specs.Listed.{agent_among, NetAgent};
-ghost use Rattle.ic_net.specs.Views.{shown_agent};
+ghost use Rattle.ic_sheet.specs.Views.{shown_agent};
 
 use ic_name::AgentName;
-use ic_net::AgentView;
+use ic_sheet::AgentView;
 
 /// An agent of a net, with its place among the agents.
 #[derive(Clone, Copy)]

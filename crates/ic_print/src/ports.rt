@@ -1,9 +1,9 @@
 ghost use Rattle.std.specs.Prelude.{◌≡◌, ◌<◌, length};
 ghost use Rattle.ic_print.specs.NetText.{partner_of};
-ghost use Rattle.ic_net.specs.Views.{shown_agent};
+ghost use Rattle.ic_sheet.specs.Views.{shown_agent};
 
 use ic_name::Port;
-use ic_net::AgentView;
+use ic_sheet::AgentView;
 
 /// The partner of an agent's port.
 pub(crate) fn partner<'a>(agent: &AgentView<'a>, port: u8) -> &'a Port

@@ -4,8 +4,8 @@ ghost use Rattle.ic_name.specs.Kinds.{arity};
 ghost use Rattle.ic_print.specs.Lines.{ring_line, texts};
 ghost use Rattle.ic_print.specs.NetText.{agent_line, arguments, header, letter, name_text, numbered, port_label, profile_line, ring_lines};
 ghost use Rattle.ic_print.specs.Numbers.{IsPlaced};
-ghost use Rattle.ic_print.specs.Sheets.{wires_in};
-ghost use Rattle.ic_net.specs.Views.{shown_agent};
+ghost use Rattle.ic_print.specs.NumberedWires.{wires_in};
+ghost use Rattle.ic_sheet.specs.Views.{shown_agent};
 
 use crate::numbered::NumberedAgents;
 use crate::placed::PlacedAgent;

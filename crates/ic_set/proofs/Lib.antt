@@ -50,4 +50,5 @@ pub mod PlacedOrders
 pub mod OrderedIds
 pub mod RankedEvents
 pub mod SetNets
+pub mod LastNames
 pub mod ReadNets

@@ -1,8 +1,11 @@
 -- The net of a standing set, read off its agents and the links by ids.
 use Rattle.std.proofs.Common.{◌≡◌, ◌≢◌, ℕ, zero, suc, ◌+◌, ◌<◌, ◌≤◌, Bool, true, false, List, [], ◌∷◌, ◌++◌, length, ◌⊎◌, inl, inr, Option, Some, None, eqb, refl, sym, ap, arith, subst, ◌∙◌}
 use Rattle.std.specs.Prelude.{if◌then◌else◌, option_map, leb, Result, Ok, Err, IfOk}
-use Rattle.std.specs.BTreeMap.{insert_entry}
+use Rattle.std.specs.Cmp.{nat_cmp_is}
 use Rattle.std.specs.Ordering.{nat_cmp}
+use Rattle.std.specs.declared.cmp.Ordering.TheVariants.{Less}
+use Rattle.std.proofs.lemmas.Cmp.{ranked}
+use Rattle.std.proofs.lemmas.List.{length-append}
 use Rattle.std.proofs.lemmas.Bool.{ne_eqb, eqb-true, eqb-false, leb-true}
 use Rattle.std.proofs.lemmas.Option.{same_Some, slice_get_past}
 use Rattle.ic_name.specs.Names.{Name}
@@ -24,7 +27,7 @@ use Rattle.ic_path.specs.Orders.{IsIn}
 use Rattle.ic_path.specs.Rings.{rings}
 use Rattle.ic_path.proofs.Alikes.{alike-in}
 use Rattle.ic_path.proofs.Orders.{degree-alike}
-use Rattle.ic_path.proofs.Picks.{none_in, in-cons_cases}
+use Rattle.ic_path.proofs.Picks.{none_in, in_first, pick_before, in-cons_cases}
 use Rattle.ic_link.specs.Links.{shape, IsFar, Joins}
 use Rattle.ic_link.specs.declared.store.Far.{Far}
 use Rattle.ic_link.specs.declared.store.Far.TheVariants as far
@@ -41,18 +44,19 @@ use Rattle.ic_theory.proofs.NameKinds.{kind_parts}
 use Rattle.ic_theory.proofs.Ranks.{sound_order}
 use Rattle.ic_shown.specs.Naming.{port_of}
 use Rattle.ic_shown.proofs.ByPorts.{trail_held}
-use Rattle.ic_shown.proofs.Elements.{in-map, in-append_cases}
+use Rattle.ic_shown.proofs.Elements.{in-map, in_behind, in-append_cases}
 use Rattle.ic_shown.proofs.FarSpots.{loose-alike, sound_partner}
 use Rattle.ic_shown.proofs.OnePort.{HasSpot}
 use Rattle.ic_shown.proofs.SameEnds.{degree_is, rings_are}
 use Rattle.ic_cause.specs.Dependents.{Causes}
-use Rattle.ic_net.specs.Makings.{NetParts, listed_parts}
-use Rattle.ic_net.proofs.Makings.{found_with, found_free_with, length-with_free, parts_show}
+use Rattle.ic_sheet.specs.Makings.{NetParts, IsLastName, IsLastNumber, listed_parts}
+use Rattle.ic_sheet.proofs.Makings.{found_last, found_last_free, parts_show}
 use Rattle.ic_roster.specs.Rosters.{Member, AreByName}
 use Rattle.ic_set.specs.Reading.{net_in, IsPortAt, IsLiving, ArePartners, AreNetAgents, AreNetFrees, IsPut}
 use Rattle.ic_set.specs.Sets.{IsStandingSet, IsKept}
 use Rattle.ic_set.specs.Views.{SetView, NamedView, standing, agent_of}
 use Rattle.ic_set.proofs.ConsumedAgents.{kind_there, member_of}
+use Rattle.ic_set.proofs.LastNames.{ComeFrom}
 use Rattle.ic_set.proofs.Namings.{same_member}
 
 -- what holds of a result without error, where it gives another fact
@@ -213,29 +217,41 @@ pub none_unless : {X : Type 0} (o : Option X) → ((x : X) → o ≡ Some x → 
 none_unless None h = refl
 none_unless (Some x) h = absurd (h x refl)
 
+-- a number that isn't other than zero is zero
+pub zero_unless : (n : ℕ) → (n ≢ 0 → ⊥) → n ≡ 0
+zero_unless zero h = refl
+zero_unless (suc n) h = absurd (h (λ e. cc))
+
 -- the agents that came so far, of those under these ids
 pub record HaveCome (v : SetView) (ids : List AgentId) (as' : List Listed) : Type 0 where
   pub only : (n : Name) (a : Listed) → agent_among n as' ≡ Some a → (kind_of v.start (standing v) n ≡ Some a.kind) × ArePartners v n a.partners
   pub each : (m : Member) → IsIn m v.agents → IsIn m.id ids → consumed_times m.name (standing v) ≡ 0 → agent_among m.name as' ≢ None
+  pub from : ComeFrom v ids as'
 
 -- none at first
 pub none_come : (v : SetView) → HaveCome v [] []
-none_come v = record { only = λ n a e. absurd cc; each = λ m i j z e. none_in j }
+none_come v = record { only = λ n a e. absurd cc; each = λ m i j z e. none_in j; from = λ a i. absurd (none_in i) }
 
 -- the only member of a list
 in_one : {X : Type 0} {x y : X} → IsIn x (y ∷ []) → x ≡ y
 in_one i = elim (in-cons_cases i) [ inl q ↦ q | inr j ↦ absurd (none_in j) ]
 
+-- a member whose id is among these is one of those with one id more
+more_ids : (v : SetView) {ids : List AgentId} {n : Name} (id : AgentId) → ((m : Member) × IsIn m v.agents × IsIn m.id ids × (m.name ≡ n)) → (m : Member) × IsIn m v.agents × IsIn m.id (ids ++ id ∷ []) × (m.name ≡ n)
+more_ids v id (m, there, (rest, pick), named) = (m, there, (rest ++ id ∷ [], pick_before (id ∷ []) pick), named)
+
 module _ (v : SetView) (set : IsStandingSet v) where
   -- one id more
-  pub one_more : (ids : List AgentId) (id : AgentId) (old new : List Listed) → HaveCome v ids old → IsPut v id old new → HaveCome v (ids ++ id ∷ []) new
-  one_more ids id old new h (inl (empty, e)) = subst (HaveCome v (ids ++ id ∷ [])) (sym e) (record {
+  pub one_more : (ids : List AgentId) (id : AgentId) (old new : List Listed) → ((n : Name) (k : Kind) → IsLiving v id n k → IsLastName n old) → HaveCome v ids old → IsPut v id old new → HaveCome v (ids ++ id ∷ []) new
+  one_more ids id old new last h (inl (empty, e)) = subst (HaveCome v (ids ++ id ∷ [])) (sym e) (record {
     only = h.only;
     each = λ m i j z. elim (in-append_cases ids j) [ inl p ↦ h.each m i p z | inr q ↦ (let s : m.id ≡ id = in_one q in absurd (empty m.name m.kind (subst (λ d. IsIn (record { id = d; name = m.name; kind = m.kind }) v.agents) s i, z))) ];
+    from = λ b i. more_ids v id (h.from b i);
   })
-  one_more ids id old new h (inr (a, living, ps, e)) = subst (HaveCome v (ids ++ id ∷ [])) (sym e) (record {
-    only = λ n b f. only n b (same_name n a.name) refl (sym (found_with n a old) ∙ f);
-    each = λ m i j z f. each m i z (in-append_cases ids j) (same_name m.name a.name) refl (sym (found_with m.name a old) ∙ f);
+  one_more ids id old new last h (inr (a, living, ps, e)) = subst (HaveCome v (ids ++ id ∷ [])) (sym e) (record {
+    only = λ n b f. only n b (same_name n a.name) refl (sym (found_last n a old (last a.name a.kind living)) ∙ f);
+    each = λ m i j z f. each m i z (in-append_cases ids j) (same_name m.name a.name) refl (sym (found_last m.name a old (last a.name a.kind living)) ∙ f);
+    from = λ b i. elim (in-append_cases old i) [ inl p ↦ more_ids v id (h.from b p) | inr q ↦ (record { id = id; name = a.name; kind = a.kind }, living.0, in_behind ids (in_first id []), ap (λ (x : Listed). x.name) (sym (in_one q))) ];
   })
     where
       only : (n : Name) (b : Listed) (t : Bool) → same_name n a.name ≡ t → (if t then Some a else agent_among n old) ≡ Some b → (kind_of v.start (standing v) n ≡ Some b.kind) × ArePartners v n b.partners
@@ -272,14 +288,31 @@ module _ (v : SetView) (set : IsStandingSet v) where
       kinds n (Some a) e = sym (h.only n a e).0
       kinds n None e = missing n e (kind_of v.start (standing v) n) refl
 
+-- what is less than a number is less than the next one, too
+less_more : (j k : ℕ) → nat_cmp j k ≡ Less → nat_cmp j (k + 1) ≡ Less
+less_more j k h = let l = ranked j k Less (sym h) in sym (nat_cmp_is j (k + 1) Less (omega (arith, l)))
+
+below_next : (k : ℕ) → nat_cmp k (k + 1) ≡ Less
+below_next k = sym (nat_cmp_is k (k + 1) Less (omega arith))
+
 -- the free names below a number that came
 pub record AreFreesTo (v : SetView) (k : ℕ) (fs : List (ℕ × Port)) : Type 0 where
   pub below : (j : ℕ) → j < k → free_among j fs ≡ (net_in v).partner (port.Name j)
   pub above : (j : ℕ) → k ≤ j → free_among j fs ≡ None
+  pub last : IsLastNumber k fs
   pub few : length fs ≤ k
 
 pub no_frees : (v : SetView) → AreFreesTo v 0 []
-no_frees v = record { below = λ j h. absurd (omega (arith, h)); above = λ j h. refl; few = omega arith }
+no_frees v = record { below = λ j h. absurd (omega (arith, h)); above = λ j h. refl; last = tt; few = omega arith }
+
+-- a number that is greater than all is so still when it grows by one, and when it comes
+last_still : (k : ℕ) (fs : List (ℕ × Port)) → IsLastNumber k fs → IsLastNumber (k + 1) fs
+last_still k [] h = tt
+last_still k (f ∷ fs) h = (less_more f.0 k h.0, last_still k fs h.1)
+
+last_after : (k : ℕ) (p : Port) (fs : List (ℕ × Port)) → IsLastNumber k fs → IsLastNumber (k + 1) (fs ++ (k, p) ∷ [])
+last_after k p [] h = (below_next k, tt)
+last_after k p (f ∷ fs) h = (less_more f.0 k h.0, last_after k p fs h.1)
 
 -- a number is below another one or not
 below_or : (j k : ℕ) → (j < k) ⊎ (k ≤ j)
@@ -297,6 +330,7 @@ pub free_passes : (v : SetView) (k : ℕ) (fs : List (ℕ × Port)) → AreFrees
 free_passes v k fs h none = record {
   below = λ j l. at j l (eqb j k) refl;
   above = λ j l. h.above j (omega (arith, l));
+  last = last_still k fs h.last;
   few = (let f = h.few in omega (arith, f));
 }
   where
@@ -305,11 +339,12 @@ free_passes v k fs h none = record {
     at j l false t = h.below j (below_last j k l (eqb-false j k t))
 
 -- a name with one
-pub free_comes : (v : SetView) (k : ℕ) (p : Port) (fs : List (ℕ × Port)) → AreFreesTo v k fs → Some p ≡ (net_in v).partner (port.Name k) → AreFreesTo v (k + 1) (insert_entry nat_cmp fs k p)
+pub free_comes : (v : SetView) (k : ℕ) (p : Port) (fs : List (ℕ × Port)) → AreFreesTo v k fs → Some p ≡ (net_in v).partner (port.Name k) → AreFreesTo v (k + 1) (fs ++ (k, p) ∷ [])
 free_comes v k p fs h some = record {
-  below = λ j l. found_free_with j k p fs ∙ at j l (eqb j k) refl;
-  above = λ j l. found_free_with j k p fs ∙ past j l (eqb j k) refl;
-  few = (let f = h.few in let g = length-with_free k p fs in omega (arith, f, g));
+  below = λ j l. found_last_free j k p fs h.last ∙ at j l (eqb j k) refl;
+  above = λ j l. found_last_free j k p fs h.last ∙ past j l (eqb j k) refl;
+  last = last_after k p fs h.last;
+  few = (let f = h.few in let g = length-append fs ((k, p) ∷ []) in omega (arith, f, g));
 }
   where
     at : (j : ℕ) → j < k + 1 → (t : Bool) → eqb j k ≡ t → (if t then Some p else free_among j fs) ≡ (net_in v).partner (port.Name j)

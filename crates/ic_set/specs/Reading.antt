@@ -1,5 +1,5 @@
 -- What is read off a standing set for its net.
-use Rattle.std.specs.Prelude.{◌≡◌, ℕ, ◌⊎◌, List, option_map, Some, slice_get}
+use Rattle.std.specs.Prelude.{◌≡◌, ℕ, ◌⊎◌, List, [], ◌∷◌, ◌++◌, option_map, Some, slice_get}
 use Rattle.ic_name.specs.Names.{Name}
 use Rattle.ic_name.specs.declared.ids.AgentId.{AgentId}
 use Rattle.ic_name.specs.declared.ids.Spot.{Spot}
@@ -11,7 +11,6 @@ use Rattle.ic_path.specs.Orders.{IsIn}
 use Rattle.ic_theory.specs.Listed.{NetAgent as Listed, agent_among, free_among}
 use Rattle.ic_theory.specs.Nets.{Net, kind_of, net_of}
 use Rattle.ic_theory.specs.Sets.{consumed_times}
-use Rattle.ic_net.specs.Makings.{with_agent}
 use Rattle.ic_roster.specs.Rosters.{Member}
 use Rattle.ic_set.specs.Views.{SetView, standing}
 
@@ -45,4 +44,4 @@ AreNetFrees v fs = (j : ℕ) → free_among j fs ≡ (net_in v).partner (port.Na
 abbrev pub IsPut : SetView → AgentId → List Listed → List Listed → Type 0
 IsPut v id old new =
     (((n : Name) (k : Kind) → IsLiving v id n k → ⊥) × (new ≡ old))
-    ⊎ ((a : Listed) × IsLiving v id a.name a.kind × ArePartners v a.name a.partners × (new ≡ with_agent old a))
+    ⊎ ((a : Listed) × IsLiving v id a.name a.kind × ArePartners v a.name a.partners × (new ≡ old ++ a ∷ []))

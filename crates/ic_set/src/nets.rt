@@ -14,8 +14,9 @@ use crate::orders::Placed;
 use ic_cause::RankedEvent;
 use ic_link::LinkStore;
 use ic_name::Event;
-use ic_net::{Net, NetMaker, NetSheet};
+use ic_net::Net;
 use ic_roster::Roster;
+use ic_sheet::{NetMaker, NetSheet};
 use std::alloc::{AllocError, Global};
 
 /// So many agents are more than a net counts.
@@ -50,7 +51,7 @@ impl<L: LinkStore> BareSet<L> {
         ensures every_order { IfOk result (λ net. (order : List AnEvent) → Alike (standing self.now.set) (then_fired [] order) → AreAfterCauses self.now.set.start (then_fired [] order) (then_fired [] order) → IsSameNet (shown net) (steps (net_of self.now.set.start []) order)) }
     {
         self.lawful();
-        let net = self.sheet()?.into_net(self.alloc)?;
+        let net = Net::of_sheet(self.alloc, self.sheet()?)?;
         Ok(net)
     }
 

@@ -5,14 +5,15 @@ ghost use Rattle.ic_name.specs.declared.kinds.Kind.{Kind as AKind};
 ghost use Rattle.ic_name.specs.declared.ports.Port.{Port as APort};
 ghost use Rattle.ic_name.specs.declared.ports.Port.TheVariants as port_variants;
 ghost use Rattle.ic_names.specs.Tables.{name_at};
-ghost use Rattle.ic_net.specs.Nets.{partner_list};
+ghost use Rattle.ic_sheet.specs.Makings.{IsLastName};
+ghost use Rattle.ic_sheet.specs.Sheets.{partner_list};
 ghost use Rattle.ic_set.specs.Reading.{net_in, IsPortAt, IsLiving, ArePartners, AreNetAgents, AreNetFrees, IsPut};
 
 use crate::bare::BareSet;
 use ic_link::{Far, LinkStore};
 use ic_name::{AgentId, AgentName, Kind, Port, Spot};
 use ic_names::NameId;
-use ic_net::{NetMaker, Partners};
+use ic_sheet::{NetMaker, Partners};
 use std::alloc::AllocError;
 
 impl<L: LinkStore> BareSet<L> {
@@ -52,6 +53,7 @@ impl<L: LinkStore> BareSet<L> {
     /// The agent under this id comes, with the partners of its ports, if there is one that isn't consumed. At an error memory
     /// ran out.
     fn put_agent(&self, agent: AgentId, maker: &mut NetMaker) -> Result<(), AllocError>
+        requires { (n : AName) (k : AKind) → IsLiving self.now.set agent n k → IsLastName n maker.old.agents }
         ensures agents { OnOk result (IsPut self.now.set agent maker.old.agents maker.new.agents) }
         ensures frees { OnOk result (maker.new.frees ≡ maker.old.frees) }
         ensures profile { OnOk result (maker.new.profile ≡ maker.old.profile) }

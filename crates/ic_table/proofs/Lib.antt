@@ -6,8 +6,6 @@ pub mod PartedEnds
 pub mod Takes
 pub mod Present
 pub mod Grown
-pub mod FoundSlots
-pub mod FilledSlots
 pub mod PortWrites
 pub mod RowWrites
 pub mod Chains

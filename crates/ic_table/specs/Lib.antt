@@ -1,7 +1,5 @@
 pub mod Ends
 pub mod Labels
-pub mod OwnSlots
-pub mod PackedSpots
 pub mod Records
 pub mod Chains
 pub mod Changes

@@ -3,7 +3,6 @@
 
 mod changes;
 mod labels;
-mod packed_spot;
 mod records;
 mod slots;
 mod splices;

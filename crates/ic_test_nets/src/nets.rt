@@ -95,8 +95,8 @@ fn active_pair(alloc: Global, net: &Net) -> Option<(u16, u16)> {
 
 /// The start number and the kind of the second of a net's two agents, and the number of its partners.
 fn second_agent(alloc: Global, net: &Net) -> Option<(u16, Kind, usize)> {
-    let agents = net.agent_views(alloc).ok()?;
-    match agents.as_slice() {
+    let view = net.view(alloc).ok()?;
+    match view.agents() {
         [_, second] => Some((
             second.name.start_number(),
             second.kind,
@@ -108,8 +108,8 @@ fn second_agent(alloc: Global, net: &Net) -> Option<(u16, Kind, usize)> {
 
 /// The numbers of a net's two loose names.
 fn loose_names(alloc: Global, net: &Net) -> Option<(u32, u32)> {
-    let frees = net.free_views(alloc).ok()?;
-    match frees.as_slice() {
+    let view = net.view(alloc).ok()?;
+    match view.frees() {
         [first, second] => Some((first.number, second.number)),
         _ => None,
     }

@@ -13,7 +13,7 @@ use ic_grammar::Refusal;
 use ic_grammar::limits::{MAX_FREE_NAMES, MAX_NAME, MAX_NESTING};
 use ic_name::limits::MAX_START_AGENTS;
 use ic_name::{Kind, Profile};
-use ic_net::Start;
+use ic_start::Start;
 use std::alloc::{AllocError, Global};
 
 /// What comes next in the parentheses of a symbol.

@@ -10,7 +10,7 @@ use crate::fault::TextFault;
 use crate::lexer::Lexer;
 use ic_grammar::Refusal;
 use ic_grammar::limits::MAX_TEXT;
-use ic_net::Start;
+use ic_start::Start;
 use std::alloc::Global;
 
 /// The start that a text denotes, or the first thing that is wrong with it. It goes over the text once.

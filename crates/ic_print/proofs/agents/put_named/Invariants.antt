@@ -2,8 +2,8 @@ use Rattle.std.proofs.Common.{◌≡◌, ◌++◌, map, take}
 use Rattle.std.specs.List.{flat_map}
 use Rattle.ic_print.specs.Lines.{texts}
 use Rattle.ic_print.specs.AgentsText.{named_line}
-use Rattle.ic_print.specs.Sheets.{wires_in}
-use Rattle.ic_net.specs.Views.{shown_agent}
+use Rattle.ic_print.specs.NumberedWires.{wires_in}
+use Rattle.ic_sheet.specs.Views.{shown_agent}
 use Rattle.ic_print.proofs.agents.put_named.Given as goal
 
 abbrev pub invariant-loop-place : goal.invariant-loop-place

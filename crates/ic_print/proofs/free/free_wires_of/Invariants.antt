@@ -1,7 +1,7 @@
 use Rattle.std.proofs.Common.{◌≡◌, map, take}
 use Rattle.ic_print.specs.Lines.{lent_texts, texts}
 use Rattle.ic_print.specs.NetText.{free_wires}
-use Rattle.ic_net.specs.Views.{shown_free}
+use Rattle.ic_sheet.specs.Views.{shown_free}
 use Rattle.ic_print.proofs.free.free_wires_of.Given as goal
 
 abbrev pub invariant-loop-free : goal.invariant-loop-free

@@ -1,6 +1,6 @@
 use Rattle.std.proofs.Common.{map, take, arith}
 use Rattle.std.proofs.lemmas.List.{length-map, length-take}
-use Rattle.ic_net.specs.Views.{shown_agent}
+use Rattle.ic_sheet.specs.Views.{shown_agent}
 use Rattle.ic_print.proofs.Numbering.{whole_view}
 use Rattle.ic_print.proofs.WireCounts.{few_numbers}
 use Rattle.ic_print.proofs.numbers.number_wires.Goals as goal

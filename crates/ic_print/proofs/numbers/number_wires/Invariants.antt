@@ -1,7 +1,7 @@
 use Rattle.std.proofs.Common.{◌≡◌, length, map, take}
 use Rattle.ic_print.specs.NetText.{numbered_wires}
 use Rattle.ic_print.specs.Numbers.{IsNumbering}
-use Rattle.ic_net.specs.Views.{shown_agent}
+use Rattle.ic_sheet.specs.Views.{shown_agent}
 use Rattle.ic_print.proofs.numbers.number_wires.Given as goal
 
 abbrev pub invariant-loop-place : goal.invariant-loop-place

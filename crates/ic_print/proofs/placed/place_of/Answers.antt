@@ -2,8 +2,8 @@ use Rattle.std.proofs.Common.{◌≡◌, subst, map, slice_get, rules, ℕ, Resu
 use Rattle.std.specs.Result.{MatchResult}
 use Rattle.std.proofs.lemmas.List.Sorted.{answers_always}
 use Rattle.ic_theory.specs.Listed.{agent_among}
-use Rattle.ic_net.specs.Views.{shown_agent}
-use Rattle.ic_net.specs.declared.views.AgentView.{AgentView}
+use Rattle.ic_sheet.specs.Views.{shown_agent}
+use Rattle.ic_sheet.specs.declared.parts.AgentView.{AgentView}
 use Rattle.ic_print.proofs.Places.{searched}
 use Rattle.ic_print.proofs.placed.place_of.Goals as goal
 

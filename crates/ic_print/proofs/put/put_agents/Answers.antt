@@ -2,7 +2,7 @@ use Rattle.std.proofs.Common.{◌≡◌, ◌+◌, length, map}
 use Rattle.std.specs.Prelude.{All}
 use Rattle.ic_name.specs.Kinds.{arity}
 use Rattle.ic_theory.specs.Listed.{NetAgent}
-use Rattle.ic_net.specs.Views.{shown_agent}
+use Rattle.ic_sheet.specs.Views.{shown_agent}
 use Rattle.ic_print.proofs.Numbering.{whole_view}
 use Rattle.ic_print.proofs.put.put_agents.Goals as goal
 

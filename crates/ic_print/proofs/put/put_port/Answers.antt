@@ -2,8 +2,8 @@ use Rattle.std.proofs.Common.{◌++◌, ◌∙◌, ap, sym}
 use Rattle.std.proofs.lemmas.Result.{IfOk-equal}
 use Rattle.ic_print.specs.Lines.{texts}
 use Rattle.ic_print.specs.NetText.{numbered, port_label}
-use Rattle.ic_print.specs.Sheets.{wires_in}
-use Rattle.ic_net.specs.Views.{shown_agent}
+use Rattle.ic_print.specs.NumberedWires.{wires_in}
+use Rattle.ic_sheet.specs.Views.{shown_agent}
 use Rattle.ic_print.proofs.Labels.{number_label}
 use Rattle.ic_print.proofs.put.put_port.Goals as goal
 

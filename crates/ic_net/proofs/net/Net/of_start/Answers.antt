@@ -8,7 +8,7 @@ use Rattle.ic_path.specs.FarEnds.{far}
 use Rattle.ic_link.specs.Links.{shape}
 use Rattle.ic_net.specs.FarTables.{HasFarEnds, agent_partner}
 use Rattle.ic_start.specs.Starts.{join_of}
-use Rattle.ic_net.specs.Nets.{listed_agent}
+use Rattle.ic_sheet.specs.Sheets.{listed_agent}
 use Rattle.ic_theory.specs.Firings.{nothing}
 use Rattle.ic_net.proofs.FarTableFacts.{rings-le}
 use Rattle.ic_net.proofs.StartNets.{few_ends, start_is_net, start_net_by, length-listed}

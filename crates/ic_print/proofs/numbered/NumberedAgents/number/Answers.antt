@@ -1,6 +1,6 @@
 use Rattle.std.proofs.Common.{ap, ◌∙◌}
 use Rattle.std.specs.Prelude.{unwrap_or}
-use Rattle.ic_net.specs.Views.{shown_agent}
+use Rattle.ic_sheet.specs.Views.{shown_agent}
 use Rattle.ic_print.proofs.numbered.NumberedAgents.number.Goals as goal
 
 pub returns : goal.returns

@@ -1,5 +1,5 @@
 use Rattle.std.proofs.Common.{map}
-use Rattle.ic_net.specs.Views.{shown_agent}
+use Rattle.ic_sheet.specs.Views.{shown_agent}
 use Rattle.ic_print.proofs.Numbering.{enters_three}
 use Rattle.ic_print.proofs.numbers.WireNumbers.enter_line.Goals as goal
 

@@ -2,7 +2,7 @@ use Rattle.std.proofs.Common.{◌≡◌, ◌+◌, map, sym, subst, ap, ◌∙◌
 use Rattle.std.specs.Prelude.{is_some}
 use Rattle.std.proofs.lemmas.List.{length-map}
 use Rattle.std.proofs.lemmas.Option.{slice_get_within}
-use Rattle.ic_net.specs.Views.{shown_agent}
+use Rattle.ic_sheet.specs.Views.{shown_agent}
 use Rattle.ic_print.specs.Numbers.{GivesNumber}
 use Rattle.ic_print.proofs.Numbering.{enters_again, enters_new}
 use Rattle.ic_print.proofs.Wired.{far_end, short}

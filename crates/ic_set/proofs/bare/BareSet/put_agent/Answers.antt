@@ -1,11 +1,21 @@
-use Rattle.std.proofs.Common.{inl, refl, sym, ap, subst, ◌∙◌}
+use Rattle.std.proofs.Common.{◌≡◌, inl, refl, sym, ap, subst, ◌∙◌}
 use Rattle.ic_names.specs.Tables.{name_at}
 use Rattle.ic_path.specs.Orders.{IsIn}
+use Rattle.ic_sheet.specs.Makings.{IsLastName}
 use Rattle.ic_roster.specs.Rosters.{Member}
 use Rattle.ic_theory.specs.Sets.{consumed_times}
 use Rattle.ic_set.specs.Views.{NamedView, standing}
 use Rattle.ic_set.proofs.Namings.{same_member}
+use Rattle.ic_set.proofs.ReadNets.{zero_unless}
 use Rattle.ic_set.proofs.bare.BareSet.put_agent.Goals as goal
+
+pub push_agent-requires : goal.push_agent-requires
+push_agent-requires g c =
+    let v = c.args.self.now.set in
+    let name = name_at c.args.self.now.names c.in-Some.entry.name.place in
+    let found = subst (λ (w : NamedView). IsIn (record { id = c.args.agent; name = name_at w.names c.in-Some.entry.name.place; kind = c.in-Some.entry.kind }) w.set.agents) c.self.view_is c.in-Some.ensures.found in
+    let stands : consumed_times name (standing v) ≡ 0 = zero_unless (consumed_times name (standing v)) (λ n. (let t = c.is_consumed.ensures.1 n in cc)) in
+    record { last = subst (λ n. IsLastName n c.args.maker.now.agents) (sym c.in_ok-name.ensures) (c.requires name c.in-Some.entry.kind (found, stands)) }
 
 pub returns-in_default-clause-agents : goal.returns-in_default-clause-agents
 returns-in_default-clause-agents g c = inl (λ n k living. c.in_default.ensures.absent (record { id = c.args.agent; name = n; kind = k }) (subst (λ (w : NamedView). IsIn (record { id = c.args.agent; name = n; kind = k }) w.set.agents) (sym c.self.view_is) living.0) refl, refl)

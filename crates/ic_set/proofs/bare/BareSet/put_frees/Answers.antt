@@ -1,10 +1,13 @@
 use Rattle.std.proofs.Common.{◌≡◌, ◌+◌, length, refl, sym, ap, arith, subst, ◌∙◌}
 use Rattle.std.proofs.lemmas.List.{length-map}
-use Rattle.ic_net.specs.Makings.{NetParts}
+use Rattle.ic_sheet.specs.Makings.{NetParts}
 use Rattle.ic_set.specs.Views.{NamedView}
 use Rattle.ic_set.proofs.ReadNets.{AreFreesTo, no_frees, free_passes, free_comes, all_frees, none_unless}
 use Rattle.ic_set.proofs.bare.BareSet.put_frees.Goals.{in-Some+in_ok-push_free, in_default}
 use Rattle.ic_set.proofs.bare.BareSet.put_frees.Goals as goal
+
+pub push_free-requires : goal.push_free-requires
+push_free-requires g c = record { last = c.loop-number.invariant.frees.last }
 
 pub loop-number-init : goal.loop-number-init
 loop-number-init g c = record { agents = refl; frees = rw c.requires (no_frees c.args.self.now.set); profile = refl }

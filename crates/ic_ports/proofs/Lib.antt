@@ -1,0 +1,5 @@
+pub mod Records
+pub mod OwnSlots
+pub mod FoundSlots
+pub mod Lawful
+pub mod Counts

@@ -1,0 +1,4 @@
+pub mod Packed
+pub mod Slots
+pub mod Ports
+pub mod Counts

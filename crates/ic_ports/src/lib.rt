@@ -1,0 +1,12 @@
+//! Port records in slots that are found by arithmetic.
+#![tactic(auto)]
+
+mod agent_ports;
+mod own_ports;
+mod packed_ends;
+pub mod port_record;
+pub mod port_store;
+mod strays;
+
+pub use port_record::{EndSlots, PathLabel, PortRecord};
+pub use port_store::PortStore;

@@ -1,0 +1,4 @@
+pub mod ReachedNets
+pub mod WholeTables
+pub mod InOrder
+pub mod Makings

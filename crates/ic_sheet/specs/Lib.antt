@@ -1,0 +1,3 @@
+pub mod Sheets
+pub mod Views
+pub mod Makings
