@@ -1,5 +1,5 @@
 -- What is seen of the nodes.
-use Rattle.std.proofs.Common.{◌≡◌, ℕ, Bool, true, false, cond, ◌||◌, List, [], ◌∷◌, Option, Some, None, refl, sym, ap, ◌∙◌}
+use Rattle.std.proofs.Common.{◌≡◌, Bool, true, false, cond, ◌||◌, List, [], ◌∷◌, Option, Some, None, refl, sym, ap, ◌∙◌}
 use Rattle.std.specs.Prelude.{filter_map, option_map, unwrap_or, is_some, IsSome, All, Result, Ok, Err, OnErr}
 use Rattle.std.specs.FinMap.{get-from_entries}
 use Rattle.std.specs.FinMap.Entries.{find}
@@ -8,14 +8,13 @@ use Rattle.std.proofs.lemmas.List.Elements.{All-contains}
 use Rattle.ic_path.proofs.Picks.{in-contains}
 use Rattle.ic_name.specs.declared.ids.EventId.{EventId}
 use Rattle.ic_name.specs.Spots.{same_event}
-use Rattle.ic_events.specs.Events.{slot_under}
 use Rattle.ic_cause.specs.declared.nodes.Node.{Node}
 use Rattle.ic_cause.specs.EventOrders.{event_cmp}
 use Rattle.ic_cause.specs.Dependents.{Causes, KeptEvents, causes_in, DependsOn, AreDependents}
 use Rattle.ic_cause.specs.Nodes.{Nodes, events_of, entry_of, kept_events, node_of, causes_of, causes_at, dependents_at, has, AreLinked}
 use Rattle.ic_cause.specs.NodeChanges.{SameNodes}
 use Rattle.ic_cause.proofs.EventOrder.{event_total, event_at, same_event_true}
-use Rattle.ic_cause.proofs.IndexEvents.{in_events}
+use Rattle.ic_cause.proofs.NodeEvents.{in_events}
 use Rattle.ic_cause.proofs.NodeLoops.{has_in, in_has}
 
 -- the same on either side
@@ -41,11 +40,11 @@ find-causes nodes e (x ∷ es) = by (same_event e x) (causes_of nodes x) refl re
 
 -- the causes that are seen are those of the nodes
 pub causes_seen : (nodes : Nodes) (e : EventId) → causes_in (kept_events nodes) e ≡ causes_of nodes e
-causes_seen nodes e = get-from_entries event_total (filter_map (entry_of nodes) (events_of nodes.index)) e ∙ find-causes nodes e (events_of nodes.index) ∙ by (slot_under nodes.index e) refl
+causes_seen nodes e = get-from_entries event_total (filter_map (entry_of nodes) (events_of nodes)) e ∙ find-causes nodes e (events_of nodes) ∙ by (node_of nodes e) refl
   where
-    by : (o : Option ℕ) → slot_under nodes.index e ≡ o → cond (has e (events_of nodes.index)) (causes_of nodes e) None ≡ causes_of nodes e
-    by None h = rw h (either_same None (has e (events_of nodes.index)))
-    by (Some slot) h = rw (in_has (in_events nodes.index e slot h)) refl
+    by : (o : Option Node) → node_of nodes e ≡ o → cond (has e (events_of nodes)) (causes_of nodes e) None ≡ causes_of nodes e
+    by None h = rw h (either_same None (has e (events_of nodes)))
+    by (Some node) h = rw (in_has (in_events nodes e node h)) refl
 
 -- the same of a value that is seen
 pub causes_seen_as : (nodes : Nodes) (kept : KeptEvents) → kept_events nodes ≡ kept → (e : EventId) → causes_in kept e ≡ causes_of nodes e

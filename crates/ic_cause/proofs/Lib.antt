@@ -6,10 +6,11 @@ pub mod RankFacts
 pub mod MakerFacts
 pub mod PathEnds
 pub mod SwapRemoves
-pub mod SlotNodes
+pub mod NodeRows
+pub mod RowOrMap
 pub mod NodeFacts
 pub mod NodeLoops
-pub mod IndexEvents
+pub mod NodeEvents
 pub mod SameLinks
 pub mod AddedLinks
 pub mod RemovedLinks

@@ -4,6 +4,7 @@ pub mod Makers
 pub mod Places
 pub mod EventOrders
 pub mod Dependents
+pub mod NodeRows
 pub mod Nodes
 pub mod NodeChanges
 pub mod LentNodes

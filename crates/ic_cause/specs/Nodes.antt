@@ -1,32 +1,25 @@
 -- The nodes of the events that are kept.
-use Rattle.std.specs.Prelude.{◌≡◌, ℕ, ◌+◌, Bool, List, [], ◌∷◌, ◌++◌, map, filter_map, Option, Some, None, IsSome, option_map, option_and_then, unwrap_or, slice_index_or}
+use Rattle.std.specs.Prelude.{◌≡◌, ℕ, ◌+◌, Bool, List, [], ◌∷◌, ◌++◌, filter_map, Option, option_map, unwrap_or}
 use Rattle.std.specs.FinMap.{from_entries}
 use Rattle.std.specs.List.{list_any}
+use Rattle.std.specs.Map.{lookup, keys_of}
+use Rattle.std.specs.Option.{option_or}
 use Rattle.ic_path.specs.Orders.{Pick, IsIn}
 use Rattle.ic_name.specs.declared.ids.EventId.{EventId}
 use Rattle.ic_name.specs.Spots.{same_event}
-use Rattle.ic_events.specs.declared.event_rows.EventRow.{EventRow}
-use Rattle.ic_events.specs.Events.{EventSlots, slot_under}
 use Rattle.ic_cause.specs.declared.nodes.Node.{Node}
+use Rattle.ic_cause.specs.declared.node_rows.NodeRow.{NodeRow}
+use Rattle.ic_cause.specs.NodeRows.{node_kept}
 use Rattle.ic_cause.specs.Dependents.{Causes, KeptEvents}
 
--- the slots of events, and the nodes in the slots
+-- the nodes of events: in rows, or else in a map
 pub record Nodes : Type 0 where
-  pub index : EventSlots
-  pub slots : List (Option Node)
-
--- the node in a slot
-abbrev pub node_in : Nodes → ℕ → Option Node
-node_in nodes slot = slice_index_or nodes.slots slot None
+  pub rows : List NodeRow
+  pub others : List (EventId × Node)
 
 -- the node of an event
 abbrev pub node_of : Nodes → EventId → Option Node
-node_of nodes e = option_and_then (node_in nodes) (slot_under nodes.index e)
-
--- the slot of an event has a node, and is no other event's
-pub record IsSound (nodes : Nodes) : Type 0 where
-  pub held : (e : EventId) (slot : ℕ) → slot_under nodes.index e ≡ Some slot → IsSome (node_in nodes slot)
-  pub own : (e f : EventId) (slot : ℕ) → slot_under nodes.index e ≡ Some slot → slot_under nodes.index f ≡ Some slot → e ≡ f
+node_of nodes e = option_or (node_kept nodes.rows e) (lookup (same_event e) nodes.others)
 
 -- its direct causes
 abbrev pub causes_of : Nodes → Causes
@@ -45,13 +38,13 @@ abbrev pub dependents_at : Nodes → EventId → List EventId
 dependents_at nodes e = unwrap_or (dependents_of nodes e) []
 
 -- the events of rows, of which the first has this number
-abbrev pub row_events : ℕ → List EventRow → List EventId
+abbrev pub row_events : ℕ → List NodeRow → List EventId
 row_events number [] = []
 row_events number (row ∷ rows) = record { slot = number; line = row.line } ∷ row_events (number + 1) rows
 
--- the events that may have a slot
-abbrev pub events_of : EventSlots → List EventId
-events_of index = row_events 0 index.rows ++ map (λ x. x.0) index.others
+-- the events that may have a node
+abbrev pub events_of : Nodes → List EventId
+events_of nodes = row_events 0 nodes.rows ++ keys_of nodes.others
 
 -- an event with its causes, if it is kept
 abbrev pub entry_of : Nodes → EventId → Option (EventId × List EventId)
@@ -59,7 +52,7 @@ entry_of nodes e = option_map (λ causes. (e, causes)) (causes_of nodes e)
 
 -- the events that are kept, without their dependents
 abbrev pub kept_events : Nodes → KeptEvents
-kept_events nodes = from_entries (filter_map (entry_of nodes) (events_of nodes.index))
+kept_events nodes = from_entries (filter_map (entry_of nodes) (events_of nodes))
 
 -- whether the event is in the list
 abbrev pub has : EventId → List EventId → Bool

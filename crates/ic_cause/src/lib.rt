@@ -6,6 +6,7 @@ pub mod dependents;
 pub mod journal;
 pub mod laws;
 pub mod makers;
+mod node_rows;
 mod node_slots;
 mod nodes;
 pub mod order;

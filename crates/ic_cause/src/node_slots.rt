@@ -1,34 +1,31 @@
-ghost use Rattle.std.specs.Prelude.{◌≡◌, ◌<◌, Some, None, IfOk, OnOk, OnErr, option_copied, if◌then◌else◌};
+ghost use Rattle.std.specs.Prelude.{◌≡◌, Some, None, OnOk, OnErr, option_copied, if◌then◌else◌};
 ghost use Rattle.std.specs.Option.{option_copied_mut};
 ghost use Rattle.std.specs.Borrow.{sem};
-ghost use Rattle.slab.specs.Slab.{HasRoomFor};
 ghost use Rattle.ic_name.specs.declared.ids.EventId.{EventId as AnEventId};
 ghost use Rattle.ic_name.specs.Spots.{same_event};
 ghost use Rattle.ic_cause.specs.Nodes.{node_of};
 ghost use Rattle.ic_cause.specs.LentNodes.{lends_node};
 
+use crate::node_rows::NodeRows;
 use crate::nodes::Node;
-use ic_events::EventIndex;
 use ic_name::EventId;
-use slab::Slab;
 use std::alloc::{AllocError, Global};
+use std::collections::HashMap;
 use std::marker::Model;
 
-/// The nodes of events, each in a slot of its own, which is found by its event in constant time.
+/// The nodes of events, each in the row at the event's slot; the few that have no room there lie in a map.
 #[derive(Drop)]
 pub(crate) struct NodeSlots {
-    index: EventIndex,
-    nodes: Slab<Node>,
+    rows: NodeRows,
+    others: HashMap<EventId, Node>,
 }
 
 impl Model for NodeSlots {
-    ghost use Rattle.ic_cause.specs.Nodes.{Nodes, IsSound};
+    ghost use Rattle.ic_cause.specs.Nodes.{Nodes};
 
     ghost Value = { Nodes };
 
-    ghost view = { λ s. record { index = s.index; slots = s.nodes.slots } };
-
-    ghost invariant = { λ s. IsSound (record { index = s.index; slots = s.nodes.slots }) };
+    ghost view = { λ s. record { rows = s.rows; others = s.others.entries } };
 }
 
 impl NodeSlots {
@@ -37,8 +34,8 @@ impl NodeSlots {
         ensures { (e : AnEventId) → node_of result e ≡ None }
     {
         NodeSlots {
-            index: EventIndex::new(alloc),
-            nodes: Slab::new(alloc),
+            rows: NodeRows::new(alloc),
+            others: HashMap::new(alloc),
         }
     }
 
@@ -46,8 +43,11 @@ impl NodeSlots {
     pub fn get(&self, event: EventId) -> Option<&Node>
         ensures { option_copied result ≡ node_of self.now event }
     {
-        let slot = self.index.get(event)?;
-        self.nodes.get(slot as usize)
+        let found = self.rows.get(event);
+        if found.is_some() || self.others.is_empty() {
+            return found;
+        }
+        self.others.get(&event)
     }
 
     /// The node of an event for writing, if it has one. It takes no memory.
@@ -55,8 +55,10 @@ impl NodeSlots {
         ensures* writes_back { sem 𝓛 (lends_node self.entry event result) }
         ensures value { option_copied_mut result ≡ node_of self.old event }
     {
-        let slot = self.index.get(event)?;
-        self.nodes.get_mut(slot as usize)
+        if self.others.is_empty() || self.rows.get(event).is_some() {
+            return self.rows.get_mut(event);
+        }
+        self.others.get_mut(&event)
     }
 
     /// Gives a node to an event that has none, in constant time but for growth. At an error each event has the node that it
@@ -66,9 +68,12 @@ impl NodeSlots {
         ensures given { OnOk result ((e : AnEventId) → node_of self.new e ≡ (if same_event e event then Some node else node_of self.old e)) }
         ensures unchanged { OnErr result ((e : AnEventId) → node_of self.new e ≡ node_of self.old e) }
     {
-        let slot = reserve_slot(&mut self.nodes)?;
-        self.index.insert(event, slot)?;
-        self.nodes.insert_reserved(node);
+        self.rows.reserve(event)?;
+        if self.rows.has_room(event) {
+            self.rows.put(event, node);
+            return Ok(());
+        }
+        self.others.insert(event, node)?;
         Ok(())
     }
 
@@ -77,23 +82,9 @@ impl NodeSlots {
         ensures value { result ≡ node_of self.old event }
         ensures taken { (e : AnEventId) → node_of self.new e ≡ (if same_event e event then None else node_of self.old e) }
     {
-        let slot = self.index.get(event)?;
-        self.index.remove(event);
-        Some(self.nodes.remove(slot as usize))
-    }
-}
-
-/// Makes room for one node more, and gives the slot that it will have, which fits in four bytes beside none. It is an
-/// error where memory or slots run out.
-fn reserve_slot(nodes: &mut Slab<Node>) -> Result<u32, AllocError>
-    ensures slot { IfOk result (λ slot. nodes.new.vacant_key ≡ slot) }
-    ensures small { IfOk result (λ slot. slot < u32.MAX) }
-    ensures room { OnOk result (HasRoomFor nodes.new 1) }
-    ensures kept { nodes.new.slots ≡ nodes.old.slots }
-{
-    nodes.reserve(1)?;
-    match u32::try_from(nodes.vacant_key()) {
-        Ok(slot) if slot < u32::MAX => Ok(slot),
-        _ => Err(AllocError),
+        if self.others.is_empty() {
+            return self.rows.take(event);
+        }
+        self.rows.take(event).or(self.others.remove(&event))
     }
 }

@@ -1,95 +1,138 @@
 -- What a line of a history changed.
-use Rattle.std.proofs.Common.{◌≡◌, ◌≢◌, ◌↔◌, ℕ, ◌+◌, ◌<◌, ◌≤◌, List, [], ◌∷◌, ◌++◌, length, map, option_map, slice_get, get_or, Some, true, ltb, ltb-true, inl, inr, refl, sym, ap, subst, arith, ◌∙◌}
+use Rattle.std.proofs.Common.{◌≡◌, ◌≢◌, ◌↔◌, ℕ, ◌+◌, ◌<◌, ◌≤◌, List, [], ◌∷◌, ◌++◌, length, slice_get, Option, Some, None, inl, inr, refl, sym, ap, subst, arith, ◌∙◌}
 use Rattle.std.proofs.lemmas.Bool.{cases_lt}
-use Rattle.std.proofs.lemmas.Option.{slice_get-map, slice_get_read, slice_get_within}
-use Rattle.ic_name.specs.Names.{Name}
+use Rattle.std.proofs.lemmas.Option.{slice_get_within, slice_get-get_or}
+use Rattle.ic_name.specs.Names.{Name, start_name}
 use Rattle.ic_name.specs.Events.{Event}
 use Rattle.ic_name.specs.declared.lines.Call.TheVariants.{Fire, Undo}
-use Rattle.ic_name.specs.declared.lines.Reply.TheVariants.{Undone}
+use Rattle.ic_name.specs.declared.lines.Reply.TheVariants.{Fired, Undone}
 use Rattle.ic_name.specs.declared.lines.Line.{Line}
 use Rattle.ic_path.specs.Orders.{IsIn}
 use Rattle.ic_path.proofs.Picks.{none_in, in_first, in-cons_cases, pick_before}
 use Rattle.ic_shown.proofs.Elements.{in_behind, in-append_cases}
+use Rattle.ic_roster.specs.declared.interaction.Interaction.{Interaction}
+use Rattle.ic_roster.specs.Rosters.{event_in, IsNamed}
 use Rattle.ic_journal.specs.declared.kept.KeptLine.{KeptLine}
 use Rattle.ic_journal.specs.declared.kept.KeptLine.TheVariants as kept
-use Rattle.ic_journal.specs.Kept.{line_in}
-use Rattle.ic_journal.specs.Changed.{IsFiredIn, IsChangedIn, IsChanged}
+use Rattle.ic_journal.specs.declared.kept.Kinds.{Kinds}
+use Rattle.ic_journal.specs.declared.kept.Places.{Places}
+use Rattle.ic_journal.specs.declared.kept.RefusedProposal.{RefusedProposal}
+use Rattle.ic_journal.specs.declared.verdict.Refusal.{Refusal}
+use Rattle.ic_journal.specs.declared.verdict.Refusal.TheVariants as refusal
+use Rattle.ic_journal.specs.Kept.{line_of}
+use Rattle.ic_journal.specs.Noted.{line_in}
+use Rattle.ic_journal.specs.Verdicts.{reply_of, refusal_of}
+use Rattle.ic_journal.specs.Changed.{IsFiredIn, IsChangedIn, IsChanged, IsLeadFiredIn, IsLeadChangedIn}
 
--- the line that is read at a place, by the names
-pub line_read : (names : List Name) (ls read : List KeptLine) (k : ℕ) (l : KeptLine) → read ≡ ls → true ≡ ltb k (length read) → l ≡ get_or read k l → slice_get (map (line_in names) ls) k ≡ Some (line_in names l)
-line_read names ls read k l same in_range is =
-    let found : slice_get ls k ≡ Some l = subst (λ (xs : List KeptLine). slice_get xs k ≡ Some l) same (slice_get_read read _ k l refl (ltb-true _ _ (sym in_range)) is) in
-    slice_get-map (line_in names) ls k ∙ ap (option_map (line_in names)) found
+-- one value is held
+some_one : {x y : Name} → Some x ≡ Some y → x ≡ y
+some_one q = cc
 
 -- the lines that stand at one place are one
 one_line : (lines : List Line) (k : ℕ) (x y : Line) → slice_get lines k ≡ Some x → slice_get lines k ≡ Some y → x ≡ y
 one_line lines k x y a b = cc
 
 -- a line that undid a firing is kept as one that did
-kept_undone : (names : List Name) (l : KeptLine) (n : ℕ) → line_in names l ≡ record { call = Undo n; reply = Undone } → l ≡ kept.Undone n
-kept_undone names (kept.Fired i) n same = (let call = ap (λ (x : Line). x.call) same in absurd cc)
-kept_undone names (kept.Limited limit i) n same = (let call = ap (λ (x : Line). x.call) same in absurd cc)
-kept_undone names (kept.Refused p) n same = (let call = ap (λ (x : Line). x.call) same in absurd cc)
-kept_undone names (kept.Undone m) n same = (let call = ap (λ (x : Line). x.call) same in cc)
-kept_undone names (kept.NotStanding m) n same = (let reply = ap (λ (x : Line). x.reply) same in absurd cc)
-kept_undone names (kept.Held m by) n same = (let reply = ap (λ (x : Line). x.reply) same in absurd cc)
+kept_undone : (names : List Name) (refused : List RefusedProposal) (l : KeptLine) (n : ℕ) → line_in names (line_of refused l) ≡ record { call = Undo n; reply = Undone } → l ≡ kept.Undone n
+kept_undone names refused (kept.Fired kinds places) n same = (let call = ap (λ (x : Line). x.call) same in absurd cc)
+kept_undone names refused (kept.Limited limit kinds places) n same = (let call = ap (λ (x : Line). x.call) same in absurd cc)
+kept_undone names refused (kept.Refused place) n same = (let call = ap (λ (x : Line). x.call) same in absurd cc)
+kept_undone names refused (kept.Undone m) n same = (let call = ap (λ (x : Line). x.call) same in cc)
+kept_undone names refused (kept.NotStanding m) n same = (let reply = ap (λ (x : Line). x.reply) same in absurd cc)
+kept_undone names refused (kept.Held m by) n same = (let reply = ap (λ (x : Line). x.reply) same in absurd cc)
 
 -- a line that undid nothing has changed what it fired
-pub only_fired : (names : List Name) (lines : List Line) (k : ℕ) (l : KeptLine) (P : Event → Type 0) → slice_get lines k ≡ Some (line_in names l) → ((n : ℕ) → l ≢ kept.Undone n) → ((e : Event) → P e ↔ IsFiredIn lines k e) → (e : Event) → P e ↔ IsChangedIn lines k e
-only_fired names lines k l P at other each e = (λ p. inl ((each e).0 p), λ h. elim h [ inl f ↦ (each e).1 f | inr u ↦ absurd (other u.0 (kept_undone names l u.0 (one_line lines k _ _ at u.1))) ])
+pub only_fired : (names : List Name) (refused : List RefusedProposal) (lines : List Line) (k : ℕ) (l : KeptLine) (P : Name → Type 0) → slice_get lines k ≡ Some (line_in names (line_of refused l)) → ((n : ℕ) → l ≢ kept.Undone n) → ((n : Name) → P n ↔ IsLeadFiredIn lines k n) → (n : Name) → P n ↔ IsLeadChangedIn lines k n
+only_fired names refused lines k l P at other each n = (
+  λ p. let f = (each n).0 p in (f.0, inl f.1, f.2),
+  λ h. elim h.1 [ inl f ↦ (each n).1 (h.0, f, h.2) | inr u ↦ absurd (other u.0 (kept_undone names refused l u.0 (one_line lines k _ _ at u.1))) ],
+)
 
 -- the line of an undo that was done has changed what the line fired that it names
-pub only_undone : (lines : List Line) (k l : ℕ) (P : Event → Type 0) → slice_get lines k ≡ Some (record { call = Undo l; reply = Undone }) → ((e : Event) → P e ↔ IsFiredIn lines l e) → (e : Event) → P e ↔ IsChangedIn lines k e
-only_undone lines k l P at each e = (
-  λ p. inr (l, at, (each e).0 p),
-  λ h. elim h [
-    | inl f ↦ (let same : Undo l ≡ Fire e = ap (λ (x : Line). x.call) (one_line lines k _ _ at f) in absurd cc)
+pub only_undone : (lines : List Line) (k l : ℕ) (P : Name → Type 0) → slice_get lines k ≡ Some (record { call = Undo l; reply = Undone }) → ((n : Name) → P n ↔ IsLeadFiredIn lines l n) → (n : Name) → P n ↔ IsLeadChangedIn lines k n
+only_undone lines k l P at each n = (
+  λ p. let f = (each n).0 p in (f.0, inr (l, at, f.1), f.2),
+  λ h. elim h.1 [
+    | inl f ↦ (let same : Undo l ≡ Fire h.0 = ap (λ (x : Line). x.call) (one_line lines k _ _ at f) in absurd cc)
     | inr u ↦
         let same : Undo l ≡ Undo u.0 = ap (λ (x : Line). x.call) (one_line lines k _ _ at u.1) in
         let number : u.0 ≡ l = cc in
-        (each e).1 (subst (λ (n : ℕ). IsFiredIn lines n e) number u.2)
+        (each n).1 (h.0, subst (λ (m : ℕ). IsFiredIn lines m h.0) number u.2, h.2)
   ],
 )
 
--- a line between these two fired or undid the event
-abbrev pub IsChangedBetween : List Line → ℕ → ℕ → Event → Type 0
-IsChangedBetween lines n m e = (k : ℕ) × (n ≤ k) × (k < m) × IsChangedIn lines k e
+-- a refused call has another reply than a firing
+never_fired : (r : Refusal) → reply_of r ≡ Fired → ⊥
+never_fired refusal.NotActive q = cc
+never_fired refusal.Deep q = cc
+never_fired refusal.Full q = cc
+
+-- a line that fired an event is kept as one that did
+kept_fired : (names : List Name) (refused : List RefusedProposal) (l : KeptLine) (e : Event) → line_in names (line_of refused l) ≡ record { call = Fire e; reply = Fired } → (kinds : Kinds) × (places : Places) × (l ≡ kept.Fired kinds places)
+kept_fired names refused (kept.Fired kinds places) e same = (kinds, places, refl)
+kept_fired names refused (kept.Limited limit kinds places) e same = absurd (never_fired (refusal_of limit) (ap (λ (x : Line). x.reply) same))
+kept_fired names refused (kept.Refused place) e same = absurd (never_fired _ (ap (λ (x : Line). x.reply) same))
+kept_fired names refused (kept.Undone m) e same = (let call = ap (λ (x : Line). x.call) same in absurd cc)
+kept_fired names refused (kept.NotStanding m) e same = (let call = ap (λ (x : Line). x.call) same in absurd cc)
+kept_fired names refused (kept.Held m by) e same = (let call = ap (λ (x : Line). x.call) same in absurd cc)
+
+-- a line that fired nothing has no lead
+pub none_fired : (names : List Name) (refused : List RefusedProposal) (lines : List Line) (k : ℕ) (l : KeptLine) → slice_get lines k ≡ Some (line_in names (line_of refused l)) → ((kinds : Kinds) (places : Places) → l ≢ kept.Fired kinds places) → (n : Name) → (◌≡◌ {A = Option Name} None (Some n)) ↔ IsLeadFiredIn lines k n
+none_fired names refused lines k l at other n = (λ q. absurd cc, λ h. (let f = kept_fired names refused l h.0 (one_line lines k _ _ at h.1) in absurd (other f.0 f.1 f.2)))
+
+-- the name at the place of a firing's lead is that of the agent that leads what the line fired
+pub lead_read : (names : List Name) (lines : List Line) (k : ℕ) (i : Interaction) (r : Option Name) → IsNamed names i → IsFiredIn lines k (event_in names i) → r ≡ slice_get names i.lead.place → (n : Name) → (r ≡ Some n) ↔ IsLeadFiredIn lines k n
+lead_read names lines k i r named at read n = (
+  λ q. (event_in names i, at, some_one (sym here ∙ q)),
+  λ h. (
+      let same : Fire (event_in names i) ≡ Fire h.0 = ap (λ (x : Line). x.call) (one_line lines k _ _ at h.1) in
+      let one : event_in names i ≡ h.0 = cc in
+      here ∙ ap Some (ap (λ (e : Event). e.lead) one ∙ h.2)
+      ),
+)
+  where
+    here : r ≡ Some (event_in names i).lead
+    here = read ∙ slice_get-get_or names i.lead.place (start_name 0) named.lead
+
+-- a line between these two fired or undid an event that the agent leads
+abbrev pub IsLeadChangedBetween : List Line → ℕ → ℕ → Name → Type 0
+IsLeadChangedBetween lines from to n = (k : ℕ) × (from ≤ k) × (k < to) × IsLeadChangedIn lines k n
 
 -- no line is between one and itself
-pub none_between : (lines : List Line) (n : ℕ) (e : Event) → IsChangedBetween lines n n e → ⊥
-none_between lines n e h = let a : n ≤ h.0 = h.1 in let b : h.0 < n = h.2 in omega arith
+pub none_between : (lines : List Line) (from : ℕ) (n : Name) → IsLeadChangedBetween lines from from n → ⊥
+none_between lines from n h = let a : from ≤ h.0 = h.1 in let b : h.0 < from = h.2 in omega arith
 
--- with a line more that changed nothing they are the same events
-pub none_more : (lines : List Line) (n m : ℕ) (es : List Event) → ((e : Event) → IsIn e es ↔ IsChangedBetween lines n m e) → ((e : Event) → IsChangedIn lines m e → ⊥) → (e : Event) → IsIn e es ↔ IsChangedBetween lines n (m + 1) e
-none_more lines n m es each not e = (
-  λ i. let h = (each e).0 i in (h.0, h.1, let b : h.0 < m = h.2 in omega arith, h.3),
-  λ h. (each e).1 (h.0, h.1, before h.0 h.2 h.3, h.3),
+-- with a line more that changed nothing they are the same agents
+pub none_more : (lines : List Line) (from to : ℕ) (ns : List Name) → ((n : Name) → IsIn n ns ↔ IsLeadChangedBetween lines from to n) → ((n : Name) → IsLeadChangedIn lines to n → ⊥) → (n : Name) → IsIn n ns ↔ IsLeadChangedBetween lines from (to + 1) n
+none_more lines from to ns each not n = (
+  λ i. let h = (each n).0 i in (h.0, h.1, let b : h.0 < to = h.2 in omega arith, h.3),
+  λ h. (each n).1 (h.0, h.1, before h.0 h.2 h.3, h.3),
 )
   where
-    before : (k : ℕ) → k < m + 1 → IsChangedIn lines k e → k < m
-    before k b d = elim (cases_lt k m) [ inl l ↦ l | inr l ↦ (let q : k ≡ m = omega arith in absurd (not e (subst (λ (x : ℕ). IsChangedIn lines x e) q d))) ]
+    before : (k : ℕ) → k < to + 1 → IsLeadChangedIn lines k n → k < to
+    before k b d = elim (cases_lt k to) [ inl l ↦ l | inr l ↦ (let q : k ≡ to = omega arith in absurd (not n (subst (λ (x : ℕ). IsLeadChangedIn lines x n) q d))) ]
 
 -- a member of a list stands in one that goes on
-in_before : {x : Event} {xs : List Event} (ys : List Event) → IsIn x xs → IsIn x (xs ++ ys)
+in_before : {x : Name} {xs : List Name} (ys : List Name) → IsIn x xs → IsIn x (xs ++ ys)
 in_before ys i = (i.0 ++ ys, pick_before ys i.1)
 
--- with a line more that changed an event this one is behind them
-pub one_more : (lines : List Line) (n m : ℕ) (es : List Event) (x : Event) → n ≤ m → ((e : Event) → IsIn e es ↔ IsChangedBetween lines n m e) → ((e : Event) → (x ≡ e) ↔ IsChangedIn lines m e) → (e : Event) → IsIn e (es ++ x ∷ []) ↔ IsChangedBetween lines n (m + 1) e
-one_more lines n m es x ahead each its e = (
-  λ i. elim (in-append_cases es i) [
-    | inl a ↦ (let h = (each e).0 a in (h.0, h.1, let b : h.0 < m = h.2 in omega arith, h.3))
-    | inr b ↦ (m, ahead, omega arith, (its e).0 (sym (only b)))
+-- with a line more that changed what an agent leads this one is behind them
+pub one_more : (lines : List Line) (from to : ℕ) (ns : List Name) (x : Name) → from ≤ to → ((n : Name) → IsIn n ns ↔ IsLeadChangedBetween lines from to n) → ((n : Name) → (x ≡ n) ↔ IsLeadChangedIn lines to n) → (n : Name) → IsIn n (ns ++ x ∷ []) ↔ IsLeadChangedBetween lines from (to + 1) n
+one_more lines from to ns x ahead each its n = (
+  λ i. elim (in-append_cases ns i) [
+    | inl a ↦ (let h = (each n).0 a in (h.0, h.1, let b : h.0 < to = h.2 in omega arith, h.3))
+    | inr b ↦ (to, ahead, omega arith, (its n).0 (sym (only b)))
   ],
-  λ h. elim (cases_lt h.0 m) [
-    | inl l ↦ in_before (x ∷ []) ((each e).1 (h.0, h.1, l, h.3))
+  λ h. elim (cases_lt h.0 to) [
+    | inl l ↦ in_before (x ∷ []) ((each n).1 (h.0, h.1, l, h.3))
     | inr l ↦
-        let below : h.0 < m + 1 = h.2 in
-        let q : h.0 ≡ m = omega arith in
-        in_behind es (subst (λ (y : Event). IsIn y (x ∷ [])) ((its e).1 (subst (λ (k : ℕ). IsChangedIn lines k e) q h.3)) (in_first x []))
+        let below : h.0 < to + 1 = h.2 in
+        let q : h.0 ≡ to = omega arith in
+        in_behind ns (subst (λ (y : Name). IsIn y (x ∷ [])) ((its n).1 (subst (λ (k : ℕ). IsLeadChangedIn lines k n) q h.3)) (in_first x []))
   ],
 )
   where
-    only : IsIn e (x ∷ []) → e ≡ x
+    only : IsIn n (x ∷ []) → n ≡ x
     only i = elim (in-cons_cases i) [ inl q ↦ q | inr none ↦ absurd (none_in none) ]
 
 -- a line that changed an event is one of the lines
@@ -98,5 +141,8 @@ within lines k e (inl f) = slice_get_within lines k _ f
 within lines k e (inr u) = slice_get_within lines k _ u.1
 
 -- where there is no line further on they are all
-pub all_between : (lines : List Line) (n m : ℕ) (es : List Event) → length lines ≤ m → ((e : Event) → IsIn e es ↔ IsChangedBetween lines n m e) → (e : Event) → IsIn e es ↔ IsChanged lines n e
-all_between lines n m es short each e = (λ i. let h = (each e).0 i in (h.0, h.1, h.3), λ h. (each e).1 (h.0, h.1, (let b = within lines h.0 e h.2 in omega arith), h.2))
+pub all_between : (lines : List Line) (from to : ℕ) (ns : List Name) → length lines ≤ to → ((n : Name) → IsIn n ns ↔ IsLeadChangedBetween lines from to n) → (n : Name) → IsIn n ns ↔ ((e : Event) × IsChanged lines from e × (e.lead ≡ n))
+all_between lines from to ns short each n = (
+  λ i. let h = (each n).0 i in (h.3.0, (h.0, h.1, h.3.1), h.3.2),
+  λ c. (each n).1 (c.1.0, c.1.1, (let b = within lines c.1.0 c.0 c.1.2 in omega arith), (c.0, c.1.2, c.2)),
+)

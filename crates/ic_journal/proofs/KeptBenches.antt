@@ -19,9 +19,8 @@ use Rattle.ic_set.specs.Entering.{GrowsBy}
 use Rattle.ic_set.specs.Removal.{IsFree}
 use Rattle.ic_set.specs.Views.{NamedView, standing}
 use Rattle.ic_set.proofs.GrownNames.{Keeps, grown_keeps, kept_event}
-use Rattle.ic_journal.specs.declared.kept.KeptLine.{KeptLine}
-use Rattle.ic_journal.specs.declared.kept.KeptLine.TheVariants as kept
-use Rattle.ic_journal.specs.Kept.{line_in, IsLineNamed, AreLinesNamed}
+use Rattle.ic_journal.specs.Noted as seen
+use Rattle.ic_journal.specs.Noted.{NotedLine, line_in, IsLineNamed, AreLinesNamed}
 use Rattle.ic_journal.specs.Histories.{HistoryView}
 use Rattle.ic_journal.specs.Views.{BenchView, set_of, view_of}
 use Rattle.ic_journal.specs.Benches.{IsAt, IsKept}
@@ -35,7 +34,7 @@ pub keeps_self : (ns : List Name) → Keeps ns ns
 keeps_self ns m k stands = stands
 
 -- lines that are few are few with their names
-few_lines : (ns : List Name) (ls : List KeptLine) (room : ℕ) → length ls + room ≤ MAX_LINES → length (map (line_in ns) ls) + room ≤ MAX_LINES
+few_lines : (ns : List Name) (ls : List NotedLine) (room : ℕ) → length ls + room ≤ MAX_LINES → length (map (line_in ns) ls) + room ≤ MAX_LINES
 few_lines ns ls room few = omega (arith, length-map ls (line_in ns))
 
 -- where the set is the same, names are kept, and only room for lines changes
@@ -75,7 +74,7 @@ module _ (s : NamedView) (h k : HistoryView) (lines : k.lines ≡ h.lines) (more
   roomier_fires new e fired f = ((roomier_steps new (Fire e) reply.Fired f.0.0, subst (λ ls. Admits s.set e (length ls) fired.id (set_of new)) same_lines f.0.1), f.1)
 
 -- where a refused call is noted
-module _ (s : NamedView) (h k : HistoryView) (is : IsKept s h) (l : KeptLine) (call : Call) (answer : Reply) (more : k.lines ≡ h.lines ++ l ∷ []) (named : IsLineNamed s.names l)
+module _ (s : NamedView) (h k : HistoryView) (is : IsKept s h) (l : NotedLine) (call : Call) (answer : Reply) (more : k.lines ≡ h.lines ++ l ∷ []) (named : IsLineNamed s.names l)
     (line : line_in s.names l ≡ record { call = call; reply = answer }) (answers : (st : State) → IsAt (view_of s h) st → MachineStep s.set.start st call answer (noted st)) where
   -- its line is there
   noted_line : (view_of s k).lines ≡ (view_of s h).lines ++ record { call = call; reply = answer } ∷ []
@@ -94,7 +93,7 @@ module _ (s : NamedView) (h k : HistoryView) (is : IsKept s h) (l : KeptLine) (c
 
 -- where an event is fired
 module _ (s t : NamedView) (h k : HistoryView) (is : IsKept s h) (grown : GrowsBy 4 s.names t.names) (i : Interaction) (named : IsNamed s.names i) (e : Event) (its : event_in s.names i ≡ e)
-    (more : k.lines ≡ h.lines ++ kept.Fired i ∷ []) (n : ℕ) (count : n ≡ length h.lines) (id : EventId) (admits : Admits s.set e n id t.set)
+    (more : k.lines ≡ h.lines ++ seen.Fired i ∷ []) (n : ℕ) (count : n ≡ length h.lines) (id : EventId) (admits : Admits s.set e n id t.set)
     (active : IsActive s.set.start (standing s.set) e) (shallow : ¬ (IsDeep e)) (few : ¬ (IsFull s.set.start (standing s.set) e)) (room : h.room ≤ k.room + 1) where
   -- names are kept
   keeps : Keeps s.names t.names
@@ -103,7 +102,7 @@ module _ (s t : NamedView) (h k : HistoryView) (is : IsKept s h) (grown : GrowsB
   -- its line is there
   fired_line : (view_of t k).lines ≡ (view_of s h).lines ++ record { call = Fire e; reply = reply.Fired } ∷ []
   fired_line =
-      more_lines s.names t.names keeps h.lines k.lines (kept.Fired i) _ is.named more
+      more_lines s.names t.names keeps h.lines k.lines (seen.Fired i) _ is.named more
       (λ u. record { call = Fire ((kept_event s.names t.names keeps i named ∙ its) u); reply = reply.Fired })
 
   -- it is admitted under the number of its line
@@ -118,23 +117,23 @@ module _ (s t : NamedView) (h k : HistoryView) (is : IsKept s h) (grown : GrowsB
   pub fired_kept : length k.lines + k.room ≤ MAX_LINES → IsKept t k
   fired_kept short = record {
     running = running (view_of s h) (view_of t k) (Fire e) reply.Fired is.running fired_steps (few_lines t.names k.lines k.room short) (more_serials (view_of s h) (view_of t k) e id is.running fired_admits);
-    named = more_named s.names t.names keeps h.lines k.lines (kept.Fired i) is.named more (still_named s.names t.names keeps i named);
+    named = more_named s.names t.names keeps h.lines k.lines (seen.Fired i) is.named more (still_named s.names t.names keeps i named);
   }
 
 -- where a firing is undone
 module _ (s t : NamedView) (h k : HistoryView) (is : IsKept s h) (names : t.names ≡ s.names) (d : EventId) (out : TakesOut s.set d t.set) (free : IsFree s.set d)
-    (more : k.lines ≡ h.lines ++ kept.Undone d.line ∷ []) (room : h.room ≤ k.room + 1) where
+    (more : k.lines ≡ h.lines ++ seen.Undone d.line ∷ []) (room : h.room ≤ k.room + 1) where
   -- names are kept
   keeps_all : Keeps s.names t.names
   keeps_all = subst (Keeps s.names) (sym names) (keeps_self s.names)
 
   -- the step of the machine
   pub undone_steps : Steps (view_of s h) (Undo d.line) reply.Undone (view_of t k)
-  undone_steps = undone_step (view_of s h) (view_of t k) d out free (more_lines s.names t.names keeps_all h.lines k.lines (kept.Undone d.line) _ is.named more refl) room
+  undone_steps = undone_step (view_of s h) (view_of t k) d out free (more_lines s.names t.names keeps_all h.lines k.lines (seen.Undone d.line) _ is.named more refl) room
 
   -- the bench is kept
   pub undone_kept : length k.lines + k.room ≤ MAX_LINES → IsKept t k
   undone_kept short = record {
     running = running (view_of s h) (view_of t k) (Undo d.line) reply.Undone is.running undone_steps (few_lines t.names k.lines k.room short) (left_serials (view_of s h) (view_of t k) d is.running out);
-    named = more_named s.names t.names keeps_all h.lines k.lines (kept.Undone d.line) is.named more tt;
+    named = more_named s.names t.names keeps_all h.lines k.lines (seen.Undone d.line) is.named more tt;
   }

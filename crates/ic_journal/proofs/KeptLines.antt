@@ -1,4 +1,4 @@
--- Kept lines once more names are known.
+-- Lines of a history once more names are known.
 use Rattle.std.proofs.Common.{◌≡◌, suc, List, [], ◌∷◌, ◌++◌, map, arith, refl, sym, ap, ◌∙◌, subst}
 use Rattle.std.proofs.lemmas.List.{map-append}
 use Rattle.std.proofs.lemmas.List.Elements.{All-nil, All-cons, All-append}
@@ -9,9 +9,7 @@ use Rattle.ic_name.specs.declared.lines.Reply.TheVariants as reply
 use Rattle.ic_roster.specs.declared.interaction.Interaction.{Interaction}
 use Rattle.ic_roster.specs.Rosters.{IsNamed}
 use Rattle.ic_set.proofs.GrownNames.{Keeps, kept_name, kept_event}
-use Rattle.ic_journal.specs.declared.kept.KeptLine.{KeptLine}
-use Rattle.ic_journal.specs.declared.kept.KeptLine.TheVariants.{Fired, Limited, Refused, Undone, NotStanding, Held}
-use Rattle.ic_journal.specs.Kept.{line_in, IsLineNamed, AreLinesNamed}
+use Rattle.ic_journal.specs.Noted.{NotedLine, Fired, Limited, Refused, Undone, NotStanding, Held, line_in, IsLineNamed, AreLinesNamed}
 use Rattle.ic_journal.specs.Verdicts.{reply_of, refusal_of}
 
 -- a firing still has its places among the names
@@ -22,7 +20,7 @@ still_named old new keeps i named =
     record { lead = lead.within; other = other.within; ordered = (λ u. name_cmp (lead.named u) (other.named u)) ∙ named.ordered }
 
 -- a line is the one that it was
-kept_line : (old new : List Name) → Keeps old new → (l : KeptLine) → IsLineNamed old l → (line_in new l ≡ line_in old l) × IsLineNamed new l
+kept_line : (old new : List Name) → Keeps old new → (l : NotedLine) → IsLineNamed old l → (line_in new l ≡ line_in old l) × IsLineNamed new l
 kept_line old new keeps (Fired i) named = (λ u. record { call = Fire (kept_event old new keeps i named u); reply = reply.Fired }, still_named old new keeps i named)
 kept_line old new keeps (Limited limit i) named = (λ u. record { call = Fire (kept_event old new keeps i named u); reply = reply_of (refusal_of limit) }, still_named old new keeps i named)
 kept_line old new keeps (Refused p) named = (refl, tt)
@@ -31,7 +29,7 @@ kept_line old new keeps (NotStanding line) named = (refl, tt)
 kept_line old new keeps (Held line by) named = (refl, tt)
 
 -- and so are lines
-pub kept_lines : (old new : List Name) → Keeps old new → (ls : List KeptLine) → AreLinesNamed old ls → (map (line_in new) ls ≡ map (line_in old) ls) × AreLinesNamed new ls
+pub kept_lines : (old new : List Name) → Keeps old new → (ls : List NotedLine) → AreLinesNamed old ls → (map (line_in new) ls ≡ map (line_in old) ls) × AreLinesNamed new ls
 kept_lines old new keeps [] all = (refl, All-nil (IsLineNamed new))
 kept_lines old new keeps (l ∷ ls) all =
     let first = kept_line old new keeps l (all 0 l (omega arith)) in
@@ -39,12 +37,12 @@ kept_lines old new keeps (l ∷ ls) all =
     (λ u. first.0 u ∷ rest.0 u, All-cons (IsLineNamed new) l ls first.1 rest.1)
 
 -- so with a line more the lines are those of before and that one
-pub more_lines : (old new : List Name) → Keeps old new → (ls ls' : List KeptLine) (l : KeptLine) (line : Line) → AreLinesNamed old ls → ls' ≡ ls ++ l ∷ [] → line_in new l ≡ line → map (line_in new) ls' ≡ map (line_in old) ls ++ line ∷ []
+pub more_lines : (old new : List Name) → Keeps old new → (ls ls' : List NotedLine) (l : NotedLine) (line : Line) → AreLinesNamed old ls → ls' ≡ ls ++ l ∷ [] → line_in new l ≡ line → map (line_in new) ls' ≡ map (line_in old) ls ++ line ∷ []
 more_lines old new keeps ls ls' l line all more is =
     ap (map (line_in new)) more ∙ map-append (line_in new) ls (l ∷ []) ∙ ap (λ xs. xs ++ line_in new l ∷ []) (kept_lines old new keeps ls all).0 ∙ ap (λ x. map (line_in old) ls ++ x ∷ []) is
 
 -- all with their places among the names
-pub more_named : (old new : List Name) → Keeps old new → (ls ls' : List KeptLine) (l : KeptLine) → AreLinesNamed old ls → ls' ≡ ls ++ l ∷ [] → IsLineNamed new l → AreLinesNamed new ls'
+pub more_named : (old new : List Name) → Keeps old new → (ls ls' : List NotedLine) (l : NotedLine) → AreLinesNamed old ls → ls' ≡ ls ++ l ∷ [] → IsLineNamed new l → AreLinesNamed new ls'
 more_named old new keeps ls ls' l all more its =
     let one : AreLinesNamed new (l ∷ []) = All-cons (IsLineNamed new) l [] its (All-nil (IsLineNamed new)) in
     subst (AreLinesNamed new) (sym more) (All-append (IsLineNamed new) ls (l ∷ []) (kept_lines old new keeps ls all).1 one)

@@ -1,5 +1,6 @@
 -- The events that lines of a history changed.
 use Rattle.std.specs.Prelude.{◌≡◌, ℕ, ◌≤◌, ◌⊎◌, List, Some, slice_get}
+use Rattle.ic_name.specs.Names.{Name}
 use Rattle.ic_name.specs.Events.{Event}
 use Rattle.ic_name.specs.declared.lines.Call.TheVariants.{Fire, Undo}
 use Rattle.ic_name.specs.declared.lines.Reply.TheVariants.{Fired, Undone}
@@ -20,3 +21,11 @@ IsChangedIn lines k e = IsFiredIn lines k e ⊎ IsUndoneIn lines k e
 -- a line from this one on fired or undid the event
 abbrev pub IsChanged : List Line → ℕ → Event → Type 0
 IsChanged lines n e = (k : ℕ) × (n ≤ k) × IsChangedIn lines k e
+
+-- the agent of this name leads an event that the line at this place fired
+abbrev pub IsLeadFiredIn : List Line → ℕ → Name → Type 0
+IsLeadFiredIn lines k n = (e : Event) × IsFiredIn lines k e × (e.lead ≡ n)
+
+-- the agent of this name leads an event that the line at this place fired or undid
+abbrev pub IsLeadChangedIn : List Line → ℕ → Name → Type 0
+IsLeadChangedIn lines k n = (e : Event) × IsChangedIn lines k e × (e.lead ≡ n)

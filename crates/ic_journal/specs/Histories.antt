@@ -1,8 +1,8 @@
 -- What a history is seen as.
 use Rattle.std.specs.Prelude.{ℕ, List}
-use Rattle.ic_journal.specs.declared.kept.KeptLine.{KeptLine}
+use Rattle.ic_journal.specs.Noted.{NotedLine}
 
--- the lines as they are kept, and those for which there is room
+-- the lines, and those for which there is room
 pub record HistoryView : Type 0 where
-  pub lines : List KeptLine
+  pub lines : List NotedLine
   pub room : ℕ

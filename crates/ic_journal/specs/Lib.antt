@@ -1,4 +1,5 @@
 pub mod Views
+pub mod Noted
 pub mod Kept
 pub mod Changed
 pub mod Histories

@@ -4,7 +4,7 @@ use Rattle.ic_name.specs.declared.lines.Line.{Line}
 use Rattle.ic_theory.specs.Starts.{Start}
 use Rattle.ic_roster.specs.Rosters.{Member, Stander}
 use Rattle.ic_set.specs.Views.{SetView, NamedView}
-use Rattle.ic_journal.specs.Kept.{line_in}
+use Rattle.ic_journal.specs.Noted.{line_in}
 use Rattle.ic_journal.specs.Histories.{HistoryView}
 
 -- the start, the agents and the standing events under their ids, the history, and the lines for which there is room

@@ -118,11 +118,9 @@ impl<L: LinkStore> Bench<L> {
             Ok(pair) => pair,
             Err(refusal) => {
                 let refused = RefusedProposal { proposal, refusal };
-                let kept = match Box::new(self.alloc, refused) {
-                    Ok(kept) => kept,
-                    Err(failed) => return Err(FireFault::Memory(failed.value.proposal)),
-                };
-                self.history.note(KeptLine::Refused(kept));
+                if let Err(back) = self.history.note_refused(refused) {
+                    return Err(FireFault::Memory(back.proposal));
+                }
                 return Err(refusal.fault());
             }
         };

@@ -1,26 +1,27 @@
-ghost use Rattle.std.specs.Prelude.{◌↔◌, IfOk};
+ghost use Rattle.std.specs.Prelude.{◌≡◌, ◌↔◌, IfOk};
 ghost use Rattle.ic_name.specs.Events.{Event as AnEvent};
+ghost use Rattle.ic_name.specs.Names.{Name};
 ghost use Rattle.ic_path.specs.Orders.{IsIn};
 ghost use Rattle.ic_journal.specs.Changed.{IsChanged};
 
 use crate::bench::Bench;
 use ic_link::LinkStore;
-use ic_name::Event;
+use ic_name::AgentName;
 use std::alloc::AllocError;
 
 impl<L: LinkStore> Bench<L> {
-    /// The events that a line from this one on fired or undid, in the order of these lines: one that several of them
-    /// changed stands there as often. At an error memory ran out.
-    pub fn changed_since(&self, line: usize) -> Result<Vec<Event>, AllocError>
-        ensures { IfOk result (λ events. (e : AnEvent) → IsIn e events.items ↔ IsChanged self.now.lines line e) }
+    /// The names of the agents that lead an event that a line from this one on fired or undid, in the order of these lines:
+    /// one that several of them changed stands there as often. At an error memory ran out.
+    pub fn changed_leads_since(&self, line: usize) -> Result<Vec<AgentName>, AllocError>
+        ensures { IfOk result (λ leads. (n : Name) → IsIn n leads.items ↔ ((e : AnEvent) × IsChanged self.now.lines line e × (e.lead ≡ n))) }
     {
-        let roster = self.set.bare().roster();
-        let mut events = Vec::new(self.alloc);
+        let names = self.set.bare().roster().names();
+        let mut leads = Vec::new(self.alloc);
         for number in line..self.history.len() {
-            if let Some(event) = self.history.changed_in(roster, number)? {
-                events.push(event)?;
+            if let Some(lead) = self.history.changed_in(names, number)? {
+                leads.push(lead)?;
             }
         }
-        Ok(events)
+        Ok(leads)
     }
 }

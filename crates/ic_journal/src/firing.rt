@@ -36,7 +36,7 @@ impl<L: LinkStore> Bench<L> {
         let set = self.set.bare();
         let event = set.interaction_of(pair);
         if let Some(limit) = limit_of(set, event) {
-            self.history.note(KeptLine::Limited(limit, event));
+            self.history.note(KeptLine::limited(limit, event));
             return Err(limit.fault());
         }
         match self.admit_noted(pair) {
@@ -58,7 +58,7 @@ impl<L: LinkStore> Bench<L> {
         let event = set.interaction_of(pair);
         let line = self.history.len();
         let fired = self.set.admit(pair, line as u32)?;
-        self.history.note(KeptLine::Fired(event));
+        self.history.note(KeptLine::fired(event));
         Ok(fired)
     }
 }

@@ -1,33 +1,37 @@
-ghost use Rattle.std.specs.Prelude.{◌≡◌, ◌+◌, ◌<◌, ◌≤◌, ◌++◌, ◌∷◌, ◌↔◌, [], length, map, slice_get, IsTrue, Some, IfOk, OnOk, OnErr};
+ghost use Rattle.std.specs.Prelude.{◌≡◌, ◌+◌, ◌<◌, ◌≤◌, ◌++◌, ◌∷◌, ◌↔◌, [], length, map, slice_get, IsTrue, Some, IfOk, IfErr, OnOk, OnErr};
 ghost use Rattle.ic_name.specs.declared.limits.TheConstants.{MAX_LINES};
-ghost use Rattle.ic_name.specs.Events.{Event as AnEvent};
-ghost use Rattle.ic_journal.specs.Changed.{IsChangedIn, IsFiredIn};
-ghost use Rattle.ic_journal.specs.Kept.{line_in, AreLinesNamed};
+ghost use Rattle.ic_name.specs.Names.{Name};
+ghost use Rattle.ic_journal.specs.Changed.{IsLeadChangedIn, IsLeadFiredIn};
+ghost use Rattle.ic_journal.specs.Kept.{line_of, IsPlaced};
+ghost use Rattle.ic_journal.specs.Noted.{Refused, line_in, AreLinesNamed};
 
-use crate::kept::KeptLine;
+use crate::kept::{KeptLine, RefusedProposal, interaction};
 use ic_name::limits::MAX_LINES;
-use ic_name::{Call, Event, Line, Reply};
+use ic_name::{AgentName, Call, Line, Reply};
 use ic_names::NameTable;
 use ic_roster::Roster;
 use std::alloc::{AllocError, Global};
 use std::marker::Model;
 
-/// The lines of a history, and room for further ones; never more than `MAX_LINES` together.
+/// The lines of a history, and room for further ones; never more than `MAX_LINES` together. The proposals that were refused
+/// are kept apart from their lines.
 #[derive(Drop)]
 pub(crate) struct History {
     lines: Vec<KeptLine>,
+    refused: Vec<RefusedProposal>,
 }
 
 impl Model for History {
-    ghost use Rattle.std.specs.Prelude.{◌-◌, ◌≤◌, length, min, vec_capacity};
+    ghost use Rattle.std.specs.Prelude.{◌-◌, length, map, min, vec_capacity};
     ghost use Rattle.ic_name.specs.declared.limits.TheConstants.{MAX_LINES};
     ghost use Rattle.ic_journal.specs.Histories.{HistoryView};
+    ghost use Rattle.ic_journal.specs.Kept.{line_of, IsWhole};
 
     ghost Value = { HistoryView };
 
-    ghost view = { λ h. record { lines = h.lines.items; room = min MAX_LINES (vec_capacity h.lines) - length h.lines.items } };
+    ghost view = { λ h. record { lines = map (line_of h.refused.items) h.lines.items; room = min MAX_LINES (vec_capacity h.lines) - length h.lines.items } };
 
-    ghost invariant = { λ h. length h.lines.items ≤ MAX_LINES };
+    ghost invariant = { λ h. IsWhole h.refused.items h.lines.items };
 }
 
 impl History {
@@ -38,6 +42,7 @@ impl History {
     {
         History {
             lines: Vec::new(alloc),
+            refused: Vec::new(alloc),
         }
     }
 
@@ -55,7 +60,9 @@ impl History {
         ensures { IsTrue result ↔ (slice_get (map (line_in names.now) self.now.lines) number ≡ Some (record { call = call.now; reply = reply })) }
     {
         match self.lines.get(number) {
-            Some(line) => line.has_call(names, call) && line.reply() == reply,
+            Some(line) => {
+                line.has_call(&self.refused, names, call) && line.reply(&self.refused) == reply
+            }
             None => false,
         }
     }
@@ -81,14 +88,35 @@ impl History {
         Ok(())
     }
 
-    /// Notes a line, where there is room. It takes no memory.
+    /// Notes a line that tells no refused proposal, where there is room. It takes no memory.
     pub fn note(&mut self, line: KeptLine)
-        requires { 1 ≤ self.old.room }
-        ensures lines { self.new.lines ≡ self.old.lines ++ line ∷ [] }
+        requires room { 1 ≤ self.old.room }
+        requires placed { IsPlaced [] line }
+        ensures lines { self.new.lines ≡ self.old.lines ++ line_of [] line ∷ [] }
         ensures room { self.old.room ≡ self.new.room + 1 }
         ensures few { length self.new.lines + self.new.room ≤ MAX_LINES }
     {
         self.lines.push_reserved(line);
+    }
+
+    /// Notes that a proposal was refused, where there is room for a line. At an error memory ran out; the proposal is
+    /// handed back, and nothing changes.
+    pub fn note_refused(&mut self, refused: RefusedProposal) -> Result<(), RefusedProposal>
+        requires { 1 ≤ self.old.room }
+        ensures lines { OnOk result (self.new.lines ≡ self.old.lines ++ Refused refused ∷ []) }
+        ensures room { OnOk result (self.old.room ≡ self.new.room + 1) }
+        ensures few { OnOk result (length self.new.lines + self.new.room ≤ MAX_LINES) }
+        ensures error { OnErr result (self.new ≡ self.old) }
+        ensures back { IfErr result (λ back. back ≡ refused) }
+    {
+        let place = self.refused.len() as u32;
+        match self.refused.push(refused) {
+            Ok(()) => {
+                self.lines.push_reserved(KeptLine::Refused(place));
+                Ok(())
+            }
+            Err(failed) => Err(failed.value),
+        }
     }
 
     /// The lines with the names of a roster. At an error memory ran out.
@@ -98,32 +126,41 @@ impl History {
     {
         let mut lines = Vec::with_capacity(alloc, self.lines.len())?;
         for line in &self.lines {
-            lines.push(line.read(roster)?)?;
+            lines.push(line.read(&self.refused, roster)?)?;
         }
         Ok(lines)
     }
 
-    /// The event that the line with this number fired or undid; `None` where there is none. At an error memory ran out.
-    pub fn changed_in(&self, roster: &Roster, number: usize) -> Result<Option<Event>, AllocError>
-        requires { AreLinesNamed roster.now.names self.now.lines }
-        ensures { IfOk result (λ event. (e : AnEvent) → (event ≡ Some e) ↔ IsChangedIn (map (line_in roster.now.names) self.now.lines) number e) }
+    /// The name of the agent that leads the event that the line with this number fired or undid, by a table with the names;
+    /// `None` where there is none. At an error memory ran out.
+    pub fn changed_in(
+        &self,
+        names: &NameTable,
+        number: usize,
+    ) -> Result<Option<AgentName>, AllocError>
+        requires { AreLinesNamed names.now self.now.lines }
+        ensures { IfOk result (λ lead. (n : Name) → (lead ≡ Some n) ↔ IsLeadChangedIn (map (line_in names.now) self.now.lines) number n) }
     {
         let Some(line) = self.lines.get(number) else {
             return Ok(None);
         };
         match line {
-            KeptLine::Undone(fired) => self.fired_in(roster, *fired as usize),
-            _ => self.fired_in(roster, number),
+            KeptLine::Undone(fired) => self.fired_in(names, *fired as usize),
+            _ => self.fired_in(names, number),
         }
     }
 
-    /// The event that the line with this number fired; `None` where there is none. At an error memory ran out.
-    fn fired_in(&self, roster: &Roster, number: usize) -> Result<Option<Event>, AllocError>
-        requires { AreLinesNamed roster.now.names self.now.lines }
-        ensures { IfOk result (λ event. (e : AnEvent) → (event ≡ Some e) ↔ IsFiredIn (map (line_in roster.now.names) self.now.lines) number e) }
+    /// The name of the agent that leads the event that the line with this number fired, by a table with the names; `None`
+    /// where there is none. At an error memory ran out.
+    fn fired_in(&self, names: &NameTable, number: usize) -> Result<Option<AgentName>, AllocError>
+        requires { AreLinesNamed names.now self.now.lines }
+        ensures { IfOk result (λ lead. (n : Name) → (lead ≡ Some n) ↔ IsLeadFiredIn (map (line_in names.now) self.now.lines) number n) }
     {
-        match self.lines.get(number) {
-            Some(KeptLine::Fired(kept)) => Ok(Some(roster.read(*kept)?)),
+        let Some(line) = self.lines.get(number) else {
+            return Ok(None);
+        };
+        match line {
+            KeptLine::Fired(_, places) => names.name(places.lead),
             _ => Ok(None),
         }
     }

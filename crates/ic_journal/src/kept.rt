@@ -1,26 +1,27 @@
-ghost use Rattle.std.specs.Prelude.{◌≡◌, ◌↔◌, List, IsTrue, IfOk};
+ghost use Rattle.std.specs.Prelude.{◌≡◌, ◌↔◌, List, [], IsTrue, IfOk};
 ghost use Rattle.ic_name.specs.Names.{Name};
 ghost use Rattle.ic_roster.specs.Rosters.{event_in, IsNamed};
-ghost use Rattle.ic_journal.specs.Kept.{line_in, IsLineNamed};
+ghost use Rattle.ic_journal.specs.Kept.{event_kept, line_of, IsPlaced};
+ghost use Rattle.ic_journal.specs.Noted.{Fired, Limited, line_in, IsLineNamed};
 
 use crate::proposal::Proposal;
 use crate::verdict::{Limit, Refusal};
-use ic_name::{Call, Event, Line, Reply};
-use ic_names::NameTable;
+use ic_name::{Call, Event, Kind, Line, Reply};
+use ic_names::{NameId, NameTable};
 use ic_roster::{Interaction, Roster};
 use std::alloc::AllocError;
 use std::mem::size_of;
 
-/// A line as the history keeps it: a call with its reply. The event of an active pair is kept by the places of its agents'
-/// names.
-#[derive(Drop)]
+/// A line as the history keeps it: a call with its reply. The event of an active pair is kept by its kinds and the places of
+/// its names, each by themselves, so that the kinds lie beside the variant's tag.
+#[derive(Clone, Copy)]
 pub(crate) enum KeptLine {
     /// The event of an active pair was fired.
-    Fired(Interaction),
+    Fired(Kinds, Places),
     /// Firing the event of an active pair met a limit.
-    Limited(Limit, Interaction),
-    /// A proposal was refused.
-    Refused(Box<RefusedProposal>),
+    Limited(Limit, Kinds, Places),
+    /// A proposal was refused: its place in the history's list of these.
+    Refused(u32),
     /// The firing in this line was undone.
     Undone(u32),
     /// No event stood that was fired in this line.
@@ -29,8 +30,22 @@ pub(crate) enum KeptLine {
     Held { line: u32, by: u32 },
 }
 
-// A million lines take 16 megabytes.
-const _: () = prove!(size_of::<KeptLine>() == 16);
+// A million lines take 12 megabytes.
+const _: () = prove!(size_of::<KeptLine>() == 12);
+
+/// The kinds of an event's lead and of its other agent.
+#[derive(Clone, Copy)]
+pub(crate) struct Kinds {
+    lead: Kind,
+    other: Kind,
+}
+
+/// The places of their names.
+#[derive(Clone, Copy)]
+pub(crate) struct Places {
+    pub lead: NameId,
+    pub other: NameId,
+}
 
 /// A proposal, and why it was refused.
 #[derive(Drop)]
@@ -40,14 +55,31 @@ pub(crate) struct RefusedProposal {
 }
 
 impl KeptLine {
+    /// The event of an active pair was fired.
+    pub fn fired(event: Interaction) -> KeptLine
+        ensures line { line_of [] result ≡ Fired event }
+        ensures placed { IsPlaced [] result }
+    {
+        KeptLine::Fired(Kinds::of(event), Places::of(event))
+    }
+
+    /// Firing the event of an active pair met a limit.
+    pub fn limited(limit: Limit, event: Interaction) -> KeptLine
+        ensures line { line_of [] result ≡ Limited limit event }
+        ensures placed { IsPlaced [] result }
+    {
+        KeptLine::Limited(limit, Kinds::of(event), Places::of(event))
+    }
+
     /// The reply.
-    pub fn reply(&self) -> Reply
-        ensures { (ns : List Name) → result ≡ (line_in ns self.now).reply }
+    pub fn reply(&self, refused: &[RefusedProposal]) -> Reply
+        requires { IsPlaced refused.now self.now }
+        ensures { (ns : List Name) → result ≡ (line_in ns (line_of refused.now self.now)).reply }
     {
         match self {
-            KeptLine::Fired(_) => Reply::Fired,
-            KeptLine::Limited(limit, _) => limit.refusal().reply(),
-            KeptLine::Refused(refused) => refused.refusal.reply(),
+            KeptLine::Fired(..) => Reply::Fired,
+            KeptLine::Limited(limit, ..) => limit.refusal().reply(),
+            KeptLine::Refused(place) => refused[*place as usize].refusal.reply(),
             KeptLine::Undone(_) => Reply::Undone,
             KeptLine::NotStanding(_) => Reply::NotStanding,
             KeptLine::Held { by, .. } => Reply::Held(*by),
@@ -55,15 +87,19 @@ impl KeptLine {
     }
 
     /// Whether its call is this one, by a table with the names. It takes no memory.
-    pub fn has_call(&self, names: &NameTable, call: &Call) -> bool
-        requires { IsLineNamed names.now self.now }
-        ensures { IsTrue result ↔ ((line_in names.now self.now).call ≡ call.now) }
+    pub fn has_call(&self, refused: &[RefusedProposal], names: &NameTable, call: &Call) -> bool
+        requires placed { IsPlaced refused.now self.now }
+        requires named { IsLineNamed names.now (line_of refused.now self.now) }
+        ensures { IsTrue result ↔ ((line_in names.now (line_of refused.now self.now)).call ≡ call.now) }
     {
         match (self, call) {
-            (KeptLine::Fired(kept) | KeptLine::Limited(_, kept), Call::Fire(event)) => {
-                is_event(names, *kept, event)
+            (
+                KeptLine::Fired(kinds, places) | KeptLine::Limited(_, kinds, places),
+                Call::Fire(event),
+            ) => is_event(names, interaction(*kinds, *places), event),
+            (KeptLine::Refused(place), Call::Fire(event)) => {
+                refused[*place as usize].proposal.event().is(event)
             }
-            (KeptLine::Refused(refused), Call::Fire(event)) => refused.proposal.event().is(event),
             (
                 KeptLine::Undone(line) | KeptLine::NotStanding(line) | KeptLine::Held { line, .. },
                 Call::Undo(another),
@@ -73,15 +109,19 @@ impl KeptLine {
     }
 
     /// The call with the names of a roster. At an error memory ran out.
-    fn call(&self, roster: &Roster) -> Result<Call, AllocError>
-        requires { IsLineNamed roster.now.names self.now }
-        ensures { IfOk result (λ call. call ≡ (line_in roster.now.names self.now).call) }
+    fn call(&self, refused: &[RefusedProposal], roster: &Roster) -> Result<Call, AllocError>
+        requires placed { IsPlaced refused.now self.now }
+        requires named { IsLineNamed roster.now.names (line_of refused.now self.now) }
+        ensures { IfOk result (λ call. call ≡ (line_in roster.now.names (line_of refused.now self.now)).call) }
     {
         match self {
-            KeptLine::Fired(kept) | KeptLine::Limited(_, kept) => {
-                Ok(Call::Fire(roster.read(*kept)?))
+            KeptLine::Fired(kinds, places) | KeptLine::Limited(_, kinds, places) => {
+                Ok(Call::Fire(roster.read(interaction(*kinds, *places))?))
             }
-            KeptLine::Refused(refused) => Ok(Call::Fire(refused.proposal.event().copy()?)),
+            KeptLine::Refused(place) => {
+                let proposal = &refused[*place as usize].proposal;
+                Ok(Call::Fire(proposal.event().copy()?))
+            }
             KeptLine::Undone(line) | KeptLine::NotStanding(line) | KeptLine::Held { line, .. } => {
                 Ok(Call::Undo(*line))
             }
@@ -89,14 +129,51 @@ impl KeptLine {
     }
 
     /// The line with the names of a roster. At an error memory ran out.
-    pub fn read(&self, roster: &Roster) -> Result<Line, AllocError>
-        requires { IsLineNamed roster.now.names self.now }
-        ensures { IfOk result (λ line. line ≡ line_in roster.now.names self.now) }
+    pub fn read(&self, refused: &[RefusedProposal], roster: &Roster) -> Result<Line, AllocError>
+        requires placed { IsPlaced refused.now self.now }
+        requires named { IsLineNamed roster.now.names (line_of refused.now self.now) }
+        ensures { IfOk result (λ line. line ≡ line_in roster.now.names (line_of refused.now self.now)) }
     {
         Ok(Line {
-            call: self.call(roster)?,
-            reply: self.reply(),
+            call: self.call(refused, roster)?,
+            reply: self.reply(refused),
         })
+    }
+}
+
+impl Kinds {
+    /// The kinds of an event.
+    fn of(event: Interaction) -> Kinds
+        ensures { result ≡ record { lead = event.lead_kind; other = event.other_kind } }
+    {
+        Kinds {
+            lead: event.lead_kind,
+            other: event.other_kind,
+        }
+    }
+}
+
+impl Places {
+    /// The places of its names.
+    fn of(event: Interaction) -> Places
+        ensures { result ≡ record { lead = event.lead; other = event.other } }
+    {
+        Places {
+            lead: event.lead,
+            other: event.other,
+        }
+    }
+}
+
+/// The event of these kinds and places.
+pub(crate) fn interaction(kinds: Kinds, places: Places) -> Interaction
+    ensures { result ≡ event_kept kinds places }
+{
+    Interaction {
+        lead: places.lead,
+        other: places.other,
+        lead_kind: kinds.lead,
+        other_kind: kinds.other,
     }
 }
 

@@ -1,9 +1,10 @@
 ghost use Rattle.std.specs.Prelude.{◌≡◌, ◌≢◌, ◌<◌, ◌⊎◌, List, [], length, option_map, IfSome, IfNone, IfOk};
 ghost use Rattle.ic_name.specs.Events.{Event as AnEvent, event_of, pair};
 ghost use Rattle.ic_name.specs.Events.{pair as pair_name};
+ghost use Rattle.ic_name.specs.declared.ids.EventId.{EventId as AnEventId};
 ghost use Rattle.ic_name.specs.declared.kinds.Kind.{Kind as AKind};
 ghost use Rattle.ic_names.specs.Tables.{name_at};
-ghost use Rattle.ic_path.specs.Orders.{Alike, IsIn};
+ghost use Rattle.ic_path.specs.Orders.{Alike, IsIn, Pick};
 ghost use Rattle.ic_theory.specs.Active.{IsActive};
 ghost use Rattle.ic_theory.specs.Firings.{AreAfterCauses, then_fired};
 ghost use Rattle.ic_theory.specs.Listed.{shown};
@@ -12,6 +13,7 @@ ghost use Rattle.ic_theory.specs.Steps.{AreDefined, steps};
 ghost use Rattle.ic_roster.specs.Rosters.{Stander, IsNewName};
 ghost use Rattle.ic_set.specs.declared.pairs.ActivePair.{ActivePair as APair};
 ghost use Rattle.ic_set.specs.Views.{standing};
+ghost use Rattle.ic_set.specs.Removal.{Stands};
 ghost use Rattle.ic_set.specs.Orders.{AreInOrder, AreRanked, IsAny};
 ghost use Rattle.ic_set.specs.Pairs.{IsPairOf, IsActivePair, IsLeastPair, AreActivePairs};
 ghost use Rattle.ic_journal.specs.Views.{set_of};
@@ -231,6 +233,15 @@ impl<L: LinkStore> Bench<L> {
             Some(standing) => Ok(Some(set.dependents(standing)?)),
             None => Ok(None),
         }
+    }
+
+    /// These standing events, in canonical order.
+    pub fn ordered(&self, ids: &[EventId]) -> Result<Vec<EventId>, AllocError>
+        requires once { (d : AnEventId) (rest : List AnEventId) → Pick d ids.now rest → IsIn d rest → ⊥ }
+        requires standing { (d : AnEventId) → IsIn d ids.now → Stands (set_of self.now) d }
+        ensures { IfOk result (λ ordered. AreInOrder (set_of self.now) (λ x. IsIn x.id ids.now) ordered.items) }
+    {
+        self.set.bare().ordered(ids)
     }
 
     /// The standing events, in canonical order.

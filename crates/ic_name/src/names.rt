@@ -21,7 +21,7 @@ use std::marker::Model;
 #[derive(Drop)]
 pub struct AgentName {
     start: u16,
-    digits: SmallVec<u8, 20>,
+    digits: SmallVec<u8, 16>,
 }
 
 impl Model for AgentName {
@@ -50,7 +50,7 @@ impl AgentName {
     }
 
     /// The name of this start number and these digits.
-    pub fn of_digits(start: u16, digits: SmallVec<u8, 20>) -> AgentName
+    pub fn of_digits(start: u16, digits: SmallVec<u8, 16>) -> AgentName
         requires { IsName (record { start = start; digits = digits.items }) }
         ensures { result ≡ record { start = start; digits = digits.items } }
     {

@@ -82,7 +82,7 @@ impl Shape {
     }
 
     /// The digits in a text of this shape.
-    pub fn digits(self, alloc: Global, text: &[u8]) -> Result<SmallVec<u8, 20>, AllocError>
+    pub fn digits(self, alloc: Global, text: &[u8]) -> Result<SmallVec<u8, 16>, AllocError>
         requires { HasShape self text.now }
         ensures { IfOk result (λ digits. IsTextOf (record { start = self.start; digits = digits.items }) text.now) }
     {

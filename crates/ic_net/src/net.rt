@@ -65,8 +65,12 @@ impl Net {
         ensures { IfOk result (λ net. net ≡ sheet) }
     {
         sheet.lawful();
-        let (rings, profile) = (sheet.rings(), sheet.profile());
-        let NetLists { agents, frees } = sheet.into_lists();
+        let NetLists {
+            agents,
+            frees,
+            rings,
+            profile,
+        } = sheet.into_lists();
         Ok(Net {
             agents: BTreeMap::from_iter(alloc, agents)?,
             frees: BTreeMap::from_iter(alloc, frees)?,

@@ -49,6 +49,15 @@ impl<L: LinkStore> BareSet<L> {
         ids_of(self.alloc, &self.in_order(self.dependents.dependents(id))?)
     }
 
+    /// These standing events, in canonical order.
+    pub fn ordered(&self, ids: &[EventId]) -> Result<Vec<EventId>, AllocError>
+        requires once { (d : AnEventId) (rest : List AnEventId) → Pick d ids.now rest → IsIn d rest → ⊥ }
+        requires standing { (d : AnEventId) → IsIn d ids.now → Stands self.now.set d }
+        ensures { IfOk result (λ ordered. AreInOrder self.now.set (λ x. IsIn x.id ids.now) ordered.items) }
+    {
+        ids_of(self.alloc, &self.in_order(ids)?)
+    }
+
     /// All standing events, in canonical order, with their ids and ranks.
     pub(crate) fn all_placed(&self) -> Result<Vec<Placed>, AllocError>
         ensures { IfOk result (λ placed. ArePlaced self.now IsAny placed.items) }

@@ -33,11 +33,13 @@ impl Model for NetSheet {
     ghost invariant = { λ s. IsNet (record { agents = map listed_agent s.agents.items; frees = s.frees.items; rings = s.rings; profile = s.profile }) };
 }
 
-/// The agents and the free names of a net, each in order.
+/// What a net is listed by: its agents and its free names, each in order, the number of its rings, and its profile.
 #[derive(Drop)]
 pub struct NetLists {
     pub agents: Vec<(AgentName, NetAgent)>,
     pub frees: Vec<(u32, Port)>,
+    pub rings: u64,
+    pub profile: Profile,
 }
 
 impl NetSheet {
@@ -52,20 +54,6 @@ impl NetSheet {
         let _ = &self.rings;
     }
 
-    /// The number of rings.
-    pub fn rings(&self) -> u64
-        ensures { result ≡ self.now.rings }
-    {
-        self.rings
-    }
-
-    /// Which ports an annihilation of two gammas joins.
-    pub fn profile(&self) -> Profile
-        ensures { result ≡ self.now.profile }
-    {
-        self.profile
-    }
-
     /// The net, lent to be read.
     pub fn view(&self, alloc: Global) -> Result<NetView<'_>, AllocError>
         ensures { IfOk result (λ view. view ≡ self.now) }
@@ -75,13 +63,25 @@ impl NetSheet {
         Ok(NetView::of(agents, frees, self.rings, self.profile))
     }
 
-    /// The agents and the free names. It takes no memory.
+    /// What it is listed by. It takes no memory.
     pub fn into_lists(self) -> NetLists
         ensures agents { map listed_agent result.agents.items ≡ self.agents }
         ensures frees { result.frees.items ≡ self.frees }
+        ensures rings { result.rings ≡ self.rings }
+        ensures profile { result.profile ≡ self.profile }
     {
-        let NetSheet { agents, frees, .. } = self;
-        NetLists { agents, frees }
+        let NetSheet {
+            agents,
+            frees,
+            rings,
+            profile,
+        } = self;
+        NetLists {
+            agents,
+            frees,
+            rings,
+            profile,
+        }
     }
 }
 

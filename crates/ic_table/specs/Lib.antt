@@ -1,4 +1,5 @@
 pub mod Ends
+pub mod LabelHashes
 pub mod Labels
 pub mod Records
 pub mod Chains

@@ -2,6 +2,7 @@
 #![tactic(auto)]
 
 mod changes;
+mod label_hash;
 mod labels;
 mod records;
 mod slots;

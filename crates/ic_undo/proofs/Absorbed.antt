@@ -1,25 +1,24 @@
 -- Listed events that all stand, or of which none stays.
-use Rattle.std.proofs.Common.{◌≡◌, ℕ, ◌+◌, ◌*◌, ◌≤◌, Bool, true, false, List, [], ◌∷◌, ◌++◌, map, length, reverse, refl, sym, ap, subst, arith, ◌∙◌}
+use Rattle.std.proofs.Common.{◌≡◌, ℕ, ◌+◌, ◌*◌, ◌≤◌, Bool, true, false, List, [], ◌∷◌, ◌++◌, length, refl, sym, ap, subst, arith, ◌∙◌}
 use Rattle.std.proofs.lemmas.List.{append-nil}
 use Rattle.std.specs.Ordering.{is_gt}
-use Rattle.ic_name.specs.Events.{Event, Pair, pair, pair_cmp}
+use Rattle.ic_name.specs.Events.{Event, Pair, pair_cmp}
 use Rattle.ic_name.specs.declared.ids.EventId.{EventId}
 use Rattle.ic_name.specs.declared.lines.Call.{Call}
 use Rattle.ic_name.specs.declared.lines.Call.TheVariants.{Fire}
 use Rattle.ic_name.specs.declared.lines.Line.{Line}
 use Rattle.ic_name.specs.declared.lines.Reply.{Reply}
 use Rattle.ic_name.specs.declared.lines.Reply.TheVariants as reply
-use Rattle.ic_path.specs.Orders.{IsIn, Alike}
+use Rattle.ic_path.specs.Orders.{Alike}
 use Rattle.ic_path.proofs.Alikes.{alike_back, alike_then}
 use Rattle.ic_theory.specs.Active.{IsActive}
 use Rattle.ic_theory.specs.Machine.{State, events, IsDeep, IsFull, MachineStep, not_active, deep, full, fired, not_standing, held, undone}
 use Rattle.ic_theory.specs.Starts.{Start}
 use Rattle.ic_theory.proofs.Normal.{active-alike}
-use Rattle.ic_roster.specs.Rosters.{Stander}
 use Rattle.ic_set.specs.Changes.{IsSame}
 use Rattle.ic_set.specs.Views.{standing}
 use Rattle.ic_journal.specs.Benches.{IsAt, IsBench}
-use Rattle.ic_journal.specs.Calls.{Steps, Stays, Refuses}
+use Rattle.ic_journal.specs.Calls.{Stays}
 use Rattle.ic_journal.specs.Views.{BenchView, set_of}
 use Rattle.ic_journal.proofs.Answering.{same_set}
 use Rattle.ic_journal.proofs.MachineSteps.{events_at}
@@ -28,10 +27,9 @@ use Rattle.ic_undo.specs.declared.faults.AbsorbFault.TheVariants as absorb
 use Rattle.ic_undo.specs.declared.turns.Hindrance.{Hindrance}
 use Rattle.ic_undo.specs.declared.turns.Hindrance.TheVariants as hindrance
 use Rattle.ic_undo.specs.Absorbing.{Fits, Absorbs, AbsorbsNone, NoneIsNext, TakesBack, refusing}
-use Rattle.ic_undo.specs.Backwards.{AreFree, AreIdsOfFree, AreUndoneFrom}
+use Rattle.ic_undo.specs.Backwards.{AreIdsOfFree, AreUndoneFrom}
 use Rattle.ic_undo.specs.Coming.{Comes, NoneListed, HindersNext, fault_from}
 use Rattle.ic_undo.specs.Ready.{TellsMissing}
-use Rattle.ic_undo.specs.Undone.{AreUndone}
 use Rattle.ic_undo.proofs.ComingEvents.{none_came, stands_now, came_length, next_listed, comes_from}
 use Rattle.ic_undo.proofs.MissingNames.{all_stand, least_never}
 use Rattle.ic_undo.proofs.StayedBenches.{unchanged, none_undone, free_same}

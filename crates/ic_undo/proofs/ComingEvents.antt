@@ -1,20 +1,19 @@
 -- Listed events that come to stand, each in its turn, and can be undone from the last one on.
-use Rattle.std.proofs.Common.{◌≡◌, ◌+◌, ◌≤◌, List, [], ◌∷◌, ◌++◌, map, length, reverse, ◌⊎◌, inl, inr, Ok, refl, sym, ap, subst, arith, ◌∙◌, append_assoc, length-append}
+use Rattle.std.proofs.Common.{◌≡◌, List, [], ◌∷◌, ◌++◌, map, length, reverse, ◌⊎◌, inl, inr, Ok, refl, ap, subst, arith, ◌∙◌}
 use Rattle.std.proofs.lemmas.List.{map-append, length-map}
 use Rattle.ic_name.specs.Events.{Event, Pair, pair}
 use Rattle.ic_name.specs.declared.ids.EventId.{EventId}
 use Rattle.ic_path.specs.Orders.{IsIn, Alike}
 use Rattle.ic_path.proofs.Alikes.{alike_self, alike_back, alike_then, alike_more, alike-append, alike-in, alike-map}
 use Rattle.ic_path.proofs.Picks.{none_in}
-use Rattle.ic_roster.specs.Rosters.{Member, Stander}
+use Rattle.ic_roster.specs.Rosters.{Stander}
 use Rattle.ic_set.specs.Views.{standing, events_of}
 use Rattle.ic_journal.specs.Benches.{IsBench}
 use Rattle.ic_journal.specs.Calls.{Stays, Fires}
 use Rattle.ic_journal.specs.Views.{BenchView, set_of}
 use Rattle.ic_undo.specs.Absorbing.{IsLeastListed, AreLeastInTurn}
-use Rattle.ic_undo.specs.Backwards.{AreFree}
 use Rattle.ic_undo.specs.Coming.{Comes}
-use Rattle.ic_undo.specs.GoingBack.{AreFired, firing}
+use Rattle.ic_undo.specs.GoingBack.{firing}
 use Rattle.ic_undo.proofs.Backs.{alike_reverse, in_behind, in-append_cases}
 use Rattle.ic_undo.proofs.FiredInTurn.{none_fired, fired_more}
 use Rattle.ic_undo.proofs.FreeToUndo.{free_more}

@@ -10,7 +10,6 @@ use Rattle.ic_theory.specs.Active.{IsActive}
 use Rattle.ic_theory.specs.Causes.{IsCause}
 use Rattle.ic_theory.specs.Future.{Includes}
 use Rattle.ic_theory.specs.Sound.{IsSound}
-use Rattle.ic_theory.specs.Starts.{Start}
 use Rattle.ic_theory.proofs.Closed.{cause_stays}
 use Rattle.ic_theory.proofs.Ranks.{cause_in}
 use Rattle.ic_cause.proofs.OnceLists.{once-alike}

@@ -1,5 +1,5 @@
 -- Places of events by their leads.
-use Rattle.std.proofs.Common.{◌≡◌, ◌≢◌, ◌↔◌, ◌==◌, ℕ, zero, suc, Bool, true, false, IsTrue, List, [], ◌∷◌, ◌++◌, Option, Some, None, IfSome, length, slice_get, get_or, inl, inr, refl, sym, ap, subst, eq-eqb, ◌∙◌}
+use Rattle.std.proofs.Common.{◌≡◌, ◌≢◌, ◌↔◌, ◌==◌, ℕ, zero, suc, Bool, true, false, IsTrue, List, [], ◌∷◌, ◌++◌, Option, Some, None, IfSome, length, slice_get, inl, inr, refl, sym, ap, subst, eq-eqb, ◌∙◌}
 use Rattle.std.specs.Option.{is_some}
 use Rattle.std.specs.Prelude.{IfNone, if◌then◌else◌}
 use Rattle.std.proofs.lemmas.Bool.{eqb-true}
@@ -86,7 +86,3 @@ pub led_tells : (es : List Event) (x : Event) (n : Name) (r : Option ℕ) → n 
     → IfSome r (λ p. (e : Event) × (slice_get es p ≡ Some e) × (e.lead ≡ n)) → IfNone r ((e : Event) → IsIn e es → e.lead ≢ n) → IsTrue (is_some r) ↔ IsIn x es
 led_tells es x n None same inside found absent = (λ t. absurd cc, λ i. absurd (absent x i (sym same)))
 led_tells es x n (Some p) same inside found absent = (λ t. inside found.0 (in_at es p found.0 found.1) (found.2 ∙ same), λ i. refl)
-
--- what is read at a place is what stands there
-pub read_at : (xs ys : List Event) (p : ℕ) (x read : Event) → ys ≡ xs → slice_get xs p ≡ Some x → read ≡ get_or ys p read → read ≡ x
-read_at xs ys p x read same at is = is ∙ ap (λ zs. get_or zs p read) same ∙ get_or_from_slice_get xs p x read at

@@ -30,7 +30,7 @@ mod Absorbed
 mod TurnsTaken
 pub mod SameHistories
 mod StoodSince
-mod KeyTests
+mod RepeatsDropped
 mod LedPlaces
 mod LentEvents
 mod OutsideOrders

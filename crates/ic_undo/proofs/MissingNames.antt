@@ -1,11 +1,11 @@
 -- The listed names of which no event stands.
-use Rattle.std.proofs.Common.{◌≡◌, ◌≢◌, ℕ, ◌+◌, ◌≤◌, Bool, true, false, cond, arith, Option, Some, None, List, [], ◌∷◌, ◌++◌, ◌⊎◌, inl, inr, refl, sym, ap, subst, ◌∙◌}
+use Rattle.std.proofs.Common.{◌≡◌, ℕ, ◌+◌, ◌≤◌, Bool, true, false, cond, arith, Option, Some, None, List, [], ◌∷◌, ◌++◌, ◌⊎◌, inl, inr, refl, sym, ap, subst, ◌∙◌}
 use Rattle.std.specs.BTreeMap.{is_at}
 use Rattle.std.specs.Prelude.{is_some, IfSome, IfNone, if◌then◌else◌}
 use Rattle.std.specs.Ordering.{is_gt}
 use Rattle.ic_name.specs.Events.{Event, Pair, pair, pair_cmp}
 use Rattle.ic_name.specs.declared.ids.EventId.{EventId}
-use Rattle.ic_path.specs.Orders.{IsIn, Alike}
+use Rattle.ic_path.specs.Orders.{IsIn}
 use Rattle.ic_path.proofs.Alikes.{alike_back, alike-in}
 use Rattle.ic_path.proofs.Picks.{none_in, in_first, in_more, in-cons_cases, pick_before}
 use Rattle.ic_theory.specs.Active.{IsActive}
@@ -20,7 +20,7 @@ use Rattle.ic_undo.specs.Coming.{Comes, NoneListed}
 use Rattle.ic_undo.specs.Ready.{IsMissingName, TellsMissing}
 use Rattle.ic_undo.proofs.Backs.{in_behind, in-map, map_cases}
 use Rattle.ic_undo.proofs.ComingEvents.{stood_or_listed, stands_still}
-use Rattle.ic_undo.proofs.PairTests.{pair_only, pair_fails, pair_apart, pair_passes, stands_or_missing}
+use Rattle.ic_undo.proofs.PairTests.{pair_only, pair_fails, stands_or_missing}
 use Rattle.ic_undo.proofs.Places.{parts}
 use Rattle.ic_undo.proofs.WithinSets.{active_absent, sound_within}
 

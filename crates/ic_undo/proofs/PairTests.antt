@@ -5,7 +5,7 @@ use Rattle.std.specs.Ordering.{is_eq, is_gt, ordering_then}
 use Rattle.std.specs.declared.cmp.Ordering.{Ordering}
 use Rattle.std.specs.declared.cmp.Ordering.TheVariants.{Less, Equal, Greater}
 use Rattle.ic_name.specs.Names.{name_cmp}
-use Rattle.ic_name.specs.Events.{Event, Pair, pair, pair_cmp}
+use Rattle.ic_name.specs.Events.{Pair, pair, pair_cmp}
 use Rattle.ic_name.proofs.NameOrder.{name_tied, name_tied_itself}
 use Rattle.ic_path.specs.Orders.{IsIn}
 use Rattle.ic_path.proofs.Picks.{none_in, in_first, in_more, in-cons_cases}

@@ -72,11 +72,3 @@ pub once_sorted : {X Y : Type 0} (cmp : Y → Y → Ordering) (f : X → Y) → 
 unfolding IsStrictlySortedBy
 once_sorted cmp f apart [] up = λ x rest k i. none_in (rest, k)
 once_sorted {X} cmp f apart (x ∷ xs) up = once_cons (λ i. apart (f x) (sorted_behind cmp f [] xs x x up i)) (once_sorted cmp f apart xs up.1)
-
--- where each element of a list is an image, the list is one of images
-pub preimages : {X Y : Type 0} (f : X → Y) (P : X → Type 0) (ys : List Y) → ((y : Y) → IsIn y ys → (x : X) × P x × (f x ≡ y)) → (xs : List X) × (map f xs ≡ ys) × ((x : X) → IsIn x xs → P x)
-preimages f P [] each = ([], refl, λ x i. absurd (none_in i))
-preimages {X} f P (y ∷ ys) each =
-    let first = each y (in_first y ys) in
-    let rest = preimages f P ys (λ z i. each z (in_more y i)) in
-    (first.0 ∷ rest.0, (λ i. first.2 i ∷ rest.1 i), λ x i. elim (in-cons_cases i) [ inl e ↦ subst P (sym e) first.1 | inr j ↦ rest.2 x j ])

@@ -7,12 +7,12 @@ use Rattle.ic_name.specs.Events.{Event, Pair, pair, pair_cmp}
 use Rattle.ic_name.specs.declared.ids.EventId.{EventId}
 use Rattle.ic_path.specs.Orders.{IsIn, Alike}
 use Rattle.ic_path.proofs.Alikes.{alike_back, alike-in, alike-map}
-use Rattle.ic_path.proofs.Picks.{none_in, in_first, in_more, in-cons_cases, pick_before}
+use Rattle.ic_path.proofs.Picks.{none_in, in_first, pick_before}
 use Rattle.ic_theory.specs.Active.{IsActive}
 use Rattle.ic_roster.specs.Rosters.{Member, Stander}
 use Rattle.ic_set.specs.declared.pairs.ActivePair.{ActivePair}
 use Rattle.ic_set.specs.Changes.{Admits}
-use Rattle.ic_set.specs.Pairs.{IsPairOf, IsActivePair, Awakes}
+use Rattle.ic_set.specs.Pairs.{IsPairOf, Awakes}
 use Rattle.ic_set.specs.Sets.{IsStandingSet}
 use Rattle.ic_set.specs.Views.{SetView, standing}
 use Rattle.ic_set.proofs.ActivePairs.{one_name, one_pair, pair_of}
@@ -20,7 +20,7 @@ use Rattle.ic_set.proofs.GrownSets.{Grows, stays}
 use Rattle.ic_journal.specs.Views.{BenchView, set_of}
 use Rattle.ic_undo.specs.Absorbing.{IsLeastListed}
 use Rattle.ic_undo.specs.Coming.{NoneListed}
-use Rattle.ic_undo.specs.Ready.{IsMissingName, TellsMissing, AreReady, AddsPairs}
+use Rattle.ic_undo.specs.Ready.{TellsMissing, AreReady, AddsPairs}
 use Rattle.ic_undo.proofs.Backs.{in_behind}
 use Rattle.ic_undo.proofs.MissingNames.{active_missing}
 use Rattle.ic_undo.proofs.PairTests.{pair_only, pair_fails, pair_apart, lead_not_above}

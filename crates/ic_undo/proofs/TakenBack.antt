@@ -1,10 +1,8 @@
 -- Events that came to stand and were undone again, the last first.
-use Rattle.std.proofs.Common.{◌≡◌, ◌+◌, ◌≤◌, List, [], ◌∷◌, ◌++◌, map, length, reverse, ◌⊎◌, inl, inr, refl, sym, ap, subst, arith, ◌∙◌, append_assoc, length-append}
+use Rattle.std.proofs.Common.{◌≡◌, ◌+◌, ◌≤◌, List, [], ◌∷◌, ◌++◌, map, length, reverse, refl, sym, ap, subst, arith, ◌∙◌}
 use Rattle.std.proofs.lemmas.List.{length-map}
-use Rattle.ic_name.specs.Names.{Name}
-use Rattle.ic_name.specs.Events.{Event, Pair}
+use Rattle.ic_name.specs.Events.{Pair}
 use Rattle.ic_name.specs.declared.ids.EventId.{EventId}
-use Rattle.ic_name.specs.declared.kinds.Kind.{Kind}
 use Rattle.ic_name.specs.declared.lines.Line.{Line}
 use Rattle.ic_path.specs.Orders.{IsIn, Alike}
 use Rattle.ic_path.proofs.Alikes.{alike_back, alike_then, alike-cancel, alike-append, alike_self, alike-in, alike-map, alike-length}
@@ -24,7 +22,7 @@ use Rattle.ic_undo.specs.Absorbing.{Fits, TakesBack}
 use Rattle.ic_undo.specs.Coming.{Comes}
 use Rattle.ic_undo.specs.GoingBack.{firing}
 use Rattle.ic_undo.specs.Undone.{AreUndone, undoing}
-use Rattle.ic_undo.proofs.Backs.{alike_reverse, in-map, map_cases}
+use Rattle.ic_undo.proofs.Backs.{alike_reverse, in-map}
 
 -- what stands in front of both can go
 cancel_front : {X : Type 0} (zs : List X) {xs ys : List X} → Alike (zs ++ xs) (zs ++ ys) → Alike xs ys

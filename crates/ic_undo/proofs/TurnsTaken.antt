@@ -1,10 +1,9 @@
 -- One listed event more that is fired in its turn, or is hindered.
-use Rattle.std.proofs.Common.{◌≡◌, ℕ, ◌+◌, ◌*◌, ◌≤◌, Bool, true, false, cond, List, ◌∷◌, ◌++◌, [], length, ◌⊎◌, inl, inr, Option, Some, None, sym, ap, subst, arith, ◌∙◌, length-append}
+use Rattle.std.proofs.Common.{◌≡◌, ◌+◌, ◌*◌, ◌≤◌, Bool, true, false, cond, List, ◌∷◌, [], length, inl, inr, Option, Some, None, sym, ap, subst, arith, ◌∙◌, length-append}
 use Rattle.std.specs.BTreeMap.{is_at}
 use Rattle.std.specs.Ordering.{is_gt}
 use Rattle.ic_name.specs.Events.{Event, Pair, pair, pair_cmp}
 use Rattle.ic_name.specs.declared.ids.EventId.{EventId}
-use Rattle.ic_path.specs.Orders.{IsIn}
 use Rattle.ic_set.specs.declared.pairs.ActivePair.{ActivePair}
 use Rattle.ic_set.specs.Pairs.{IsPairOf}
 use Rattle.ic_set.specs.Views.{standing}

@@ -1,6 +1,5 @@
 -- Sound sets of events that stand or are listed: where no listed event is active, each of them stands.
-use Rattle.std.proofs.Common.{◌≡◌, List, ◌⊎◌, inl, inr, refl, ap, arith, ◌∙◌, sym, subst}
-use Rattle.ic_name.specs.Names.{Name}
+use Rattle.std.proofs.Common.{◌≡◌, List, ◌⊎◌, inl, inr, refl, ap, arith, sym, subst}
 use Rattle.ic_name.specs.Events.{Event, Pair, pair}
 use Rattle.ic_path.specs.Orders.{IsIn, Alike}
 use Rattle.ic_path.proofs.Alikes.{alike_back, alike-in}

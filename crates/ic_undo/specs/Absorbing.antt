@@ -8,7 +8,7 @@ use Rattle.ic_name.specs.declared.lines.Line.{Line}
 use Rattle.ic_name.specs.declared.lines.Call.TheVariants.{Fire}
 use Rattle.ic_name.specs.declared.lines.Reply.{Reply}
 use Rattle.ic_name.specs.declared.lines.Reply.TheVariants as reply
-use Rattle.ic_path.specs.Orders.{IsIn, Alike}
+use Rattle.ic_path.specs.Orders.{IsIn}
 use Rattle.ic_theory.specs.Starts.{Start}
 use Rattle.ic_theory.specs.Active.{IsActive}
 use Rattle.ic_theory.specs.Sound.{IsSound}

@@ -32,11 +32,10 @@ pub fn back_since<L: LinkStore>(
     if lines > bench.standing_count().saturating_add(mark.events().len()) {
         return back(alloc, bench, mark);
     }
-    let Ok(changed) = bench.changed_since(since) else {
+    let Ok(leads) = bench.changed_leads_since(since) else {
         return Err(BackFault::Memory(NOTHING));
     };
-    let Ok(Differences { outside, missing }) = differences_among(alloc, bench, mark, &changed)
-    else {
+    let Ok(Differences { outside, missing }) = differences_among(alloc, bench, mark, &leads) else {
         return Err(BackFault::Memory(NOTHING));
     };
     go_over(bench, mark, &outside, missing)

@@ -3,7 +3,7 @@ use Rattle.std.specs.BTreeSet.{contains}
 use Rattle.ic_name.specs.Events.{pair_cmp}
 use Rattle.ic_undo.specs.Absorbing.{AbsorbsNone}
 use Rattle.ic_undo.specs.declared.faults.AbsorbFault.TheVariants as absorb
-use Rattle.ic_undo.proofs.Absorbed.{reserved_fits, nothing_absorbed, absorbed, never_absorbed, free_ids, free_after, none_absorbed}
+use Rattle.ic_undo.proofs.Absorbed.{reserved_fits, nothing_absorbed, absorbed, never_absorbed, free_after, none_absorbed}
 use Rattle.ic_undo.proofs.ReadyPairs.{no_elements}
 use Rattle.ic_undo.proofs.absorbing.absorb.Goals as goal
 

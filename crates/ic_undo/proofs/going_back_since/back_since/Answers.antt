@@ -1,5 +1,5 @@
-use Rattle.std.proofs.Common.{List, sym, subst}
-use Rattle.ic_name.specs.Events.{Event}
+use Rattle.std.proofs.Common.{List, refl, sym, subst}
+use Rattle.ic_name.specs.Names.{Name}
 use Rattle.ic_path.specs.Orders.{IsIn}
 use Rattle.ic_undo.proofs.StayedBenches.{unchanged}
 use Rattle.ic_undo.proofs.StoodSince.{outside_changed, missing_changed}
@@ -11,13 +11,13 @@ returns-in_default-clause-fault g c = nothing_done c.args.bench.now c.lawful.ens
 
 pub differences_among-requires-clause-outside : goal.differences_among-requires-clause-outside
 differences_among-requires-clause-outside g c = λ x i out.
-    subst (λ (es : List Event). IsIn x.event es) (sym c.deref.ensures.value)
-    ((c.in-Ok.ensures x.event).1 (outside_changed c.args.bench.now c.lawful.ensures c.args.mark.now c.args.since c.requires.stood x i out))
+    subst (λ (ns : List Name). IsIn x.event.lead ns) (sym c.deref.ensures.value)
+    ((c.in-Ok.ensures x.event.lead).1 (x.event, outside_changed c.args.bench.now c.lawful.ensures c.args.mark.now c.args.since c.requires.stood x i out, refl))
 
 pub differences_among-requires-clause-missing : goal.differences_among-requires-clause-missing
 differences_among-requires-clause-missing g c = λ e missing.
-    subst (λ (es : List Event). IsIn e es) (sym c.deref.ensures.value)
-    ((c.in-Ok.ensures e).1 (missing_changed c.args.bench.now c.lawful.ensures c.args.mark.now c.args.since c.requires.stood e missing))
+    subst (λ (ns : List Name). IsIn e.lead ns) (sym c.deref.ensures.value)
+    ((c.in-Ok.ensures e.lead).1 (e, missing_changed c.args.bench.now c.lawful.ensures c.args.mark.now c.args.since c.requires.stood e missing, refl))
 
 pub returns-in_default-differences_among-clause-fault : goal.returns-in_default-differences_among-clause-fault
 returns-in_default-differences_among-clause-fault g c = nothing_done c.args.bench.now c.lawful.ensures c.args.mark.now c.requires.start c.lawful-2.ensures c.args.bench.now (unchanged c.args.bench.now)

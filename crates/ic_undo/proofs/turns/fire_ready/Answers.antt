@@ -1,4 +1,4 @@
-use Rattle.std.proofs.Common.{inl, inr, refl}
+use Rattle.std.proofs.Common.{inr, refl}
 use Rattle.ic_undo.proofs.turns.fire_ready.Goals as goal
 
 pub add_pairs-requires : goal.add_pairs-requires

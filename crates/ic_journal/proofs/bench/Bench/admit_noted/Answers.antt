@@ -4,8 +4,7 @@ use Rattle.ic_cause.proofs.KeptViews.{at_error}
 use Rattle.ic_theory.specs.Machine.{IsDeep}
 use Rattle.ic_set.specs.Pairs.{IsPairOf}
 use Rattle.ic_set.proofs.GrownNames.{grown_keeps}
-use Rattle.ic_journal.specs.declared.kept.KeptLine.TheVariants as kept
-use Rattle.ic_journal.specs.Kept.{line_in}
+use Rattle.ic_journal.specs.Noted.{Fired, line_in}
 use Rattle.ic_journal.specs.Views.{set_of, view_of}
 use Rattle.ic_journal.specs.Verdicts.{Meets}
 use Rattle.ic_journal.specs.Calls.{FiresPair}
@@ -53,7 +52,7 @@ invariant_of-self-2 g c =
     let limits : Meets s.set f None = subst (λ v. Meets (set_of v) f None) (sym c.self.view_is) c.requires.active.2 in
     let its = rw c.bare-set.ensures at c.interaction_of-event.ensures.event in
     let named = rw c.bare-set.ensures at c.interaction_of-event.ensures.named in
-    let more : c.note.new.self.lines ≡ h.lines ++ kept.Fired c.interaction_of-event.result ∷ [] = c.note.ensures.lines in
+    let more : c.note.new.self.lines ≡ h.lines ++ Fired c.interaction_of-event.result ∷ [] = rw c.fired.ensures.line at c.note.ensures.lines in
     let down = c.note.ensures.room in
     fired_kept s c.admit.new.self h c.note.new.self c.self.invariant c.admit.ensures.grown c.interaction_of-event.result named f (its f first)
     more c.len-line.result c.len-line.ensures.count c.in_ok-fired.fired.id (c.in_ok-fired.ensures.admitted f first) first.active limits.0 limits.1 (omega (arith, down)) c.note.ensures.few
@@ -67,7 +66,7 @@ returns-clause-fired g c =
     let limits : Meets s.set f None = subst (λ v. Meets (set_of v) f None) (sym c.self.view_is) c.requires.active.2 in
     let its = rw c.bare-set.ensures at c.interaction_of-event.ensures.event in
     let named = rw c.bare-set.ensures at c.interaction_of-event.ensures.named in
-    let more : c.note.new.self.lines ≡ h.lines ++ kept.Fired c.interaction_of-event.result ∷ [] = c.note.ensures.lines in
+    let more : c.note.new.self.lines ≡ h.lines ++ Fired c.interaction_of-event.result ∷ [] = rw c.fired.ensures.line at c.note.ensures.lines in
     let down = c.note.ensures.room in
     let room : h.room ≤ c.note.new.self.room + 1 = omega (arith, down) in
     λ e q. (

@@ -2,9 +2,7 @@ use Rattle.std.proofs.Common.{◌≡◌, ◌≤◌, ◌+◌, ◌∷◌, ◌++◌
 use Rattle.std.proofs.lemmas.List.{length-map}
 use Rattle.ic_name.specs.declared.lines.Call.TheVariants.{Fire}
 use Rattle.ic_set.specs.Pairs.{IsPairOf}
-use Rattle.ic_journal.specs.declared.kept.KeptLine.{KeptLine}
-use Rattle.ic_journal.specs.declared.kept.KeptLine.TheVariants as kept
-use Rattle.ic_journal.specs.Kept.{line_in}
+use Rattle.ic_journal.specs.Noted.{NotedLine, Limited, line_in}
 use Rattle.ic_journal.specs.Views.{set_of, view_of}
 use Rattle.ic_journal.specs.Verdicts.{reply_of, refusal_of}
 use Rattle.ic_journal.specs.Calls.{FiresPair}
@@ -30,8 +28,8 @@ invariant_of-self-in-Some g c =
     let its = (rw c.bare-set.ensures at c.interaction_of-event.ensures.event) e p in
     let answer = reply_of (refusal_of c.in-Some.limit) in
     let named = rw c.bare-set.ensures at c.interaction_of-event.ensures.named in
-    let l : KeptLine = kept.Limited c.in-Some.limit c.interaction_of-event.result in
-    let more : c.note.new.self.lines ≡ h.lines ++ l ∷ [] = rw c.reserve.ensures.lines at c.note.ensures.lines in
+    let l : NotedLine = Limited c.in-Some.limit c.interaction_of-event.result in
+    let more : c.note.new.self.lines ≡ h.lines ++ l ∷ [] = rw (c.reserve.ensures.lines, c.limited.ensures.line) at c.note.ensures.lines in
     let meets = meets_same c.interaction_of-event.result (Some c.in-Some.limit) c.bare-set.ensures its c.in-Some.ensures in
     let line : line_in s.names l ≡ record { call = Fire e; reply = answer } = λ u. record { call = Fire (its u); reply = answer } in
     refused_kept s h c.note.new.self c.self.invariant l (Fire e) answer more named line (limit_answer s h e c.in-Some.limit p.active meets) c.note.ensures.few
@@ -42,8 +40,8 @@ returns-in-Some g c =
     let h = c.self.inside.history in
     let answer = reply_of (refusal_of c.in-Some.limit) in
     let named = rw c.bare-set.ensures at c.interaction_of-event.ensures.named in
-    let l : KeptLine = kept.Limited c.in-Some.limit c.interaction_of-event.result in
-    let more : c.note.new.self.lines ≡ h.lines ++ l ∷ [] = rw c.reserve.ensures.lines at c.note.ensures.lines in
+    let l : NotedLine = Limited c.in-Some.limit c.interaction_of-event.result in
+    let more : c.note.new.self.lines ≡ h.lines ++ l ∷ [] = rw (c.reserve.ensures.lines, c.limited.ensures.line) at c.note.ensures.lines in
     let up = c.reserve.ensures.more in
     let down = c.note.ensures.room in
     let room : h.room ≤ c.note.new.self.room + 1 = omega (arith, up, down) in

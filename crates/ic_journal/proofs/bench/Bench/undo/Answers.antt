@@ -4,7 +4,7 @@ use Rattle.ic_name.specs.declared.lines.Reply.TheVariants as reply
 use Rattle.ic_path.specs.Orders.{IsIn}
 use Rattle.ic_theory.specs.Machine.{State, noted, MachineStep}
 use Rattle.ic_roster.specs.Rosters.{Stander}
-use Rattle.ic_journal.specs.declared.kept.KeptLine.TheVariants as kept
+use Rattle.ic_journal.specs.Noted as seen
 use Rattle.ic_journal.specs.Views.{view_of}
 use Rattle.ic_journal.specs.Benches.{IsAt}
 use Rattle.ic_journal.specs.Calls.{Steps}
@@ -16,7 +16,7 @@ pub invariant_of-self-in_default-at_line : goal.invariant_of-self-in_default-at_
 invariant_of-self-in_default-at_line g c =
     let s = c.self.inside.set in
     let h = c.self.inside.history in
-    let more : c.note.new.self.lines ≡ h.lines ++ kept.NotStanding c.args.id.line ∷ [] = rw c.reserve.ensures.lines at c.note.ensures.lines in
+    let more : c.note.new.self.lines ≡ h.lines ++ seen.NotStanding c.args.id.line ∷ [] = rw c.reserve.ensures.lines at c.note.ensures.lines in
     let none : (x : Stander) → IsIn x s.set.events → x.id.line ≢ c.args.id.line = rw (c.roster.ensures.events, c.bare-set.ensures) at c.in_default-at_line.ensures.absent in
     refused_kept s h c.note.new.self c.self.invariant _ (Undo c.args.id.line) reply.NotStanding more tt refl (absent_answer (view_of s h) c.args.id.line none) c.note.ensures.few
 
@@ -24,7 +24,7 @@ pub returns-in_default-at_line : goal.returns-in_default-at_line
 returns-in_default-at_line g c =
     let s = c.self.inside.set in
     let h = c.self.inside.history in
-    let more : c.note.new.self.lines ≡ h.lines ++ kept.NotStanding c.args.id.line ∷ [] = rw c.reserve.ensures.lines at c.note.ensures.lines in
+    let more : c.note.new.self.lines ≡ h.lines ++ seen.NotStanding c.args.id.line ∷ [] = rw c.reserve.ensures.lines at c.note.ensures.lines in
     let none : (x : Stander) → IsIn x s.set.events → x.id.line ≢ c.args.id.line = rw (c.roster.ensures.events, c.bare-set.ensures) at c.in_default-at_line.ensures.absent in
     let up = c.reserve.ensures.more in
     let down = c.note.ensures.room in
@@ -35,7 +35,7 @@ returns-in-Some-least_dependent g c =
     let s = c.self.inside.set in
     let h = c.self.inside.history in
     let holder = c.in-Some-least_dependent.holder in
-    let more : c.note-in-Some-least_dependent.new.self.lines ≡ h.lines ++ kept.Held c.args.id.line holder.line ∷ [] = rw c.reserve.ensures.lines at c.note-in-Some-least_dependent.ensures.lines in
+    let more : c.note-in-Some-least_dependent.new.self.lines ≡ h.lines ++ seen.Held c.args.id.line holder.line ∷ [] = rw c.reserve.ensures.lines at c.note-in-Some-least_dependent.ensures.lines in
     let in_line : c.in-Some.standing.line ≡ c.args.id.line = c.in-Some.ensures.found.3 in
     let least = rw c.bare-set.ensures at c.in-Some-least_dependent.ensures.found in
     let answers = subst (λ (l : ℕ). (st : State) → IsAt (view_of s h) st → MachineStep s.set.start st (Undo l) (reply.Held holder.line) (noted st)) in_line (held_answer (view_of s h) c.in-Some.standing holder least) in
@@ -48,7 +48,7 @@ invariant_of-self-in-Some-least_dependent g c =
     let s = c.self.inside.set in
     let h = c.self.inside.history in
     let holder = c.in-Some-least_dependent.holder in
-    let more : c.note-in-Some-least_dependent.new.self.lines ≡ h.lines ++ kept.Held c.args.id.line holder.line ∷ [] = rw c.reserve.ensures.lines at c.note-in-Some-least_dependent.ensures.lines in
+    let more : c.note-in-Some-least_dependent.new.self.lines ≡ h.lines ++ seen.Held c.args.id.line holder.line ∷ [] = rw c.reserve.ensures.lines at c.note-in-Some-least_dependent.ensures.lines in
     let in_line : c.in-Some.standing.line ≡ c.args.id.line = c.in-Some.ensures.found.3 in
     let answers = subst (λ (l : ℕ). (st : State) → IsAt (view_of s h) st → MachineStep s.set.start st (Undo l) (reply.Held holder.line) (noted st)) in_line (held_answer (view_of s h) c.in-Some.standing holder (rw c.bare-set.ensures at c.in-Some-least_dependent.ensures.found)) in
     refused_kept s h c.note-in-Some-least_dependent.new.self c.self.invariant _ (Undo c.args.id.line) (reply.Held holder.line) more tt refl answers c.note-in-Some-least_dependent.ensures.few
@@ -58,7 +58,7 @@ invariant_of-self-in-None g c =
     let s = c.self.inside.set in
     let h = c.self.inside.history in
     let in_line : c.in-Some.standing.line ≡ c.args.id.line = c.in-Some.ensures.found.3 in
-    let more : c.note-in-None.new.self.lines ≡ h.lines ++ kept.Undone c.in-Some.standing.line ∷ [] = rw (c.reserve.ensures.lines, ← in_line) at c.note-in-None.ensures.lines in
+    let more : c.note-in-None.new.self.lines ≡ h.lines ++ seen.Undone c.in-Some.standing.line ∷ [] = rw (c.reserve.ensures.lines, ← in_line) at c.note-in-None.ensures.lines in
     let up = c.reserve.ensures.more in
     let down = c.note-in-None.ensures.room in
     let room : h.room ≤ c.note-in-None.new.self.room + 1 = omega (arith, up, down) in
@@ -69,7 +69,7 @@ returns-in-None g c =
     let s = c.self.inside.set in
     let h = c.self.inside.history in
     let in_line : c.in-Some.standing.line ≡ c.args.id.line = c.in-Some.ensures.found.3 in
-    let more : c.note-in-None.new.self.lines ≡ h.lines ++ kept.Undone c.in-Some.standing.line ∷ [] = rw (c.reserve.ensures.lines, ← in_line) at c.note-in-None.ensures.lines in
+    let more : c.note-in-None.new.self.lines ≡ h.lines ++ seen.Undone c.in-Some.standing.line ∷ [] = rw (c.reserve.ensures.lines, ← in_line) at c.note-in-None.ensures.lines in
     let up = c.reserve.ensures.more in
     let down = c.note-in-None.ensures.room in
     let room : h.room ≤ c.note-in-None.new.self.room + 1 = omega (arith, up, down) in

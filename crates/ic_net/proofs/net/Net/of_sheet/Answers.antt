@@ -17,7 +17,7 @@ returns c =
     let frees = subst (λ es. IsFromIterResult nat_cmp es c.in_ok-from_iter-2.field-0) (All-taken k.0 k.1 ((k.3.2 tt).0, (k.3.0, k.3.1, (k.3.2 tt).1)) ∙ k.2.0) k.4 in
     let first = collected_agents sheet _ c.in_ok-from_iter.field-0 c.lawful.ensures.listing c.into_lists-agents.ensures.agents agents in
     let second = collected_frees sheet _ c.in_ok-from_iter-2.field-0 c.lawful.ensures.listing c.into_lists-agents.ensures.frees frees in
-    λ i. record { agents = first i; frees = second i; rings = c.rings-rings.ensures i; profile = c.profile-profile.ensures i }
+    λ i. record { agents = first i; frees = second i; rings = c.into_lists-agents.ensures.rings i; profile = c.into_lists-agents.ensures.profile i }
 
 -- so they are those of a net
 pub invariant_of-result : goal.invariant_of-result
