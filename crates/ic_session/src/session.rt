@@ -89,6 +89,7 @@ pub(crate) fn run_over<R: Read, W: Write, E: Write, T: Threads + Wait + Sync, G:
         }
     };
     place.pass_net(&text);
+    drop(text);
     let desk: Desk<Store> = Desk::over(alloc, start)?;
     answer_all(setting, desk, input, reader, output, writer, errors, place)?;
     Ok(Status::Ended)

@@ -157,7 +157,7 @@ fn end_alike<R: Threads + Wait + Sync>(rt: &R, alloc: Global, text: &[u8]) -> Op
     if one.end != End::Normal {
         return None;
     }
-    for workers in [2, 4, 8] {
+    for workers in 2..=8 {
         if !ends_like(rt, alloc, text, workers, &one) {
             return Some(false);
         }
@@ -179,9 +179,9 @@ fn next_ends_alike<R: Threads + Wait + Sync>(rt: &R, alloc: Global, numbers: &mu
 }
 
 #[test]
-fn random_nets_end_alike_with_any_workers(rt: HostRuntime) -> Result<(), Fail> {
+fn a_thousand_sweeps_of_random_nets_end_as_one_worker_does(rt: HostRuntime) -> Result<(), Fail> {
     let mut numbers = Numbers::from(7);
-    for _ in 0..100 {
+    for _ in 0..150 {
         assert!(rt; next_ends_alike(&rt, rt.alloc(), &mut numbers));
     }
     Ok(())
