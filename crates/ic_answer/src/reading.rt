@@ -7,7 +7,6 @@ ghost use Rattle.ic_answer.specs.Texts.{event_line};
 ghost use Rattle.ic_answer.specs.Turns.{Tells};
 
 use crate::named::push_pair;
-use ic_cause::journal_text;
 use ic_journal::{ActivePair, Bench, LinkStore};
 use ic_print::print_view;
 use std::alloc::{AllocError, Global};
@@ -57,9 +56,8 @@ fn push_active<L: LinkStore>(
 }
 
 /// The standing events with their ranks, in canonical order.
-pub(crate) fn journal<L: LinkStore>(alloc: Global, bench: &Bench<L>) -> Result<Vec<u8>, AllocError>
+pub(crate) fn journal<L: LinkStore>(bench: &Bench<L>) -> Result<Vec<u8>, AllocError>
     ensures { IfOk result (λ text. Tells bench.now Journal text.items) }
 {
-    let events = bench.ranked()?;
-    journal_text(alloc, &events)
+    bench.journal()
 }

@@ -1,3 +1,4 @@
+pub mod Errors
 pub mod EventOrder
 pub mod ListEnds
 pub mod OnceLists
@@ -6,18 +7,6 @@ pub mod RankFacts
 pub mod MakerFacts
 pub mod PathEnds
 pub mod SwapRemoves
-pub mod NodeRows
-pub mod RowOrMap
-pub mod NodeFacts
-pub mod NodeLoops
-pub mod NodeEvents
-pub mod SameLinks
-pub mod AddedLinks
-pub mod RemovedLinks
-pub mod KeptViews
-pub mod AddedEvents
-pub mod RemovedEvents
-pub mod Dependences
 pub mod OneFuture
 pub mod StrictOrders
 pub mod OneJournal

@@ -32,6 +32,10 @@ event_text e = name_text e.lead ++ codes " " ++ name_text e.other
 abbrev pub journal_line : Ranked → List ℕ
 journal_line x = event_text x.event ++ codes " rank " ++ decimal x.rank ++ codes "\n"
 
+-- the first line: how many events there are
+abbrev pub journal_head : ℕ → List ℕ
+journal_head count = codes "journal " ++ decimal count ++ codes "\n"
+
 -- how many events there are, and a line for each
 abbrev pub journal_text : List Ranked → List ℕ
-journal_text xs = codes "journal " ++ decimal (length xs) ++ codes "\n" ++ flat_map journal_line xs
+journal_text xs = journal_head (length xs) ++ flat_map journal_line xs

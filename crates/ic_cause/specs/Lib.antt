@@ -3,8 +3,3 @@ pub mod Ranks
 pub mod Makers
 pub mod Places
 pub mod EventOrders
-pub mod Dependents
-pub mod NodeRows
-pub mod Nodes
-pub mod NodeChanges
-pub mod LentNodes

@@ -1,5 +1,5 @@
 ghost use Rattle.std.specs.Prelude.{◌≡◌, ◌++◌, map, IfOk, OnOk};
-ghost use Rattle.ic_cause.specs.Journals.{journal_line, journal_text};
+ghost use Rattle.ic_cause.specs.Journals.{journal_head, journal_line, journal_text};
 
 use ic_name::Event;
 use std::alloc::{AllocError, Global};
@@ -16,15 +16,22 @@ pub struct RankedEvent {
 pub fn journal_text(alloc: Global, events: &[RankedEvent]) -> Result<Vec<u8>, AllocError>
     ensures { IfOk result (λ text. text.items ≡ journal_text (map (λ x. record { event = x.event; rank = x.rank }) events.now)) }
 {
-    let mut text = format!(in alloc; "journal {}\n", events.len())?.into_bytes();
+    let mut text = journal_head(alloc, events.len())?;
     for ranked in events {
         push_line(alloc, &mut text, ranked)?;
     }
     Ok(text)
 }
 
-/// Puts the line of an event at the end.
-fn push_line(alloc: Global, text: &mut Vec<u8>, ranked: &RankedEvent) -> Result<(), AllocError>
+/// The first line of a journal: how many events it has.
+pub fn journal_head(alloc: Global, events: usize) -> Result<Vec<u8>, AllocError>
+    ensures { IfOk result (λ text. text.items ≡ journal_head events) }
+{
+    Ok(format!(in alloc; "journal {}\n", events)?.into_bytes())
+}
+
+/// Puts the line of an event at the end. At an error memory ran out, and a front of the line may stand there.
+pub fn push_line(alloc: Global, text: &mut Vec<u8>, ranked: &RankedEvent) -> Result<(), AllocError>
     ensures { OnOk result (text.new.items ≡ text.old.items ++ journal_line (record { event = ranked.now.event; rank = ranked.now.rank })) }
 {
     ranked.event.lead().write_to(text)?;

@@ -1,18 +1,12 @@
-//! Causes of events: the makers of paths, ranks, the canonical order, the text of a journal, and standing events with
-//! their dependents.
+//! Causes of events: the makers of paths, ranks, the canonical order, and the text of a journal.
 #![tactic(auto)]
 
-pub mod dependents;
 pub mod journal;
 pub mod laws;
 pub mod makers;
-mod node_rows;
-mod node_slots;
-mod nodes;
 pub mod order;
 
-pub use dependents::Dependents;
-pub use journal::{RankedEvent, journal_text};
+pub use journal::{RankedEvent, journal_head, journal_text, push_line};
 pub use laws::{one_future, one_journal};
 pub use makers::direct_causes;
 pub use order::{canonical_cmp, rank_of};

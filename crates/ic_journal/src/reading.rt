@@ -10,6 +10,7 @@ ghost use Rattle.ic_theory.specs.Firings.{AreAfterCauses, then_fired};
 ghost use Rattle.ic_theory.specs.Listed.{shown};
 ghost use Rattle.ic_theory.specs.Nets.{IsSameNet, net_of};
 ghost use Rattle.ic_theory.specs.Steps.{AreDefined, steps};
+ghost use Rattle.ic_cause.specs.Journals.{Ranked, IsJournal, journal_text};
 ghost use Rattle.ic_roster.specs.Rosters.{Stander, IsNewName};
 ghost use Rattle.ic_set.specs.declared.pairs.ActivePair.{ActivePair as APair};
 ghost use Rattle.ic_set.specs.Views.{standing};
@@ -256,6 +257,13 @@ impl<L: LinkStore> Bench<L> {
         ensures { IfOk result (λ events. AreRanked (set_of self.now) events.items) }
     {
         self.set.bare().ranked()
+    }
+
+    /// The text of the journal: how many events stand, and a line for each with its rank, in canonical order.
+    pub fn journal(&self) -> Result<Vec<u8>, AllocError>
+        ensures { IfOk result (λ text. (xs : List Ranked) × IsJournal self.now.start (standing (set_of self.now)) xs × (text.items ≡ journal_text xs)) }
+    {
+        self.set.bare().journal()
     }
 
     /// The active pair with the least lead; `None` where no pair is active. It takes no memory.

@@ -8,9 +8,6 @@ use crate::placed::PlacedAgent;
 use ic_sheet::AgentView;
 use std::alloc::{AllocError, Global};
 
-/// The wires of so many agents can be numbered in four bytes.
-const MOST_AGENTS: usize = (u32::MAX / 3) as usize;
-
 /// The agents of a net, and the numbers of the wires that their lines show by one.
 #[derive(Drop)]
 pub(crate) struct NumberedAgents<'a> {
@@ -20,22 +17,19 @@ pub(crate) struct NumberedAgents<'a> {
 }
 
 impl<'a> NumberedAgents<'a> {
-    ghost use Rattle.std.specs.Prelude.{◌≡◌, ◌<◌, ◌≤◌, ◌*◌, length, unwrap_or, IfOk};
+    ghost use Rattle.std.specs.Prelude.{◌≡◌, ◌<◌, ◌≤◌, ◌*◌, ◌^◌, length, unwrap_or, IfOk};
     ghost use Rattle.ic_print.specs.Numbers.{port_wire, wire_place, AreWired, IsPlaced};
     ghost use Rattle.ic_print.specs.NumberedWires.{wires_in};
 
-    /// The agents with the numbers of their wires. At an error memory ran out, or there are so many agents that their wires may be
-    /// more than can be numbered.
+    /// The agents with the numbers of their wires.
     pub(crate) fn new(
         alloc: Global,
         agents: &'a [AgentView<'a>],
     ) -> Result<NumberedAgents<'a>, AllocError>
-        requires { AreWired (map shown_agent agents.now) }
+        requires wired { AreWired (map shown_agent agents.now) }
+        requires few { 3 * length agents.now < 2 ^ 64 }
         ensures { IfOk result (λ n. n.agents.now ≡ agents.now) }
     {
-        if agents.len() > MOST_AGENTS {
-            return Err(AllocError);
-        }
         let numbers = number_wires(alloc, agents)?;
         Ok(NumberedAgents { agents, numbers })
     }
@@ -53,7 +47,7 @@ impl<'a> NumberedAgents<'a> {
         requires port { port < length agent.now.view.partners.now }
         ensures { result ≡ unwrap_or (wire_place (wires_in self.now) (port_wire (shown_agent agent.now.view) port)) 0 }
     {
-        u64::from(self.numbers.get(agent.place, port).unwrap_or(0))
+        self.numbers.get(agent.place, port).unwrap_or(0)
     }
 
     /// How many wires have numbers: at most three for each agent.
@@ -61,6 +55,6 @@ impl<'a> NumberedAgents<'a> {
         ensures value { result ≡ length (wires_in self.now) }
         ensures few { result ≤ 3 * length self.now.agents.now }
     {
-        u64::from(self.numbers.count())
+        self.numbers.count()
     }
 }

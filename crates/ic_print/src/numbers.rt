@@ -15,7 +15,7 @@ use std::alloc::{AllocError, Global};
 #[derive(Drop)]
 pub(crate) struct WireNumbers {
     ports: Vec<PortNumbers>,
-    count: u32,
+    count: u64,
 }
 
 impl WireNumbers {
@@ -31,14 +31,14 @@ impl WireNumbers {
     }
 
     /// How many numbers have been given.
-    pub(crate) fn count(&self) -> u32
+    pub(crate) fn count(&self) -> u64
         ensures { result ≡ self.now.count }
     {
         self.count
     }
 
     /// The number at a port of the agent at a place, if it has one.
-    pub(crate) fn get(&self, place: usize, port: u8) -> Option<u32>
+    pub(crate) fn get(&self, place: usize, port: u8) -> Option<u64>
         ensures { result ≡ number_at self.now place port }
     {
         self.ports.get(place)?.get(port)
@@ -48,7 +48,6 @@ impl WireNumbers {
     fn give(&mut self, place: usize, port: u8)
         requires place { place < length self.old.ports.items }
         requires port { port < 3 }
-        requires room { self.old.count + 1 < 2 ^ 32 }
         ensures given { GivesNumber place port self.old.count self.old self.new }
         ensures places { length self.new.ports.items ≡ length self.old.ports.items }
         ensures count { self.new.count ≡ self.old.count }
@@ -62,7 +61,7 @@ impl WireNumbers {
         requires places { length self.old.ports.items ≡ length agents.now }
         requires placed { IsPlaced (map shown_agent agents.now) agent.now }
         requires port { port < length agent.now.view.partners.now }
-        requires room { self.old.count + 1 < 2 ^ 32 }
+        requires room { self.old.count + 1 < 2 ^ 64 }
         ensures entered { Enters (map shown_agent agents.now) self.old self.new (port_wires (shown_agent agent.now.view) port) }
         ensures places { length self.new.ports.items ≡ length agents.now }
         ensures one { self.new.count ≤ self.old.count + 1 }
@@ -84,7 +83,7 @@ impl WireNumbers {
         requires places { length self.old.ports.items ≡ length agents.now }
         requires placed { IsPlaced (map shown_agent agents.now) agent.now }
         requires whole { length agent.now.view.partners.now ≡ arity agent.now.view.kind + 1 }
-        requires room { self.old.count + 3 < 2 ^ 32 }
+        requires room { self.old.count + 3 < 2 ^ 64 }
         ensures entered { Enters (map shown_agent agents.now) self.old self.new (line_wires (shown_agent agent.now.view)) }
         ensures places { length self.new.ports.items ≡ length agents.now }
     {
@@ -107,7 +106,7 @@ pub(crate) fn number_wires(
     agents: &[AgentView<'_>],
 ) -> Result<WireNumbers, AllocError>
     requires wired { AreWired (map shown_agent agents.now) }
-    requires few { 3 * length agents.now < 2 ^ 32 }
+    requires few { 3 * length agents.now < 2 ^ 64 }
     ensures { IfOk result (λ n. IsNumbering (map shown_agent agents.now) n (numbered_wires (map shown_agent agents.now))) }
 {
     let mut numbers = WireNumbers::none(alloc, agents.len())?;

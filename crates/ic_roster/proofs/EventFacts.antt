@@ -6,7 +6,7 @@ use Rattle.ic_slots.specs.Slots.{slot_of, Gives}
 use Rattle.ic_path.specs.Orders.{IsIn, Alike}
 use Rattle.ic_name.specs.declared.ids.EventId.{EventId}
 use Rattle.ic_names.specs.declared.table.NameId.{NameId}
-use Rattle.ic_roster.specs.declared.event_records.EventRecord.{EventRecord}
+use Rattle.ic_roster.specs.declared.event_record.EventRecord.{EventRecord}
 use Rattle.ic_roster.specs.Placed.{PlacedEvent, HaveOwnKeys, IsNewKey}
 use Rattle.ic_roster.specs.Slots.{slot_at, HoldsOneMore}
 use Rattle.ic_roster.specs.EventSlots.{event_at, events_in, event_line, event_lead, AreIndexed}
@@ -100,9 +100,9 @@ id_elsewhere slots id r h differs x i e =
 
 -- a record of the line of an id, in its slot, is the event of that id
 pub event_of_id : (slots : List (Option EventRecord)) (id : EventId) (r : EventRecord) → slot_at slots id.slot ≡ Some r → r.line ≡ id.line
-    → IsIn (record { id = id; interaction = r.interaction; rank = r.rank; born = r.born.items }) (events_in slots)
+    → IsIn (record { id = id; interaction = r.interaction; rank = r.rank; born = r.born.items; causes = r.causes.items }) (events_in slots)
 event_of_id slots id r h e =
-    subst (λ l. IsIn (record { id = record { slot = id.slot; line = l }; interaction = r.interaction; rank = r.rank; born = r.born.items }) (events_in slots)) e (shown_from_slot event_at slots id.slot r h)
+    subst (λ l. IsIn (record { id = record { slot = id.slot; line = l }; interaction = r.interaction; rank = r.rank; born = r.born.items; causes = r.causes.items }) (events_in slots)) e (shown_from_slot event_at slots id.slot r h)
 
 -- the record in the slot of a place is the event that is led there
 pub lead_found : (slots : List (Option EventRecord)) (lines leads : List (Option ℕ)) → AreIndexed slots lines leads → (lead : NameId) (k : ℕ) (r : EventRecord) → slot_of leads lead.place ≡ Some k → slot_at slots k ≡ Some r

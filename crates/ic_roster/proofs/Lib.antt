@@ -6,7 +6,15 @@ pub mod Indexes
 pub mod Entries
 pub mod AgentFacts
 pub mod EventFacts
+pub mod RecordFacts
+pub mod RecordLoops
+pub mod SameLinks
+pub mod LinkedEvents
+pub mod AddedLinks
+pub mod AddedEvents
+pub mod RemovedLinks
 pub mod Named
+pub mod NamedCauses
 pub mod OwnEvents
 pub mod NameOrders
 pub mod ReadEvents

@@ -55,7 +55,7 @@ module _ (old new : List Name) (keeps : KeepsPlaces old new) where
 
   -- the events keep their names
   pub events_stay : (xs : List PlacedAgent) (es : List PlacedEvent) → AreNamed old xs es → map (stander_in new) es ≡ map (stander_in old) es
-  events_stay xs es named = same_images (stander_in new) (stander_in old) es (λ x i. (let s = event_stays x.interaction (named.events x i) in λ u. record { id = x.id; event = s u; rank = x.rank; born = x.born }))
+  events_stay xs es named = same_images (stander_in new) (stander_in old) es (λ x i. (let s = event_stays x.interaction (named.events x i) in λ u. record { id = x.id; event = s u; rank = x.rank; born = x.born; causes = x.causes }))
 
   -- all of them are still named
   pub all_still_named : (xs : List PlacedAgent) (es : List PlacedEvent) → AreNamed old xs es → AreNamed new xs es

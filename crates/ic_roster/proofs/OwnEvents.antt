@@ -17,7 +17,7 @@ same_lead ss x y own i j e = elim (in_others i.1 j) [ inl same ↦ sym same | in
 
 -- the event of an entry that is read
 abbrev pub found_entry : RosterView → EventId → StandingEntry → Stander
-found_entry v id entry = record { id = id; event = event_in v.names entry.interaction; rank = entry.rank; born = entry.born.now }
+found_entry v id entry = record { id = id; event = event_in v.names entry.interaction; rank = entry.rank; born = entry.born.now; causes = entry.causes.now }
 
 -- an event of the same id has the same lead
 pub led_there : (ss : List Stander) (x y : Stander) → HaveOwnLines ss → IsIn x ss → IsIn y ss → y.id ≡ x.id → {n : Name} → x.event.lead ≡ n → y.event.lead ≡ n

@@ -1,12 +1,12 @@
 -- How standing events are kept: records under slots, and indexes of the slots by line and by the place of the lead.
 use Rattle.std.specs.Prelude.{ℕ, List, Option}
-use Rattle.ic_roster.specs.declared.event_records.EventRecord.{EventRecord}
+use Rattle.ic_roster.specs.declared.event_record.EventRecord.{EventRecord}
 use Rattle.ic_roster.specs.Placed.{PlacedEvent}
 use Rattle.ic_roster.specs.Slots.{shown, IsIndexOf}
 
 -- the event of the record under a slot
 abbrev pub event_at : ℕ × EventRecord → PlacedEvent
-event_at p = record { id = record { slot = p.0; line = p.1.line }; interaction = p.1.interaction; rank = p.1.rank; born = p.1.born.items }
+event_at p = record { id = record { slot = p.0; line = p.1.line }; interaction = p.1.interaction; rank = p.1.rank; born = p.1.born.items; causes = p.1.causes.items }
 
 -- the events, by rising slot
 abbrev pub events_in : List (Option EventRecord) → List PlacedEvent

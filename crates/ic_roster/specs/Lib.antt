@@ -4,3 +4,5 @@ pub mod Slots
 pub mod Inverses
 pub mod AgentSlots
 pub mod EventSlots
+pub mod Records
+pub mod RecordChanges

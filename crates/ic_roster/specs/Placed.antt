@@ -1,6 +1,7 @@
 -- Agents and events that tell their names by places in the table.
-use Rattle.std.specs.Prelude.{◌≡◌, ◌≢◌, ◌<◌, ℕ, List, map, length, Option, Some, None}
+use Rattle.std.specs.Prelude.{◌≡◌, ◌≢◌, ◌<◌, ℕ, List, map, length, Option, Some, None, All}
 use Rattle.ic_path.specs.Orders.{Pick, IsIn}
+use Rattle.ic_path.specs.Rings.{HasEachOnce}
 use Rattle.ic_name.specs.Names.{Name}
 use Rattle.ic_name.specs.declared.ids.AgentId.{AgentId}
 use Rattle.ic_name.specs.declared.ids.EventId.{EventId}
@@ -19,12 +20,14 @@ pub record HaveOwnPlaces (xs : List PlacedAgent) : Type 0 where
 abbrev pub IsNewPlace : List PlacedAgent → ℕ → Type 0
 IsNewPlace xs place = (x : PlacedAgent) → IsIn x xs → x.name.place ≢ place
 
--- a standing event under its id, with the places of its names, its rank and the ids of its children
+-- a standing event under its id, with the places of its names, its rank, the ids of its children, and those of its direct
+-- causes
 pub record PlacedEvent : Type 0 where
   pub id : EventId
   pub interaction : Interaction
   pub rank : ℕ
   pub born : List AgentId
+  pub causes : List EventId
 
 -- each event has a slot, a line and a place of the lead of its own
 pub record HaveOwnKeys (xs : List PlacedEvent) : Type 0 where
@@ -35,6 +38,14 @@ pub record HaveOwnKeys (xs : List PlacedEvent) : Type 0 where
 -- no event of the list has the line, or its lead at the place
 abbrev pub IsNewKey : List PlacedEvent → ℕ → ℕ → Type 0
 IsNewKey xs line lead = (x : PlacedEvent) → IsIn x xs → (x.id.line ≢ line) × (x.interaction.lead.place ≢ lead)
+
+-- an event of the list has each of the ids
+abbrev pub AreKept : List PlacedEvent → List EventId → Type 0
+AreKept xs ds = All (λ d. (x : PlacedEvent) × IsIn x xs × (x.id ≡ d)) ds
+
+-- the events of the list that have this one among their direct causes, each once
+abbrev pub AreUsers : List PlacedEvent → EventId → List EventId → Type 0
+AreUsers xs d es = HasEachOnce (λ e. (x : PlacedEvent) × IsIn x xs × (x.id ≡ e) × IsIn d x.causes) es
 
 -- what is given is the place of the event's lead, and the ids of its children
 abbrev pub IsGiven : PlacedEvent → Option GoneEvent → Type 0
@@ -47,7 +58,7 @@ member_in ns x = record { id = x.id; name = name_at ns x.name.place; kind = x.ki
 
 -- the event with its names
 abbrev pub stander_in : List Name → PlacedEvent → Stander
-stander_in ns x = record { id = x.id; event = event_in ns x.interaction; rank = x.rank; born = x.born }
+stander_in ns x = record { id = x.id; event = event_in ns x.interaction; rank = x.rank; born = x.born; causes = x.causes }
 
 -- the names, and the agents and events with their names
 abbrev pub roster_in : List Name → List PlacedAgent → List PlacedEvent → RosterView

@@ -2,6 +2,7 @@
 use Rattle.std.specs.Prelude.{◌≡◌, ◌≢◌, ◌<◌, ℕ, List, [], ◌∷◌, map, length, Option, Some, None}
 use Rattle.std.specs.declared.cmp.Ordering.TheVariants.{Less}
 use Rattle.ic_path.specs.Orders.{Pick, Alike, IsIn}
+use Rattle.ic_path.specs.Rings.{HasEachOnce}
 use Rattle.ic_name.specs.Names.{Name, name_cmp}
 use Rattle.ic_name.specs.Events.{Event}
 use Rattle.ic_name.specs.declared.kinds.Kind.{Kind}
@@ -38,12 +39,13 @@ pub record AreByName (ms : List Member) (ids : List AgentId) : Type 0 where
   pub rising : AreRising order
   pub named : map (λ m. m.id) order ≡ ids
 
--- a standing event under its id, with its rank and the ids of its children
+-- a standing event under its id, with its rank, the ids of its children, and those of its direct causes
 pub record Stander : Type 0 where
   pub id : EventId
   pub event : Event
   pub rank : ℕ
   pub born : List AgentId
+  pub causes : List EventId
 
 -- each event has a slot, a line and a lead of its own
 pub record HaveOwnLines (ss : List Stander) : Type 0 where
@@ -54,6 +56,22 @@ pub record HaveOwnLines (ss : List Stander) : Type 0 where
 -- no event of the list has the line or the lead
 abbrev pub IsNewEvent : List Stander → ℕ → Event → Type 0
 IsNewEvent ss line e = (x : Stander) → IsIn x ss → (x.id.line ≢ line) × (x.event.lead ≢ e.lead)
+
+-- an event stands under the id
+abbrev pub Stands : List Stander → EventId → Type 0
+Stands ss d = (x : Stander) × IsIn x ss × (x.id ≡ d)
+
+-- no event is in the list twice
+abbrev pub IsOnce : List EventId → Type 0
+IsOnce ds = (d : EventId) (rest : List EventId) → Pick d ds rest → IsIn d rest → ⊥
+
+-- the event under the second id has the first among its direct causes
+abbrev pub DependsOn : List Stander → EventId → EventId → Type 0
+DependsOn ss d e = (x : Stander) × IsIn x ss × (x.id ≡ e) × IsIn d x.causes
+
+-- the events that have this one among their direct causes, each once
+abbrev pub AreDependents : List Stander → EventId → List EventId → Type 0
+AreDependents ss d es = HasEachOnce (DependsOn ss d) es
 
 -- the names that are known, the agents, and the standing events
 pub record RosterView : Type 0 where

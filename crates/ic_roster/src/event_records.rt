@@ -1,7 +1,10 @@
 ghost use Rattle.std.specs.Prelude.{◌≡◌, ◌≢◌, ◌∷◌, [], length, map, IsNone, IfSome, IfNone, IfOk, OnErr};
 ghost use Rattle.ic_path.specs.Orders.{Alike, IsIn};
-ghost use Rattle.ic_roster.specs.Placed.{PlacedEvent, HaveOwnKeys, IsNewKey, IsGiven};
+ghost use Rattle.ic_roster.specs.Rosters.{IsOnce};
+ghost use Rattle.ic_roster.specs.Placed.{PlacedEvent, HaveOwnKeys, IsNewKey, IsGiven, AreKept, AreUsers};
 
+use crate::dependents::{put_at_each, reserve_places, take_at_each};
+use crate::event_record::EventRecord;
 use crate::events::{GoneEvent, StandingEntry};
 use crate::interaction::Interaction;
 use crate::reserving::reserve_slot;
@@ -13,22 +16,14 @@ use smallvec::SmallVec;
 use std::alloc::{AllocError, Global};
 use std::marker::Model;
 
-/// The standing events of a bench, each under its id, and found by its line and by the place of its lead's name.
+/// The standing events of a bench, each under its id, and found by its line and by the place of its lead's name. Direct causes
+/// are kept both ways.
 #[derive(Drop)]
 pub(crate) struct EventRecords {
     records: Slab<EventRecord>,
     lines: SlotIndex,
     leads: SlotIndex,
     alloc: Global,
-}
-
-/// What is kept of a standing event under its slot.
-#[derive(Drop)]
-struct EventRecord {
-    interaction: Interaction,
-    line: u32,
-    rank: u32,
-    born: SmallVec<AgentId, 4>,
 }
 
 impl Model for EventRecords {
@@ -38,10 +33,11 @@ impl Model for EventRecords {
     ghost Value = { List PlacedEvent };
 
     ghost use Rattle.ic_roster.specs.EventSlots.{events_in, AreIndexed};
+    ghost use Rattle.ic_roster.specs.Records.{AreLinked};
 
     ghost view = { λ e. events_in e.records.slots };
 
-    ghost invariant = { λ e. AreIndexed e.records.slots e.lines e.leads };
+    ghost invariant = { λ e. AreIndexed e.records.slots e.lines e.leads × AreLinked e.records.slots };
 }
 
 impl EventRecords {
@@ -59,7 +55,8 @@ impl EventRecords {
 
     /// What holds of all records, for whoever has to show it.
     pub fn lawful(&self)
-        ensures { HaveOwnKeys self.now }
+        ensures keys { HaveOwnKeys self.now }
+        ensures kept { (x : PlacedEvent) → IsIn x self.now → AreKept self.now x.causes }
     {
         let _ = &self.records;
     }
@@ -82,7 +79,7 @@ impl EventRecords {
 
     /// The event under an id, slot and line both; `None` for an id that holds no more. It takes no memory.
     pub fn get(&self, id: EventId) -> Option<StandingEntry<'_>>
-        ensures found { IfSome result (λ entry. IsIn (record { id = id; interaction = entry.interaction; rank = entry.rank; born = entry.born.now }) self.now) }
+        ensures found { IfSome result (λ entry. IsIn (record { id = id; interaction = entry.interaction; rank = entry.rank; born = entry.born.now; causes = entry.causes.now }) self.now) }
         ensures absent { IfNone result ((x : PlacedEvent) → IsIn x self.now → x.id ≢ id) }
     {
         let event = self.records.get(id.slot as usize)?;
@@ -93,7 +90,19 @@ impl EventRecords {
             interaction: event.interaction,
             rank: event.rank,
             born: event.born.as_slice(),
+            causes: event.causes.as_slice(),
         })
+    }
+
+    /// The events that have the one under this id among their direct causes, each once, in no promised order; none where none
+    /// stands under it. It takes no memory.
+    pub fn dependents(&self, id: EventId) -> &[EventId]
+        ensures { AreUsers self.now id result.now }
+    {
+        match self.records.get(id.slot as usize) {
+            Some(event) if event.line == id.line => event.dependents.as_slice(),
+            _ => &[],
+        }
     }
 
     /// The ids of all events.
@@ -128,19 +137,25 @@ impl EventRecords {
         })
     }
 
-    /// One event more, fired in this line, in constant time but for growth. At an error nothing changes.
+    /// One event more, fired in this line, with its direct causes, which stand, in constant time for each but for growth. At an
+    /// error nothing changes.
     pub fn insert(
         &mut self,
         interaction: Interaction,
         line: u32,
         rank: u32,
         born: &[AgentId],
+        causes: &[EventId],
     ) -> Result<EventId, AllocError>
-        requires { IsNewKey self.old line interaction.lead.place }
-        ensures entered { IfOk result (λ id. (id.line ≡ line) × Alike (record { id = id; interaction = interaction; rank = rank; born = born.now } ∷ self.old) self.new) }
+        requires is_new { IsNewKey self.old line interaction.lead.place }
+        requires kept { AreKept self.old causes.now }
+        requires once { IsOnce causes.now }
+        ensures entered { IfOk result (λ id. (id.line ≡ line) × Alike (record { id = id; interaction = interaction; rank = rank; born = born.now; causes = causes.now } ∷ self.old) self.new) }
         ensures unchanged { OnErr result (self.new ≡ self.old) }
     {
         let born = SmallVec::from_slice(self.alloc, born)?;
+        let its_causes = SmallVec::from_slice(self.alloc, causes)?;
+        reserve_places(&mut self.records, causes)?;
         let slot = reserve_slot(&mut self.records)?;
         self.lines.reserve(line)?;
         self.leads.reserve(interaction.lead.place)?;
@@ -151,13 +166,18 @@ impl EventRecords {
             line,
             rank,
             born,
+            causes: its_causes,
+            dependents: SmallVec::new(self.alloc),
         });
-        Ok(EventId { slot, line })
+        let id = EventId { slot, line };
+        put_at_each(&mut self.records, causes, id);
+        Ok(id)
     }
 
-    /// The event under the id goes, if it stands, in constant time, and what was kept of it is handed out; `None` where none
-    /// stands under the id. It takes no memory.
+    /// The event under the id goes, if it stands, and what was kept of it is handed out; `None` where none stands under the
+    /// id. It is no direct cause of another. It takes no memory, and time that grows with the dependents of its causes.
     pub fn remove(&mut self, id: EventId) -> Option<GoneEvent>
+        requires { (x : PlacedEvent) → IsIn x self.old → IsIn id x.causes → ⊥ }
         ensures gone { (x : PlacedEvent) → IsIn x self.old → x.id ≡ id → Alike self.old (x ∷ self.new) }
         ensures handed { (x : PlacedEvent) → IsIn x self.old → x.id ≡ id → IsGiven x result }
         ensures absent { ((x : PlacedEvent) → IsIn x self.old → x.id ≢ id) → IsNone result }
@@ -166,6 +186,7 @@ impl EventRecords {
     {
         self.get(id)?;
         let event = self.records.remove(id.slot as usize);
+        take_at_each(&mut self.records, event.causes.as_slice(), id);
         let lead = event.interaction.lead;
         self.lines.take(id.line);
         self.leads.take(lead.place);

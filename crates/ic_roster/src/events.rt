@@ -1,8 +1,8 @@
-ghost use Rattle.std.specs.Prelude.{◌≡◌, ◌≢◌, ◌<◌, ◌∷◌, length, map, IsNone, IfSome, IfNone, IfOk, OnErr};
+ghost use Rattle.std.specs.Prelude.{◌≡◌, ◌≢◌, ◌<◌, ◌∷◌, length, map, All, IsNone, IfSome, IfNone, IfOk, OnErr};
 ghost use Rattle.ic_path.specs.Orders.{Alike, IsIn};
 ghost use Rattle.ic_name.specs.Events.{pair};
 ghost use Rattle.ic_names.specs.Tables.{name_at};
-ghost use Rattle.ic_roster.specs.Rosters.{Stander, IsNewEvent, event_in, IsNamed, IsHanded};
+ghost use Rattle.ic_roster.specs.Rosters.{Stander, IsNewEvent, Stands, IsOnce, AreDependents, event_in, IsNamed, IsHanded};
 
 use crate::interaction::Interaction;
 use crate::roster::Roster;
@@ -11,12 +11,13 @@ use ic_names::NameId;
 use smallvec::SmallVec;
 use std::alloc::{AllocError, Global};
 
-/// A standing event, to be read.
+/// A standing event, to be read, with the ids of its children and of its direct causes.
 #[derive(Clone, Copy)]
 pub struct StandingEntry<'a> {
     pub interaction: Interaction,
     pub rank: u32,
     pub born: &'a [AgentId],
+    pub causes: &'a [EventId],
 }
 
 /// What was kept of an event that goes: the place of its lead's name, and the ids of its children.
@@ -44,11 +45,19 @@ impl Roster {
 
     /// The event under an id, slot and line both; `None` for an id that holds no more. It takes no memory.
     pub fn event(&self, id: EventId) -> Option<StandingEntry<'_>>
-        ensures found { IfSome result (λ entry. IsIn (record { id = id; event = event_in self.now.names entry.interaction; rank = entry.rank; born = entry.born.now }) self.now.events) }
+        ensures found { IfSome result (λ entry. IsIn (record { id = id; event = event_in self.now.names entry.interaction; rank = entry.rank; born = entry.born.now; causes = entry.causes.now }) self.now.events) }
         ensures named { IfSome result (λ entry. IsNamed self.now.names entry.interaction) }
         ensures absent { IfNone result ((x : Stander) → IsIn x self.now.events → x.id ≢ id) }
     {
         self.events.get(id)
+    }
+
+    /// The events that have the one under this id among their direct causes, each once, in no promised order; none where none
+    /// stands under it. It takes no memory.
+    pub fn dependents(&self, id: EventId) -> &[EventId]
+        ensures { AreDependents self.now.events id result.now }
+    {
+        self.events.dependents(id)
     }
 
     /// The ids of all events, in no promised order.
@@ -83,27 +92,32 @@ impl Roster {
         }
     }
 
-    /// One event more, fired in this line, in constant time but for growth. At an error nothing changes.
+    /// One event more, fired in this line, with its direct causes, which stand, in constant time for each but for growth. At an
+    /// error nothing changes.
     pub fn insert_event(
         &mut self,
         interaction: Interaction,
         line: u32,
         rank: u32,
         born: &[AgentId],
+        causes: &[EventId],
     ) -> Result<EventId, AllocError>
         requires named { IsNamed self.old.names interaction }
         requires is_new { IsNewEvent self.old.events line (event_in self.old.names interaction) }
-        ensures entered { IfOk result (λ id. (id.line ≡ line) × Alike (record { id = id; event = event_in self.old.names interaction; rank = rank; born = born.now } ∷ self.old.events) self.new.events) }
+        requires standing { All (Stands self.old.events) causes.now }
+        requires once { IsOnce causes.now }
+        ensures entered { IfOk result (λ id. (id.line ≡ line) × Alike (record { id = id; event = event_in self.old.names interaction; rank = rank; born = born.now; causes = causes.now } ∷ self.old.events) self.new.events) }
         ensures names { self.new.names ≡ self.old.names }
         ensures agents { self.new.agents ≡ self.old.agents }
         ensures unchanged { OnErr result (self.new ≡ self.old) }
     {
-        self.events.insert(interaction, line, rank, born)
+        self.events.insert(interaction, line, rank, born, causes)
     }
 
-    /// The event under the id goes, if it stands, in constant time, and what was kept of it is handed out; `None` where none
-    /// stands under the id. It takes no memory.
+    /// The event under the id goes, if it stands, and what was kept of it is handed out; `None` where none stands under the
+    /// id. It is no direct cause of another. It takes no memory, and time that grows with the dependents of its causes.
     pub fn remove_event(&mut self, id: EventId) -> Option<GoneEvent>
+        requires { (x : Stander) → IsIn x self.old.events → IsIn id x.causes → ⊥ }
         ensures gone { (x : Stander) → IsIn x self.old.events → x.id ≡ id → Alike self.old.events (x ∷ self.new.events) }
         ensures handed { (x : Stander) → IsIn x self.old.events → x.id ≡ id → IsHanded self.old.names x result }
         ensures absent { ((x : Stander) → IsIn x self.old.events → x.id ≢ id) → IsNone result }

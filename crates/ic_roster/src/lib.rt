@@ -1,8 +1,11 @@
-//! Who is there: agents and standing events, under their ids and by their names, which lie in one table.
+//! Who is there: agents and standing events, under their ids and by their names, which lie in one table. Each event keeps its
+//! direct causes, and the events whose direct cause it is.
 #![tactic(auto)]
 
 mod agent_records;
 pub mod agents;
+mod dependents;
+mod event_record;
 mod event_records;
 pub mod events;
 pub mod interaction;

@@ -1,7 +1,8 @@
-ghost use Rattle.std.specs.Prelude.{◌≡◌, ◌<◌, ◌↔◌, [], length, IfOk, IsErrOf, OnErr};
+ghost use Rattle.std.specs.Prelude.{◌≡◌, ◌<◌, ◌↔◌, [], length, All, IfOk, IsErrOf, OnErr};
 ghost use Rattle.ic_name.specs.Names.{depth as depth_of, child_name};
 ghost use Rattle.ic_names.specs.Tables.{name_at, StandsAt, IsTable, Enters, GrowsUpTo};
-ghost use Rattle.ic_roster.specs.Rosters.{HaveOwnNames, HaveOwnLines, event_in, IsNamed};
+ghost use Rattle.ic_path.specs.Orders.{IsIn};
+ghost use Rattle.ic_roster.specs.Rosters.{Stander, HaveOwnNames, HaveOwnLines, Stands, event_in, IsNamed};
 
 use crate::agent_records::AgentRecords;
 use crate::event_records::EventRecords;
@@ -51,6 +52,7 @@ impl Roster {
         ensures table { IsTable self.now.names }
         ensures names { HaveOwnNames self.now.agents }
         ensures lines { HaveOwnLines self.now.events }
+        ensures causes { (x : Stander) → IsIn x self.now.events → All (Stands self.now.events) x.causes }
     {
         self.names.lawful();
         self.agents.lawful();

@@ -17,7 +17,6 @@ use Rattle.ic_theory.specs.Born.{born_agents}
 use Rattle.ic_theory.specs.Machine.{IsDeep}
 use Rattle.ic_theory.specs.Rules.{born_ends}
 use Rattle.ic_shown.proofs.Elements.{in-map}
-use Rattle.ic_cause.specs.Dependents.{Causes}
 use Rattle.ic_roster.specs.Rosters.{Member, Stander, HaveOwnNames, HaveOwnLines}
 use Rattle.ic_set.specs.declared.pairs.ActivePair.{ActivePair}
 use Rattle.ic_set.specs.Views.{SetView, standing, AreChildren}
@@ -30,7 +29,7 @@ use Rattle.ic_set.specs.Admission.{AreCausesOf, IsRankOver, CanPutIn, PutsIn}
 use Rattle.ic_set.proofs.Namings.{own_lines_alike}
 use Rattle.ic_set.proofs.KeptOrders.{kept_alike}
 use Rattle.ic_set.proofs.RankBounds.{rank_below_length}
-use Rattle.ic_set.proofs.NewEvents.{sound_more, new_event, no_causes, no_links, causes_kept, causes_once}
+use Rattle.ic_set.proofs.NewEvents.{sound_more, new_event, no_links, causes_kept, causes_once}
 use Rattle.ic_set.proofs.Children.{new_children}
 use Rattle.ic_set.proofs.RuleDigits.{rule_few}
 use Rattle.ic_set.proofs.Admitted.{digits, lawful_more, kept_more}
@@ -55,7 +54,7 @@ ranks_fit v is few x i =
     let long = length-map v.events (λ (y : Stander). y.event) in
     omega arith
 
-module _ (v w : SetView) (seen : v ≡ w) (ls : List Link) (kept : Causes) (k : IsKept v ls kept) (e : Event) (p : ActivePair) (active : IsPairOf w e p)
+module _ (v w : SetView) (seen : v ≡ w) (ls : List Link) (k : IsKept v ls) (e : Event) (p : ActivePair) (active : IsPairOf w e p)
     (line : ℕ) (unused : (x : Stander) → IsIn x w.events → x.id.line ≢ line) where
   -- the pair is active in what was seen
   pair : IsPairOf v e p
@@ -68,7 +67,7 @@ module _ (v w : SetView) (seen : v ≡ w) (ls : List Link) (kept : Causes) (k : 
   module _ (entering : List (Name × Kind)) (its : entering ≡ born_agents e) where
     -- the children can be entered
     pub can_enter : CanEnter v.agents entering
-    can_enter = rw its (new_children v.start (standing v) e v.agents (sound_more v ls kept k e pair.active) k.set.agents)
+    can_enter = rw its (new_children v.start (standing v) e v.agents (sound_more v ls k e pair.active) k.set.agents)
 
     module _ (born : List AgentId) (ms : List Member) (enters : Enters v.agents entering (line + 1) born ms) (own : HaveOwnNames ms)
         (rank : ℕ) (ids : List EventId) (causes : AreCausesOf w e ids) where
@@ -81,31 +80,30 @@ module _ (v w : SetView) (seen : v ≡ w) (ls : List Link) (kept : Causes) (k : 
       its_causes = subst (λ (u : SetView). AreCausesOf u e ids) (sym seen) causes
 
       -- the event can be put in
-      pub can_put_in : IsLawful ls → CanPutIn e line rank p born (born_ends v.start.profile e.lead_kind e.other_kind) ids v.events ls kept
+      pub can_put_in : IsLawful ls → CanPutIn e line rank p born (born_ends v.start.profile e.lead_kind e.other_kind) ids v.events ls
       can_put_in h = record {
-        new = new_event v ls kept k e pair.active line new_line;
-        digits = digits v ls kept k e p pair line new_line enters.entered born are ms enters.alike own;
+        new = new_event v ls k e pair.active line new_line;
+        digits = digits v ls k e p pair line new_line enters.entered born are ms enters.alike own;
         few = rule_few v.start.profile e.lead_kind e.other_kind;
-        no_links = λ d l q i. no_links v ls kept k e pair.active line new_line d q l i;
-        lawful = λ d q lines. lawful_more v ls kept k e p pair line new_line enters.entered born are ms enters.alike own d q rank lines h;
-        no_causes = λ d q. no_causes v ls kept k e pair.active line new_line d q;
-        causes = causes_kept v ls kept k e pair.active ids its_causes;
-        once = causes_once v ls kept k e pair.active ids its_causes;
+        no_links = λ d l q i. no_links v ls k e pair.active line new_line d q l i;
+        lawful = λ d q lines. lawful_more v ls k e p pair line new_line enters.entered born are ms enters.alike own d q rank ids lines h;
+        causes = causes_kept v ls k e pair.active ids its_causes;
+        once = causes_once v ls k e pair.active ids its_causes;
       }
 
-      module _ (over : IsRankOver w.events ids rank) (d : EventId) (in_line : d.line ≡ line) (ss : List Stander) (ls' : List Link) (kept' : Causes) (lines : HaveOwnLines ss)
-          (puts : PutsIn (record { id = d; event = e; rank = rank; born = born }) (made_links d p born 0 (born_ends v.start.profile e.lead_kind e.other_kind)) ids v.events ss ls ls' kept kept') where
+      module _ (over : IsRankOver w.events ids rank) (d : EventId) (in_line : d.line ≡ line) (ss : List Stander) (ls' : List Link) (lines : HaveOwnLines ss)
+          (puts : PutsIn (record { id = d; event = e; rank = rank; born = born; causes = ids }) (made_links d p born 0 (born_ends v.start.profile e.lead_kind e.other_kind)) v.events ss ls ls') where
         -- with it, if it is not deep, the set is a standing set
-        pub put_keeps : ¬ (IsDeep e) → IsKept (record { start = v.start; agents = ms; events = ss }) ls' kept'
+        pub put_keeps : ¬ (IsDeep e) → IsKept (record { start = v.start; agents = ms; events = ss }) ls'
         put_keeps shallow =
-            kept_alike v.start (alike_self ms) puts.events puts.links puts.causes
-            (kept_more v ls kept k e p pair line new_line enters.entered born are ms enters.alike own d in_line rank (own_lines_alike (alike_back puts.events) lines) ids its_causes
+            kept_alike v.start (alike_self ms) puts.events puts.links
+            (kept_more v ls k e p pair line new_line enters.entered born are ms enters.alike own d in_line rank ids (own_lines_alike (alike_back puts.events) lines) its_causes
             (subst (λ (u : SetView). IsRankOver u.events ids rank) (sym seen) over) shallow)
 
         -- which admits it
         pub put_admits : Admits w e line d (record { start = v.start; agents = ms; events = ss })
         put_admits = subst (λ (u : SetView). Admits u e line d (record { start = v.start; agents = ms; events = ss })) seen (record {
-          entry = record { id = d; event = e; rank = rank; born = born };
+          entry = record { id = d; event = e; rank = rank; born = born; causes = ids };
           children = enters.entered;
           under = refl;
           in_line = in_line;

@@ -1,10 +1,9 @@
 -- What a standing set keeps once an active event was put in with its children, its links and its causes.
-use Rattle.std.proofs.Common.{◌≡◌, ◌≢◌, ℕ, ◌+◌, ◌<◌, ◌≤◌, Bool, true, false, List, ◌∷◌, ◌++◌, map, length, ◌⊎◌, inl, inr, Some, None, refl, sym, ap, arith, ◌∙◌, subst}
+use Rattle.std.proofs.Common.{◌≡◌, ◌≢◌, ℕ, ◌+◌, ◌<◌, ◌≤◌, true, List, ◌∷◌, ◌++◌, map, length, ◌⊎◌, inl, inr, refl, sym, ap, arith, ◌∙◌, subst}
 use Rattle.std.specs.Prelude.{slice_index_or}
 use Rattle.std.proofs.lemmas.List.{map-append}
 use Rattle.ic_name.specs.Names.{child_name}
 use Rattle.ic_name.specs.Events.{Event}
-use Rattle.ic_name.specs.Spots.{same_event}
 use Rattle.ic_name.specs.declared.ids.AgentId.{AgentId}
 use Rattle.ic_name.specs.declared.ids.EventId.{EventId}
 use Rattle.ic_name.specs.declared.ids.Link.{Link}
@@ -27,14 +26,12 @@ use Rattle.ic_shown.specs.Naming.{Naming, TellsApart, Extends, IsHeld, link_of}
 use Rattle.ic_shown.specs.Shown.{Shows}
 use Rattle.ic_shown.proofs.Elements.{in-map, map_cases}
 use Rattle.ic_shown.proofs.MoreLinks.{shows_more}
-use Rattle.ic_shown.proofs.SameEvents.{same_event_true, same_event_self}
-use Rattle.ic_cause.specs.Dependents.{Causes, with_event}
 use Rattle.ic_cause.proofs.OnceLists.{each_once_so}
 use Rattle.ic_roster.specs.Rosters.{Member, Stander, HaveOwnNames, HaveOwnLines}
 use Rattle.ic_set.specs.declared.pairs.ActivePair.{ActivePair}
 use Rattle.ic_set.specs.Views.{SetView, standing, agent_of, AreChildren}
 use Rattle.ic_set.specs.Ids.{IsNaming}
-use Rattle.ic_set.specs.Causes.{IsCauseId, KeepsCauses}
+use Rattle.ic_set.specs.Causes.{IsCauseId, HaveCauses}
 use Rattle.ic_set.specs.Sets.{HasChildren, IsStandingSet, IsKept}
 use Rattle.ic_set.specs.Pairs.{IsPairOf}
 use Rattle.ic_set.specs.Joining.{no_id, made_links, HaveDigits}
@@ -45,9 +42,9 @@ use Rattle.ic_set.proofs.Children.{length-born, nth_child}
 use Rattle.ic_set.proofs.RuleDigits.{rule_digits}
 use Rattle.ic_set.proofs.MadeLinks.{made_held, made_named, lawful_made}
 use Rattle.ic_set.proofs.SlimSets.{slim_shown}
-use Rattle.ic_set.proofs.NewEvents.{sound_more, causes_nothing, own_causes, new_id, no_links}
+use Rattle.ic_set.proofs.NewEvents.{sound_more, causes_nothing, own_causes, no_links}
 
-module _ (v : SetView) (ls : List Link) (kept : Causes) (k : IsKept v ls kept) (e : Event) (p : ActivePair) (pair : IsPairOf v e p)
+module _ (v : SetView) (ls : List Link) (k : IsKept v ls) (e : Event) (p : ActivePair) (pair : IsPairOf v e p)
     (line : ℕ) (new_line : (x : Stander) → IsIn x v.events → x.id.line ≢ line)
     (children : List Member) (born : List AgentId) (are : AreChildren e born children) (ms : List Member) (entered : Alike (children ++ v.agents) ms) (own : HaveOwnNames ms) where
   -- the set with the event has the set
@@ -56,7 +53,7 @@ module _ (v : SetView) (ls : List Link) (kept : Causes) (k : IsKept v ls kept) (
 
   -- it is sound
   sound : IsSound v.start (e ∷ standing v)
-  sound = sound_more v ls kept k e pair.active
+  sound = sound_more v ls k e pair.active
 
   -- the agents of before are there
   agent_stays : (m : Member) → IsIn m v.agents → IsIn m ms
@@ -76,10 +73,10 @@ module _ (v : SetView) (ls : List Link) (kept : Causes) (k : IsKept v ls kept) (
   pub digits : HaveDigits born (born_ends v.start.profile e.lead_kind e.other_kind)
   digits = rule_digits born v.start.profile e.lead_kind e.other_kind (length-born e born children are)
 
-  module _ (d : EventId) (in_line : d.line ≡ line) (rank : ℕ) where
+  module _ (d : EventId) (in_line : d.line ≡ line) (rank : ℕ) (ids : List EventId) where
     -- the event under its id
     abbrev entry : Stander
-    entry = record { id = d; event = e; rank = rank; born = born }
+    entry = record { id = d; event = e; rank = rank; born = born; causes = ids }
 
     -- the links that it makes
     abbrev made : List Link
@@ -128,10 +125,10 @@ module _ (v : SetView) (ls : List Link) (kept : Causes) (k : IsKept v ls kept) (
       -- so they can be put in
       pub lawful_more : IsLawful ls → IsLawful (made ++ ls)
       lawful_more h =
-          lawful_made d p born ls h (no_links v ls kept k e pair.active line new_line d in_line) 0 (born_ends v.start.profile e.lead_kind e.other_kind)
+          lawful_made d p born ls h (no_links v ls k e pair.active line new_line d in_line) 0 (born_ends v.start.profile e.lead_kind e.other_kind)
           (slim_shown named.0 v.start (e ∷ standing v) (made ++ ls) k.set.proper sound shows)
 
-      module _ (ids : List EventId) (its_causes : AreCausesOf v e ids) (over : IsRankOver v.events ids rank) (shallow : ¬ (IsDeep e)) where
+      module _ (its_causes : AreCausesOf v e ids) (over : IsRankOver v.events ids rank) (shallow : ¬ (IsDeep e)) where
         -- an event that is its direct cause is below it
         below : (r : Event → ℕ) → IsRank v.start (e ∷ standing v) r → (x : Stander) → IsIn x v.events → x.rank ≡ r x.event
         below r h x i = k.set.ranks r (part_ranks v.start k.set.proper r sound k.set.sound inside h) x i
@@ -143,7 +140,7 @@ module _ (v : SetView) (ls : List Link) (kept : Causes) (k : IsKept v ls kept) (
             by : (r e ≡ 0) ⊎ ((c : Event) × IsCause v.start (e ∷ standing v) e c × (r e ≡ r c + 1)) → r e ≤ rank
             by (inl z) = omega arith
             by (inr w) =
-                let q = own_causes v ls kept k e pair.active w.0 w.1 in
+                let q = own_causes v ls k e pair.active w.0 w.1 in
                 let x = map_cases (λ (x : Stander). x.event) v.events (cause_in v.start q) in
                 let cause = subst (λ c. IsCause v.start (standing v) e c) (sym x.2) q in
                 let up = over.above x.0 x.1 (its_causes.each x.0.id (x.0, x.1, refl, cause)) in
@@ -166,6 +163,32 @@ module _ (v : SetView) (ls : List Link) (kept : Causes) (k : IsKept v ls kept) (
                 let top = w.3 in
                 omega arith
 
+        -- a direct cause by its id is one in the set with the event
+        cause_up : (x : Stander) (c : EventId) → IsCauseId v.start v.events x c → IsCauseId v.start (entry ∷ v.events) x c
+        cause_up x c w = (w.0, in_more entry w.1, w.2, cause_included v.start inside w.3)
+
+        -- and the other way round
+        cause_down : (x : Stander) → ((c : Event) → IsCause v.start (e ∷ standing v) x.event c → IsCause v.start (standing v) x.event c) → (c : EventId)
+            → IsCauseId v.start (entry ∷ v.events) x c → IsCauseId v.start v.events x c
+        cause_down x down c w = by (in-cons_cases w.1)
+          where
+            by : (w.0 ≡ entry) ⊎ IsIn w.0 v.events → IsCauseId v.start v.events x c
+            by (inl q) = absurd (causes_nothing v ls k e pair.active x.event (subst (λ y. IsCause v.start (standing v) x.event y) (ap (λ (y : Stander). y.event) q) (down w.0.event w.3)))
+            by (inr i) = (w.0, i, w.2, down w.0.event w.3)
+
+        -- the causes that are noted
+        causes_more : HaveCauses v.start (entry ∷ v.events)
+        causes_more x i = by (in-cons_cases i)
+          where
+            by : (x ≡ entry) ⊎ IsIn x v.events → HasEachOnce (IsCauseId v.start (entry ∷ v.events) x) x.causes
+            by (inl q) =
+                subst (λ (y : Stander). HasEachOnce (IsCauseId v.start (entry ∷ v.events) y) y.causes) (sym q)
+                (each_once_so {P = IsCauseId v.start v.events entry} {Q = IsCauseId v.start (entry ∷ v.events) entry} (cause_up entry) (cause_down entry (own_causes v ls k e pair.active)) its_causes)
+            by (inr j) =
+                let there = in-map (λ (y : Stander). y.event) j in
+                each_once_so {P = IsCauseId v.start v.events x} {Q = IsCauseId v.start (entry ∷ v.events) x} (cause_up x)
+                (cause_down x (λ c q. cause_stays v.start k.set.proper sound.apart inside k.set.sound there q)) (k.set.causes x j)
+
         -- what is seen
         set_more : IsStandingSet (record { start = v.start; agents = ms; events = entry ∷ v.events })
         set_more = record {
@@ -177,6 +200,7 @@ module _ (v : SetView) (ls : List Link) (kept : Causes) (k : IsKept v ls kept) (
           own_lines = lines;
           children = λ x i. has_children x (in-cons_cases i);
           ranks = λ r h x i. has_rank r h x (in-cons_cases i);
+          causes = causes_more;
         }
           where
             is_shallow : (x : Stander) → (x ≡ entry) ⊎ IsIn x v.events → ¬ (IsDeep x.event)
@@ -195,49 +219,6 @@ module _ (v : SetView) (ls : List Link) (kept : Causes) (k : IsKept v ls kept) (
                 subst (λ (y : Stander). y.rank ≡ r y.event) (sym q) same
             has_rank r h x (inr i) = below r h x i
 
-        -- a direct cause by its id is one in the set with the event
-        cause_up : (x : Stander) (c : EventId) → IsCauseId v.start v.events x c → IsCauseId v.start (entry ∷ v.events) x c
-        cause_up x c w = (w.0, in_more entry w.1, w.2, cause_included v.start inside w.3)
-
-        -- and the other way round
-        cause_down : (x : Stander) → ((c : Event) → IsCause v.start (e ∷ standing v) x.event c → IsCause v.start (standing v) x.event c) → (c : EventId)
-            → IsCauseId v.start (entry ∷ v.events) x c → IsCauseId v.start v.events x c
-        cause_down x down c w = by (in-cons_cases w.1)
-          where
-            by : (w.0 ≡ entry) ⊎ IsIn w.0 v.events → IsCauseId v.start v.events x c
-            by (inl q) = absurd (causes_nothing v ls kept k e pair.active x.event (subst (λ y. IsCause v.start (standing v) x.event y) (ap (λ (y : Stander). y.event) q) (down w.0.event w.3)))
-            by (inr i) = (w.0, i, w.2, down w.0.event w.3)
-
-        -- the causes that are kept
-        causes_more : KeepsCauses v.start (entry ∷ v.events) (with_event d (Some ids) kept)
-        causes_more = record { each = λ x i. each x (in-cons_cases i); no_others = none }
-          where
-            others_same : (c : EventId) → (c ≡ d → ⊥) → with_event d (Some ids) kept c ≡ kept c
-            others_same c n = by (same_event c d) refl
-              where
-                by : (t : Bool) → same_event c d ≡ t → with_event d (Some ids) kept c ≡ kept c
-                by true q = absurd (n (same_event_true c d q))
-                by false q = rw q refl
-
-            each : (x : Stander) → (x ≡ entry) ⊎ IsIn x v.events → (ds : List EventId) × (with_event d (Some ids) kept x.id ≡ Some ds) × HasEachOnce (IsCauseId v.start (entry ∷ v.events) x) ds
-            each x (inl q) =
-                subst (λ (y : Stander). (ds : List EventId) × (with_event d (Some ids) kept y.id ≡ Some ds) × HasEachOnce (IsCauseId v.start (entry ∷ v.events) y) ds) (sym q) (
-                  ids,
-                  rw (same_event_self d) refl,
-                  each_once_so {P = IsCauseId v.start v.events entry} {Q = IsCauseId v.start (entry ∷ v.events) entry} (cause_up entry) (cause_down entry (own_causes v ls kept k e pair.active)) its_causes,
-                )
-            each x (inr i) =
-                let c = k.causes.each x i in
-                let there = in-map (λ (y : Stander). y.event) i in (
-                  c.0,
-                  others_same x.id (new_id v ls kept k e pair.active line new_line d in_line x i) ∙ c.1,
-                  each_once_so {P = IsCauseId v.start v.events x} {Q = IsCauseId v.start (entry ∷ v.events) x} (cause_up x)
-                      (cause_down x (λ c q. cause_stays v.start k.set.proper sound.apart inside k.set.sound there q)) c.2,
-                )
-
-            none : (c : EventId) → ((x : Stander) → IsIn x (entry ∷ v.events) → x.id ≡ c → ⊥) → with_event d (Some ids) kept c ≡ None
-            none c f = others_same c (λ q. f entry (in_first entry v.events) (sym q)) ∙ k.causes.no_others c (λ x i. f x (in_more entry i))
-
         -- all of it
-        pub kept_more : IsKept (record { start = v.start; agents = ms; events = entry ∷ v.events }) (made ++ ls) (with_event d (Some ids) kept)
-        kept_more = record { set = set_more; naming = named.0; named = named.1; shows = shows; causes = causes_more }
+        pub kept_more : IsKept (record { start = v.start; agents = ms; events = entry ∷ v.events }) (made ++ ls)
+        kept_more = record { set = set_more; naming = named.0; named = named.1; shows = shows }

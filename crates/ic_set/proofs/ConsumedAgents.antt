@@ -26,7 +26,6 @@ use Rattle.ic_theory.proofs.Future.{WasFired, consumed_in, consumer, lead_far, p
 use Rattle.ic_theory.proofs.Loose.{path_of}
 use Rattle.ic_theory.proofs.NameKinds.{kind_parts, some_among}
 use Rattle.ic_shown.proofs.Elements.{in-map, map_cases}
-use Rattle.ic_cause.specs.Dependents.{Causes}
 use Rattle.ic_roster.specs.Rosters.{Member, Stander, IsNewName}
 use Rattle.ic_set.specs.Views.{SetView, standing, agent_of}
 use Rattle.ic_set.specs.Sets.{IsStandingSet, IsKept}
@@ -84,7 +83,7 @@ module _ (v : SetView) (set : IsStandingSet v) where
 pub far_agent : {a b : AgentId} → ◌≡◌ {A = Far} (far.End (spot.Agent a 0)) (far.End (spot.Agent b 0)) → a ≡ b
 far_agent e = cc
 
-module _ (v : SetView) (ls : List Link) (kept : Causes) (k : IsKept v ls kept) (m : Member) (there : IsIn m v.agents) (f : Far) (is : IsFar ls (spot.Agent m.id 0) f) where
+module _ (v : SetView) (ls : List Link) (k : IsKept v ls) (m : Member) (there : IsIn m v.agents) (f : Far) (is : IsFar ls (spot.Agent m.id 0) f) where
   -- the far end of a consumed agent that leads no event is an agent that leads one
   pub led_far : LeadsNone v m.name → consumed_times m.name (standing v) ≢ 0 → (n : Member) × IsIn n v.agents × (f ≡ far.End (spot.Agent n.id 0)) × ((x : Stander) × IsIn x v.events × (x.event.lead ≡ n.name))
   led_far free some = by (consumed_times m.name (standing v)) refl
@@ -96,7 +95,7 @@ module _ (v : SetView) (ls : List Link) (kept : Causes) (k : IsKept v ls kept) (
           let x = map_cases (λ (y : Stander). y.event) v.events i in
           let other : m.name ≢ n.0.name = λ h. unequal w.present.ordered (sym n.2 ∙ sym h ∙ q) in
           let back : Path (links v.start (standing v)) (Of e.other 0) (Of e.lead 0) = path_of (reversed net_shape w.path.trail).1 (λ h. unequal w.present.ordered (sym (port_agent h))) in
-          (n.0, n.1, path_far v ls kept k m n.0 f there n.1 other (rw (q, n.2) back) is, (x.0, x.1, ap (λ (y : Event). y.lead) x.2 ∙ sym n.2))
+          (n.0, n.1, path_far v ls k m n.0 f there n.1 other (rw (q, n.2) back) is, (x.0, x.1, ap (λ (y : Event). y.lead) x.2 ∙ sym n.2))
 
       led : (e : Event) → IsIn e (standing v) → m.name ≡ e.lead → ⊥
       led e i q = let x = map_cases (λ (y : Stander). y.event) v.events i in free x.0 x.1 (ap (λ (y : Event). y.lead) x.2 ∙ sym q)
@@ -113,7 +112,7 @@ module _ (v : SetView) (ls : List Link) (kept : Causes) (k : IsKept v ls kept) (
       let thin = slim v.start k.set.proper (standing v) k.set.sound.apart in
       let few = principal v.start k.set.proper (standing v) k.set.sound.apart m.name in
       let its = in-map (λ (y : Stander). y.event) j in
-      let to = named_far v ls kept k m n there i (subst (IsFar ls (spot.Agent m.id 0)) h is) in
+      let to = named_far v ls k m n there i (subst (IsFar ls (spot.Agent m.id 0)) h is) in
       let back = far-far net_shape (links v.start (standing v)) thin (Of m.name 0) few in
       let lead = lead_far v.start k.set.proper (standing v) k.set.sound.apart x.event (was_fired v k.set x.event its) in
       let same : x.event.other ≡ m.name = port_agent (sym lead ∙ ap (λ y. far_of net_shape (links v.start (standing v)) (Of y 0)) q ∙ ap (far_of net_shape (links v.start (standing v))) (sym to) ∙ back) in

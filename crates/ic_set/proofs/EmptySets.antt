@@ -5,7 +5,6 @@ use Rattle.std.proofs.lemmas.List.{append-nil, length-map}
 use Rattle.ic_name.specs.Names.{Name, start_name}
 use Rattle.ic_name.specs.declared.kinds.Kind.{Kind}
 use Rattle.ic_name.specs.declared.ids.AgentId.{AgentId}
-use Rattle.ic_name.specs.declared.ids.EventId.{EventId}
 use Rattle.ic_name.specs.declared.ids.Link.{Link}
 use Rattle.ic_name.proofs.SameFacts.{same_name_self}
 use Rattle.ic_path.specs.Orders.{Pick, IsIn, Alike}
@@ -22,7 +21,6 @@ use Rattle.ic_theory.proofs.Machines.{empty_sound}
 use Rattle.ic_start.specs.Starts.{join_of, AreStartLinks}
 use Rattle.ic_shown.specs.Naming.{Naming, link_of}
 use Rattle.ic_shown.specs.Shown.{Shows}
-use Rattle.ic_cause.specs.Dependents.{Causes}
 use Rattle.ic_roster.specs.Rosters.{Member, HaveOwnNames, HaveOwnLines}
 use Rattle.ic_set.specs.Views.{agent_of}
 use Rattle.ic_set.specs.Ids.{IsNaming}
@@ -82,8 +80,8 @@ module _ (s : Start) (ok : IsProper s) (ids : List AgentId) (ms : List Member) (
   start_slim = let n = naming_of ms [] own none_own in slim_shown n.0 s [] _ ok (empty_sound s) (start_shows n.0 n.1 _ (alike_self _))
 
   -- and they are what the empty set keeps
-  pub start_kept : (new : List Link) (kept : Causes) → Alike (map (moved_link ids) ls) new → ((d : EventId) → kept d ≡ None) → IsKept (record { start = s; agents = ms; events = [] }) new kept
-  start_kept new kept a none =
+  pub start_kept : (new : List Link) → Alike (map (moved_link ids) ls) new → IsKept (record { start = s; agents = ms; events = [] }) new
+  start_kept new a =
       let n = naming_of ms [] own none_own in
       record {
         set = record {
@@ -95,11 +93,11 @@ module _ (s : Start) (ok : IsProper s) (ids : List AgentId) (ms : List Member) (
           own_lines = none_own;
           children = λ x i. absurd (none_in i);
           ranks = λ rank is x i. absurd (none_in i);
+          causes = λ x i. absurd (none_in i);
         };
         naming = n.0;
         named = n.1;
         shows = start_shows n.0 n.1 new a;
-        causes = record { each = λ x i. absurd (none_in i); no_others = λ d h. none d };
       }
 
   -- each agent has the serial number 0

@@ -1,6 +1,5 @@
 -- What a standing set keeps doesn't depend on the order of its agents, events and links.
-use Rattle.std.proofs.Common.{◌≡◌, List, ◌∙◌}
-use Rattle.ic_name.specs.declared.ids.EventId.{EventId}
+use Rattle.std.proofs.Common.{List}
 use Rattle.ic_name.specs.declared.ids.Link.{Link}
 use Rattle.ic_path.specs.Orders.{Alike}
 use Rattle.ic_path.proofs.Alikes.{alike_back, alike_then, alike-map, alike-in}
@@ -11,12 +10,11 @@ use Rattle.ic_theory.proofs.Future.{made_alike}
 use Rattle.ic_theory.proofs.Ranks.{sound-alike, same_set, cause_included}
 use Rattle.ic_shown.specs.Naming.{Naming, link_of}
 use Rattle.ic_shown.specs.Shown.{Shows}
-use Rattle.ic_cause.specs.Dependents.{Causes}
 use Rattle.ic_cause.proofs.OnceLists.{each_once_so}
 use Rattle.ic_roster.specs.Rosters.{Member, Stander}
 use Rattle.ic_set.specs.Views.{events_of, agent_of}
 use Rattle.ic_set.specs.Ids.{IsNaming}
-use Rattle.ic_set.specs.Causes.{IsCauseId, KeepsCauses}
+use Rattle.ic_set.specs.Causes.{IsCauseId, HaveCauses}
 use Rattle.ic_set.specs.Sets.{IsStandingSet, IsKept}
 use Rattle.ic_set.proofs.Namings.{own_names_alike, own_lines_alike}
 use Rattle.ic_set.proofs.KeptRanks.{part_ranks}
@@ -25,6 +23,14 @@ module _ (s : Start) {ms ms' : List Member} {ss ss' : List Stander} (agents_alik
   -- the events without their ids
   standing_alike : Alike (events_of ss) (events_of ss')
   standing_alike = alike-map (λ x. x.event) events_alike
+
+  -- the causes
+  causes_alike : HaveCauses s ss → HaveCauses s ss'
+  causes_alike h x i =
+      each_once_so {P = IsCauseId s ss x} {Q = IsCauseId s ss' x}
+      (λ d w. (w.0, alike-in events_alike w.1, w.2, cause_included s (same_set standing_alike) w.3))
+      (λ d w. (w.0, alike-in (alike_back events_alike) w.1, w.2, cause_included s (same_set (alike_back standing_alike)) w.3))
+      (h x (alike-in (alike_back events_alike) i))
 
   -- what is seen
   set_alike : IsStandingSet (record { start = s; agents = ms; events = ss }) → IsStandingSet (record { start = s; agents = ms'; events = ss' })
@@ -37,6 +43,7 @@ module _ (s : Start) {ms ms' : List Member} {ss ss' : List Stander} (agents_alik
     own_lines = own_lines_alike events_alike k.own_lines;
     children = λ x i. (let c = k.children x (alike-in (alike_back events_alike) i) in record { children = c.children; are = c.are; there = λ m j. alike-in agents_alike (c.there m j) });
     ranks = λ rank r x i. k.ranks rank (part_ranks s k.proper rank sound k.sound (same_set standing_alike) r) x (alike-in (alike_back events_alike) i);
+    causes = causes_alike k.causes;
   }
     where
       sound : IsSound s (events_of ss')
@@ -59,28 +66,6 @@ module _ (s : Start) {ms ms' : List Member} {ss ss' : List Stander} (agents_alik
     alike = alike_then (alike-map (link_of n) (alike_back a)) (alike_then h.alike (made_alike (born_links s.profile) (start_links s) standing_alike));
   }
 
-  -- the causes
-  causes_alike : {kept kept' : Causes} → ((d : EventId) → kept' d ≡ kept d) → KeepsCauses s ss kept → KeepsCauses s ss' kept'
-  causes_alike same h = record {
-    each = λ x i. (
-        let c = h.each x (alike-in (alike_back events_alike) i) in (
-          c.0,
-          same x.id ∙ c.1,
-          each_once_so {P = IsCauseId s ss x} {Q = IsCauseId s ss' x}
-              (λ d w. (w.0, alike-in events_alike w.1, w.2, cause_included s (same_set standing_alike) w.3))
-              (λ d w. (w.0, alike-in (alike_back events_alike) w.1, w.2, cause_included s (same_set (alike_back standing_alike)) w.3))
-              c.2,
-        ));
-    no_others = λ d f. same d ∙ h.no_others d (λ x i. f x (alike-in events_alike i));
-  }
-
   -- all of it
-  pub kept_alike : {ls ls' : List Link} {kept kept' : Causes} → Alike ls ls' → ((d : EventId) → kept' d ≡ kept d)
-      → IsKept (record { start = s; agents = ms; events = ss }) ls kept → IsKept (record { start = s; agents = ms'; events = ss' }) ls' kept'
-  kept_alike a same k = record {
-    set = set_alike k.set;
-    naming = k.naming;
-    named = naming_alike k.named;
-    shows = shows_alike a k.shows;
-    causes = causes_alike same k.causes;
-  }
+  pub kept_alike : {ls ls' : List Link} → Alike ls ls' → IsKept (record { start = s; agents = ms; events = ss }) ls → IsKept (record { start = s; agents = ms'; events = ss' }) ls'
+  kept_alike a k = record { set = set_alike k.set; naming = k.naming; named = naming_alike k.named; shows = shows_alike a k.shows }

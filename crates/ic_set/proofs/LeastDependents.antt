@@ -8,9 +8,8 @@ use Rattle.ic_name.specs.declared.ids.EventId.{EventId}
 use Rattle.ic_name.specs.declared.ids.Link.{Link}
 use Rattle.ic_path.specs.Orders.{IsIn}
 use Rattle.ic_theory.specs.Causes.{IsCause, IsRank, IsDependent, canonical_cmp}
-use Rattle.ic_cause.specs.Dependents.{Causes, DependsOn, AreDependents}
 use Rattle.ic_shown.proofs.Elements.{in-map, map_cases}
-use Rattle.ic_roster.specs.Rosters.{Stander}
+use Rattle.ic_roster.specs.Rosters.{Stander, DependsOn, AreDependents}
 use Rattle.ic_set.specs.Removal.{Stands, IsFree, IsLeast, IsLeastOf}
 use Rattle.ic_set.specs.Sets.{IsKept}
 use Rattle.ic_set.specs.Views.{SetView, standing}
@@ -22,11 +21,11 @@ not_greater Less h = refl
 not_greater Equal h = refl
 not_greater Greater h = absurd (h refl)
 
-module _ (v : SetView) (ls : List Link) (kept : Causes) (is : IsKept v ls kept) (d : EventId) (stands : Stands v d) (ids : List EventId) (are : AreDependents kept d ids) where
+module _ (v : SetView) (ls : List Link) (is : IsKept v ls) (d : EventId) (stands : Stands v d) (ids : List EventId) (are : AreDependents v.events d ids) where
   -- each of them stands, and has the event among its direct causes
   dependent : (e : EventId) → IsIn e ids → (x : Stander) × IsIn x v.events × (x.id ≡ e) × IsCause v.start (standing v) x.event stands.0.event
   dependent e i =
-      depends_to v.start v.agents v.events is.naming kept is.named is.set.own_lines is.causes stands.0 e stands.1 (subst (λ c. DependsOn kept c e) (sym stands.2) (are.only e i))
+      depends_to v.start v.events is.set.own_lines is.set.causes stands.0 e stands.1 (subst (λ c. DependsOn v.events c e) (sym stands.2) (are.only e i))
 
   -- the entry of each
   pub dependents_stand : (e : EventId) → IsIn e ids → (x : Stander) × IsIn x v.events × (x.id ≡ e)
@@ -37,7 +36,7 @@ module _ (v : SetView) (ls : List Link) (kept : Causes) (is : IsKept v ls kept) 
   all_dependents x i e f h =
       let z = map_cases (λ (y : Stander). y.event) v.events h.0 in
       let c : IsCause v.start (standing v) z.0.event x.event = subst (λ g. IsCause v.start (standing v) g x.event) (sym z.2) h.1 in
-      (z.0, z.1, z.2, are.each z.0.id (subst (λ b. DependsOn kept b z.0.id) e (depends_from v.start v.events kept is.causes z.0 x z.1 i c)))
+      (z.0, z.1, z.2, are.each z.0.id (subst (λ b. DependsOn v.events b z.0.id) e (depends_from v.start v.events is.set.causes z.0 x z.1 i c)))
 
   -- where there are none the event is free
   none_depends : ((e : EventId) → IsIn e ids → ⊥) → IsFree v d

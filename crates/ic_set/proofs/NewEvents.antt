@@ -1,6 +1,5 @@
 -- An active event is new to a standing set.
-use Rattle.std.proofs.Common.{◌≡◌, ◌≢◌, ℕ, ◌≤◌, Bool, true, false, List, [], ◌∷◌, None, All, refl, sym, ap, arith, ◌∙◌, subst}
-use Rattle.std.specs.Prelude.{IsSome, is_some}
+use Rattle.std.proofs.Common.{◌≡◌, ◌≢◌, ℕ, ◌≤◌, Bool, true, false, List, [], ◌∷◌, All, refl, sym, ap, arith, ◌∙◌, subst}
 use Rattle.std.proofs.lemmas.List.Elements.{All-nil, All-cons}
 use Rattle.ic_name.specs.Events.{Event}
 use Rattle.ic_name.specs.Spots.{is_maker, made_by, same_event}
@@ -9,7 +8,6 @@ use Rattle.ic_name.specs.declared.ids.Link.{Link}
 use Rattle.ic_name.specs.declared.ids.MakerId.{MakerId}
 use Rattle.ic_name.specs.declared.ids.MakerId.TheVariants as maker
 use Rattle.ic_path.specs.Orders.{IsIn}
-use Rattle.ic_path.specs.Rings.{HasEachOnce}
 use Rattle.ic_path.proofs.Picks.{in_first, in_more}
 use Rattle.ic_theory.specs.Active.{IsActive}
 use Rattle.ic_theory.specs.Causes.{IsCause}
@@ -21,8 +19,7 @@ use Rattle.ic_theory.proofs.Ranks.{cause_in}
 use Rattle.ic_shown.specs.Naming.{has_maker}
 use Rattle.ic_shown.proofs.Elements.{in-map, map_cases}
 use Rattle.ic_shown.proofs.SameEvents.{same_event_true}
-use Rattle.ic_cause.specs.Dependents.{Causes}
-use Rattle.ic_roster.specs.Rosters.{Stander, IsNewEvent}
+use Rattle.ic_roster.specs.Rosters.{Stander, IsNewEvent, Stands, IsOnce}
 use Rattle.ic_set.specs.Views.{SetView, standing}
 use Rattle.ic_set.specs.Sets.{IsKept}
 use Rattle.ic_set.specs.Admission.{AreCausesOf}
@@ -32,7 +29,7 @@ pub all_places : {X : Type 0} (P : X → Type 0) (xs : List X) → ((x : X) → 
 all_places P [] f = All-nil P
 all_places P (x ∷ xs) f = All-cons P x xs (f x (in_first x xs)) (all_places P xs (λ y i. f y (in_more x i)))
 
-module _ (v : SetView) (ls : List Link) (kept : Causes) (k : IsKept v ls kept) (e : Event) (active : IsActive v.start (standing v) e) where
+module _ (v : SetView) (ls : List Link) (k : IsKept v ls) (e : Event) (active : IsActive v.start (standing v) e) where
   -- the set with it is sound
   pub sound_more : IsSound v.start (e ∷ standing v)
   sound_more = fire_sound v.start k.set.proper k.set.sound active
@@ -57,13 +54,13 @@ module _ (v : SetView) (ls : List Link) (kept : Causes) (k : IsKept v ls kept) (
       let same = same_links v.start k.set.proper (e ∷ standing v) (sound_more).apart e.lead e.other (λ x. unequal active.present.ordered (sym x)) q.path.trail t.1 in
       record { path = p; link = q.link; on_path = rw same at q.on_path; made = q.made }
 
-  -- its direct causes are kept
-  pub causes_kept : (ids : List EventId) → AreCausesOf v e ids → All (λ d. IsSome (kept d)) ids
-  causes_kept ids are = all_places (λ d. IsSome (kept d)) ids (λ d i. let y = are.only d i in let c = k.causes.each y.0 y.1 in ap is_some (ap kept (sym y.2) ∙ c.1))
+  -- its direct causes stand
+  pub causes_kept : (ids : List EventId) → AreCausesOf v e ids → All (Stands v.events) ids
+  causes_kept ids are = all_places (Stands v.events) ids (λ d i. let y = are.only d i in (y.0, y.1, y.2))
 
   -- each of them once
-  pub causes_once : (ids : List EventId) → AreCausesOf v e ids → HasEachOnce (λ d. IsIn d ids) ids
-  causes_once ids are = record { each = λ d i. i; only = λ d i. i; once = are.once }
+  pub causes_once : (ids : List EventId) → AreCausesOf v e ids → IsOnce ids
+  causes_once ids are = are.once
 
   module _ (line : ℕ) (new_line : (x : Stander) → IsIn x v.events → x.id.line ≢ line) where
     -- it can be put in
@@ -72,12 +69,8 @@ module _ (v : SetView) (ls : List Link) (kept : Causes) (k : IsKept v ls kept) (
 
     module _ (d : EventId) (in_line : d.line ≡ line) where
       -- no event is under an id with its line
-      pub new_id : (x : Stander) → IsIn x v.events → x.id ≢ d
+      new_id : (x : Stander) → IsIn x v.events → x.id ≢ d
       new_id x i q = new_line x i (ap (λ c. c.line) q ∙ in_line)
-
-      -- no causes are kept there
-      pub no_causes : kept d ≡ None
-      no_causes = k.causes.no_others d new_id
 
       -- and no link is made there
       pub no_links : (l : Link) → IsIn l ls → made_by d l ≡ false

@@ -1,30 +1,22 @@
 -- The ids of all standing events, of the direct causes of one, and of its direct dependents.
-use Rattle.std.proofs.Common.{◌≡◌, ◌≢◌, ◌↔◌, List, map, Option, Some, None, inl, refl, sym, ap, subst, ◌∙◌}
-use Rattle.std.proofs.lemmas.Option.{same_Some}
+use Rattle.std.proofs.Common.{◌≡◌, ◌↔◌, List, map, inl, refl, sym, ap, subst, ◌∙◌}
 use Rattle.ic_name.specs.declared.ids.EventId.{EventId}
 use Rattle.ic_path.specs.Orders.{Alike, IsIn}
-use Rattle.ic_path.specs.Rings.{HasEachOnce}
 use Rattle.ic_path.proofs.Alikes.{alike-in, alike_back}
 use Rattle.ic_path.proofs.EachOnce.{IsOnce}
 use Rattle.ic_shown.proofs.Elements.{in-map, map_cases}
 use Rattle.ic_theory.specs.Causes.{IsCause}
-use Rattle.ic_shown.specs.Naming.{Naming}
-use Rattle.ic_cause.specs.Dependents.{Causes, AreDependents, DependsOn as ByIds}
 use Rattle.ic_cause.proofs.OnceLists.{once-alike}
-use Rattle.ic_roster.specs.Rosters.{Stander, HaveOwnLines}
+use Rattle.ic_roster.specs.Rosters.{Stander, HaveOwnLines, AreDependents, DependsOn as ByIds}
 use Rattle.ic_roster.proofs.Images.{picked_image}
 use Rattle.ic_set.specs.declared.orders.Placed.{Placed}
-use Rattle.ic_set.specs.Causes.{IsCauseId, KeepsCauses}
-use Rattle.ic_set.specs.Ids.{IsNaming}
+use Rattle.ic_set.specs.Causes.{HaveCauses}
 use Rattle.ic_set.specs.Orders.{AreInOrder, IsAny, IsCauseOf, DependsOn}
 use Rattle.ic_set.specs.Placed.{ArePlaced}
 use Rattle.ic_set.specs.Removal.{Stands}
 use Rattle.ic_set.specs.Views.{SetView, NamedView, standing}
 use Rattle.ic_set.proofs.CauseIds.{depends_to, depends_from}
 use Rattle.ic_set.proofs.Namings.{same_stander}
-
-some_none : {X : Type 0} {x : X} → ◌≡◌ {A = Option X} (Some x) None → ⊥
-some_none e = cc
 
 -- the id of an event
 abbrev event_id : Stander → EventId
@@ -68,36 +60,27 @@ ids_stand v ids a d i = map_cases event_id v.events (alike-in (alike_back a) i)
 pub any_of_all : (ss : List Stander) (ids : List EventId) → Alike (map event_id ss) ids → (x : Stander) → IsIn x ss → IsIn x.id ids ↔ IsAny x
 any_of_all ss ids a x i = (λ j. tt, λ u. alike-in a (in-map event_id i))
 
-module _ (v : SetView) (kept : Causes) (own : HaveOwnLines v.events) (keeps : KeepsCauses v.start v.events kept) where
-  -- the ids that are kept under that of an event are those of its direct causes
-  kept_causes : (x : Stander) (ds : List EventId) → IsIn x v.events → kept x.id ≡ Some ds → HasEachOnce (IsCauseId v.start v.events x) ds
-  kept_causes x ds i e = let k = keeps.each x i in subst (HasEachOnce (IsCauseId v.start v.events x)) (same_Some k.0 ds (sym k.1 ∙ e)) k.2
-
-  -- each once
-  pub causes_once : (d : EventId) (ds : List EventId) → Stands v d → kept d ≡ Some ds → IsOnce ds
-  causes_once d ds (x, i, same) e = (kept_causes x ds i (ap kept same ∙ e)).once
+module _ (v : SetView) (own : HaveOwnLines v.events) (causes : HaveCauses v.start v.events) where
+  -- the direct causes that are noted with an event are there once
+  pub causes_once : (x : Stander) → IsIn x v.events → IsOnce x.causes
+  causes_once x i = (causes x i).once
 
   -- and an event stands under each
-  pub causes_stand : (d : EventId) (ds : List EventId) → Stands v d → kept d ≡ Some ds → (f : EventId) → IsIn f ds → Stands v f
-  causes_stand d ds (x, i, same) e f j = let c = (kept_causes x ds i (ap kept same ∙ e)).only f j in (c.0, c.1, c.2)
+  pub causes_stand : (x : Stander) → IsIn x v.events → (f : EventId) → IsIn f x.causes → Stands v f
+  causes_stand x i f j = let c = (causes x i).only f j in (c.0, c.1, c.2)
 
-  -- the causes of an event that stands are kept
-  pub causes_kept : (d : EventId) → Stands v d → kept d ≢ None
-  causes_kept d (x, i, same) e = let k = keeps.each x i in some_none (sym k.1 ∙ ap kept same ∙ e)
-
-  -- and they are the ids of no other events
-  pub causes_of : (d : EventId) (ds : List EventId) → Stands v d → kept d ≡ Some ds → (y : Stander) → IsIn y v.events → IsIn y.id ds ↔ IsCauseOf v d y
-  causes_of d ds (x, i, same) e y j =
-      let h = kept_causes x ds i (ap kept same ∙ e) in (
-        λ k. (let c = h.only y.id k in (x, i, same, subst (λ (z : Stander). IsCause v.start (standing v) x.event z.event) (same_stander v.events c.0 y own c.1 j (inl c.2)) c.3)),
-        λ c. h.each y.id (y, j, refl, subst (λ (z : Stander). IsCause v.start (standing v) z.event y.event) (same_stander v.events c.0 x own c.1 i (inl (c.2 ∙ sym same))) c.3),
-      )
+  -- they are the ids of its direct causes, and of no other events
+  pub causes_of : (x : Stander) → IsIn x v.events → (y : Stander) → IsIn y v.events → IsIn y.id x.causes ↔ IsCauseOf v x.id y
+  causes_of x i y j = (
+    λ k. (let c = (causes x i).only y.id k in (x, i, refl, subst (λ (z : Stander). IsCause v.start (standing v) x.event z.event) (same_stander v.events c.0 y own c.1 j (inl c.2)) c.3)),
+    λ c. (causes x i).each y.id (y, j, refl, subst (λ (z : Stander). IsCause v.start (standing v) z.event y.event) (same_stander v.events c.0 x own c.1 i (inl c.2)) c.3),
+  )
 
   -- the ids of what depends on an event by ids are those of its direct dependents
-  pub dependents_of : (n : Naming) → IsNaming v.agents v.events n → (d : EventId) (fs : List EventId) → Stands v d → AreDependents kept d fs → (y : Stander) → IsIn y v.events → IsIn y.id fs ↔ DependsOn v d y
-  dependents_of n named d fs (x, i, same) h y j = (
+  pub dependents_of : (d : EventId) (fs : List EventId) → Stands v d → AreDependents v.events d fs → (y : Stander) → IsIn y v.events → IsIn y.id fs ↔ DependsOn v d y
+  dependents_of d fs (x, i, same) h y j = (
     λ k. (
-        let c = depends_to v.start v.agents v.events n kept named own keeps x y.id i (subst (λ e. ByIds kept e y.id) (sym same) (h.only y.id k)) in
+        let c = depends_to v.start v.events own causes x y.id i (subst (λ e. ByIds v.events e y.id) (sym same) (h.only y.id k)) in
         (x, i, same, subst (λ (z : Stander). IsCause v.start (standing v) z.event x.event) (same_stander v.events c.0 y own c.1 j (inl c.2)) c.3)),
-    λ c. h.each y.id (subst (λ e. ByIds kept e y.id) c.2 (depends_from v.start v.events kept keeps y c.0 j c.1 c.3)),
+    λ c. h.each y.id (subst (λ e. ByIds v.events e y.id) c.2 (depends_from v.start v.events causes y c.0 j c.1 c.3)),
   )

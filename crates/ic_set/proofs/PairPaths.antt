@@ -26,7 +26,6 @@ use Rattle.ic_shown.proofs.Elements.{map_cases}
 use Rattle.ic_shown.proofs.OnePort.{one_port, HasSpot}
 use Rattle.ic_shown.proofs.PathMakers.{cause_maker, maker_cause}
 use Rattle.ic_shown.proofs.SameEnds.{degree_is}
-use Rattle.ic_cause.specs.Dependents.{Causes}
 use Rattle.ic_cause.specs.Makers.{IsMaker, AreMakers}
 use Rattle.ic_cause.proofs.OnceLists.{each_once_so}
 use Rattle.ic_roster.specs.Rosters.{Stander}
@@ -36,7 +35,7 @@ use Rattle.ic_set.specs.Sets.{IsKept}
 use Rattle.ic_set.specs.Pairs.{IsPairOf}
 use Rattle.ic_set.specs.Admission.{AreCausesOf}
 
-module _ (v : SetView) (ls : List Link) (kept : Causes) (k : IsKept v ls kept) (e : Event) (p : ActivePair) (pair : IsPairOf v e p) where
+module _ (v : SetView) (ls : List Link) (k : IsKept v ls) (e : Event) (p : ActivePair) (pair : IsPairOf v e p) where
   -- the spots of the two principal ports
   abbrev lead_spot : Spot
   lead_spot = spot.Agent p.lead 0

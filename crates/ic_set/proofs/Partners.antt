@@ -28,7 +28,6 @@ use Rattle.ic_shown.proofs.Elements.{in-map, map_cases}
 use Rattle.ic_shown.proofs.OnePort.{HasSpot, one_port}
 use Rattle.ic_shown.proofs.PathMakers.{no_round}
 use Rattle.ic_shown.proofs.SameEnds.{degree_is}
-use Rattle.ic_cause.specs.Dependents.{Causes}
 use Rattle.ic_roster.specs.Rosters.{Member, Stander}
 use Rattle.ic_set.specs.Views.{SetView, standing, agent_of}
 use Rattle.ic_set.specs.Sets.{IsStandingSet, IsKept}
@@ -67,7 +66,7 @@ module _ (v : SetView) (set : IsStandingSet v) where
       let same : m ≡ j.left = same_member v.agents m j.left set.own_names i j.left_there (inl (e ∙ sym j.left_id)) in
       unconsumed_unled j.left.name (standing v) j.wire.from_loose.3 x.event (in-map (λ (y : Stander). y.event) k) (q ∙ ap (λ y. y.name) same)
 
-module _ (v : SetView) (ls : List Link) (kept : Causes) (k : IsKept v ls kept) where
+module _ (v : SetView) (ls : List Link) (k : IsKept v ls) where
   -- the spot of an agent's principal port is held
   spot_held : (m : Member) → IsIn m v.agents → HasSpot k.naming (spot.Agent m.id 0)
   spot_held m i = (k.named.agents m i).0

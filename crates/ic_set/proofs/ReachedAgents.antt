@@ -37,7 +37,6 @@ use Rattle.ic_shown.proofs.ByPorts.{trail_held}
 use Rattle.ic_shown.proofs.FarSpots.{sound_partner}
 use Rattle.ic_shown.proofs.OnePort.{HasSpot, one_port}
 use Rattle.ic_shown.proofs.SameEnds.{degree_is}
-use Rattle.ic_cause.specs.Dependents.{Causes}
 use Rattle.ic_roster.specs.Rosters.{Member}
 use Rattle.ic_set.specs.declared.pairs.ActivePair.{ActivePair}
 use Rattle.ic_set.specs.Pairs.{IsPairOf}
@@ -89,7 +88,7 @@ module _ (v : SetView) (set : IsStandingSet v) where
       degree-alike net_shape (made_alike (born_links v.start.profile) (start_links v.start) o.1) (Of m i)
       ∙ loose_degree v.start set.proper o.0 o.2 (Of m i) (wire_alike v.start n m 0 i o.1 w).to_loose
 
-module _ (v : SetView) (ls : List Link) (kept : Causes) (k : IsKept v ls kept) (m : Member) (there : IsIn m v.agents) (i : ℕ) (f : Far) (is : IsFar ls (spot.Agent m.id i) f) where
+module _ (v : SetView) (ls : List Link) (k : IsKept v ls) (m : Member) (there : IsIn m v.agents) (i : ℕ) (f : Far) (is : IsFar ls (spot.Agent m.id i) f) where
   -- the spot is held
   spot_held : HasSpot k.naming (spot.Agent m.id i)
   spot_held = (k.named.agents m there).0

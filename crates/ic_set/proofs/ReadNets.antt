@@ -48,7 +48,6 @@ use Rattle.ic_shown.proofs.Elements.{in-map, in_behind, in-append_cases}
 use Rattle.ic_shown.proofs.FarSpots.{loose-alike, sound_partner}
 use Rattle.ic_shown.proofs.OnePort.{HasSpot}
 use Rattle.ic_shown.proofs.SameEnds.{degree_is, rings_are}
-use Rattle.ic_cause.specs.Dependents.{Causes}
 use Rattle.ic_sheet.specs.Makings.{NetParts, IsLastName, IsLastNumber, listed_parts}
 use Rattle.ic_sheet.proofs.Makings.{found_last, found_last_free, parts_show}
 use Rattle.ic_roster.specs.Rosters.{Member, AreByName}
@@ -128,7 +127,7 @@ module _ (v : SetView) (set : IsStandingSet v) where
   three_partners n k p q r two kind first second third (suc (suc zero)) = sym third
   three_partners n k p q r two kind first second third (suc (suc (suc i))) = slice_get_past (p ∷ q ∷ r ∷ []) (suc (suc (suc i))) (omega arith) ∙ past_ports n k (suc (suc (suc i))) kind (omega (arith, two))
 
-module _ (v : SetView) (ls : List Link) (kept : Causes) (k : IsKept v ls kept) where
+module _ (v : SetView) (ls : List Link) (k : IsKept v ls) where
   -- a spot that is held stands for a port
   port_there : (q : Spot) → HasSpot k.naming q → IsPortAt v q (port_of k.naming q)
   port_there (spot.Agent a i) h =
@@ -204,11 +203,11 @@ module _ (v : SetView) (ls : List Link) (kept : Causes) (k : IsKept v ls kept) w
   parts_read p number its free ring profile = parts_show p number v.start (standing v) its.kinds its.partners free (ring ∙ rings_are k.naming v.start (standing v) ls k.shows k.set.proper k.set.sound) profile
 
 -- so it is with the set as it is seen
-pub net_read : (now inside : NamedView) → inside ≡ now → (ls : List Link) (kept : Causes) → IsKept inside.set ls kept → (p : NetParts) (number : ℕ) (as' : List Listed) → p.agents ≡ as'
+pub net_read : (now inside : NamedView) → inside ≡ now → (ls : List Link) → IsKept inside.set ls → (p : NetParts) (number : ℕ) (as' : List Listed) → p.agents ≡ as'
     → AreNetAgents now.set as' → AreNetFrees now.set p.frees → number ≡ rings shape ls → p.profile ≡ inside.set.start.profile → IsSameNet (shown (listed_parts p number)) (net_in now.set)
-net_read now inside same ls kept k p number as' e its free ring profile =
+net_read now inside same ls k p number as' e its free ring profile =
     subst (λ (w : NamedView). IsSameNet (shown (listed_parts p number)) (net_in w.set)) same
-    (parts_read inside.set ls kept k p number
+    (parts_read inside.set ls k p number
     (subst (λ (w : NamedView). AreNetAgents w.set p.agents) (sym same) (subst (AreNetAgents now.set) (sym e) its))
     (subst (λ (w : NamedView). AreNetFrees w.set p.frees) (sym same) free) ring profile)
 

@@ -1,7 +1,6 @@
 -- A standing set from which an event is taken out that nothing depends on.
-use Rattle.std.proofs.Common.{◌≡◌, ℕ, List, ◌∷◌, ◌++◌, map, None, refl, ◌∙◌}
+use Rattle.std.proofs.Common.{◌≡◌, ℕ, List, ◌∷◌, ◌++◌, map, refl, ◌∙◌}
 use Rattle.ic_name.specs.Events.{Event}
-use Rattle.ic_name.specs.declared.ids.EventId.{EventId}
 use Rattle.ic_name.specs.declared.ids.Link.{Link}
 use Rattle.ic_path.specs.Orders.{Alike, IsIn}
 use Rattle.ic_path.proofs.Alikes.{alike_back, alike_then, alike_more, alike-in}
@@ -10,7 +9,6 @@ use Rattle.ic_link.specs.Links.{Drops}
 use Rattle.ic_theory.specs.Causes.{IsCause, IsRank}
 use Rattle.ic_theory.specs.Sound.{IsSound}
 use Rattle.ic_theory.proofs.Ranks.{rank_one}
-use Rattle.ic_cause.specs.Dependents.{Causes, with_event, DependsOn}
 use Rattle.ic_shown.proofs.Elements.{in-map}
 use Rattle.ic_roster.specs.Rosters.{Member, Stander}
 use Rattle.ic_set.specs.Changes.{TakesOut}
@@ -25,20 +23,20 @@ use Rattle.ic_set.proofs.Parts.{taken_all}
 use Rattle.ic_set.proofs.SmallerRosters.{in_back, fewer_names, fewer_lines, events_alike, children_once, agents_left, children_left}
 use Rattle.ic_set.proofs.SmallerSets.{sound_left, rank_left}
 
-module _ (v : SetView) (ls : List Link) (kept : Causes) (is : IsKept v ls kept) (entry : Stander) (there : IsIn entry v.events) (free : IsFree v entry.id) where
+module _ (v : SetView) (ls : List Link) (is : IsKept v ls) (entry : Stander) (there : IsIn entry v.events) (free : IsFree v entry.id) where
   -- no event has it among its direct causes
   no_cause : (f : Event) → IsIn f (standing v) → IsCause v.start (standing v) f entry.event → ⊥
   no_cause f i c = free entry there refl f (i, c)
 
   -- by ids neither
-  pub nothing_depends : (f : EventId) → DependsOn kept entry.id f → ⊥
-  nothing_depends f d =
-      let x = depends_to v.start v.agents v.events is.naming kept is.named is.set.own_lines is.causes entry f there d in
-      no_cause x.0.event (in-map (λ (y : Stander). y.event) x.1) x.3
+  pub nothing_depends : (x : Stander) → IsIn x v.events → IsIn entry.id x.causes → ⊥
+  nothing_depends x i k =
+      let c = depends_to v.start v.events is.set.own_lines is.set.causes entry x.id there (x, i, refl, k) in
+      no_cause c.0.event (in-map (λ (y : Stander). y.event) c.1) c.3
 
-  module _ (ms : List Member) (ss : List Stander) (left : List Link) (kept' : Causes) (fewer : Alike v.events (entry ∷ ss))
+  module _ (ms : List Member) (ss : List Stander) (left : List Link) (fewer : Alike v.events (entry ∷ ss))
       (gone : (children others : List Member) → map (λ m. m.id) children ≡ entry.born → Alike v.agents (children ++ others) → Alike others ms)
-      (drops : Drops entry.id ls left) (forgotten : (d : EventId) → kept' d ≡ with_event entry.id None kept d) where
+      (drops : Drops entry.id ls left) where
     -- its children
     held : HasChildren v.agents entry
     held = is.set.children entry there
@@ -76,10 +74,11 @@ module _ (v : SetView) (ls : List Link) (kept : Causes) (is : IsKept v ls kept) 
       own_lines = fewer_lines entry ss fewer is.set.own_lines;
       children = λ x i. children_left v.start is.set.proper entry ss v.events is.set.sound fewer no_cause entry.born held.children held.are v.agents ms split x i (is.set.children x (up i));
       ranks = same_rank;
+      causes = causes_left v.start is.set.proper entry ss v.events is.set.sound fewer no_cause is.set.causes;
     }
 
-    -- and all is kept of it
-    pub kept_left : IsKept (record { start = v.start; agents = ms; events = ss }) left kept'
+    -- and its links are kept
+    pub kept_left : IsKept (record { start = v.start; agents = ms; events = ss }) left
     kept_left =
         let n = naming_of ms ss set_left.own_names set_left.own_lines in
         let less = extends ms v.agents ss v.events n.0 is.naming n.1 is.named (λ m i. alike-in (alike_back split) (in_back held.children i)) (λ x i. up i) in
@@ -90,7 +89,6 @@ module _ (v : SetView) (ls : List Link) (kept : Causes) (is : IsKept v ls kept) 
           named = n.1;
           shows = shows_left v.start is.set.proper is.naming n.0 (standing v) entry.event entry.id ls left ms ss is.set.sound (events_alike fewer) smaller
               is.shows e.0 e.1 drops less n.1 set_left.agents;
-          causes = causes_left v.start is.set.proper entry ss v.events is.set.sound fewer no_cause is.set.own_lines kept kept' forgotten is.causes;
         }
 
     -- the event and its children are there no more

@@ -1,5 +1,5 @@
 -- What an event that is admitted brings.
-use Rattle.std.specs.Prelude.{◌≡◌, ℕ, ◌+◌, ◌≤◌, false, List, ◌∷◌, ◌++◌, length, ◌⊎◌, Some, None, IsSome, All}
+use Rattle.std.specs.Prelude.{◌≡◌, ℕ, ◌+◌, ◌≤◌, false, List, ◌∷◌, ◌++◌, length, ◌⊎◌, All}
 use Rattle.ic_name.specs.Events.{Event}
 use Rattle.ic_name.specs.Spots.{made_by}
 use Rattle.ic_name.specs.declared.ids.AgentId.{AgentId}
@@ -10,8 +10,7 @@ use Rattle.ic_path.specs.Orders.{IsIn, Alike}
 use Rattle.ic_path.specs.Rings.{HasEachOnce}
 use Rattle.ic_link.specs.Links.{IsLawful}
 use Rattle.ic_theory.specs.Causes.{IsCause}
-use Rattle.ic_cause.specs.Dependents.{Causes, with_event}
-use Rattle.ic_roster.specs.Rosters.{Stander, HaveOwnLines, IsNewEvent}
+use Rattle.ic_roster.specs.Rosters.{Stander, HaveOwnLines, IsNewEvent, Stands, IsOnce}
 use Rattle.ic_set.specs.declared.pairs.ActivePair.{ActivePair}
 use Rattle.ic_set.specs.Views.{SetView, standing}
 use Rattle.ic_set.specs.Joining.{made_links, HaveDigits}
@@ -25,25 +24,22 @@ pub record IsRankOver (ss : List Stander) (ids : List EventId) (rank : ℕ) : Ty
   pub above : (x : Stander) → IsIn x ss → IsIn x.id ids → x.rank + 1 ≤ rank
   pub least : (rank ≡ 0) ⊎ ((x : Stander) × IsIn x ss × IsIn x.id ids × (rank ≡ x.rank + 1))
 
--- an event can be put in under each id with this line: it is new, its links can be put in, and its causes are kept
-pub record CanPutIn (e : Event) (line rank : ℕ) (p : ActivePair) (born : List AgentId) (ends : List (RuleEnd × RuleEnd)) (its_causes : List EventId) (ss : List Stander) (ls : List Link) (kept : Causes) : Type 0 where
+-- an event can be put in under each id with this line: it is new, its links can be put in, and its causes stand
+pub record CanPutIn (e : Event) (line rank : ℕ) (p : ActivePair) (born : List AgentId) (ends : List (RuleEnd × RuleEnd)) (its_causes : List EventId) (ss : List Stander) (ls : List Link) : Type 0 where
   pub new : IsNewEvent ss line e
   pub digits : HaveDigits born ends
   pub few : length ends ≤ 8
   pub no_links : (d : EventId) (l : Link) → d.line ≡ line → IsIn l ls → made_by d l ≡ false
-  pub lawful : (d : EventId) → d.line ≡ line → HaveOwnLines (record { id = d; event = e; rank = rank; born = born } ∷ ss) → IsLawful (made_links d p born 0 ends ++ ls)
-  pub no_causes : (d : EventId) → d.line ≡ line → kept d ≡ None
-  pub causes : All (λ d. IsSome (kept d)) its_causes
-  pub once : HasEachOnce (λ d. IsIn d its_causes) its_causes
+  pub lawful : (d : EventId) → d.line ≡ line → HaveOwnLines (record { id = d; event = e; rank = rank; born = born; causes = its_causes } ∷ ss) → IsLawful (made_links d p born 0 ends ++ ls)
+  pub causes : All (Stands ss) its_causes
+  pub once : IsOnce its_causes
 
--- the event is there, too, with these links and these direct causes
-pub record PutsIn (x : Stander) (made : List Link) (its_causes : List EventId) (ss ss' : List Stander) (ls ls' : List Link) (kept kept' : Causes) : Type 0 where
+-- the event is there, too, with these links
+pub record PutsIn (x : Stander) (made : List Link) (ss ss' : List Stander) (ls ls' : List Link) : Type 0 where
   pub events : Alike (x ∷ ss) ss'
   pub links : Alike (made ++ ls) ls'
-  pub causes : (d : EventId) → kept' d ≡ with_event x.id (Some its_causes) kept d
 
--- the events, the links and the causes are the same
-pub record LeavesAll (ss ss' : List Stander) (ls ls' : List Link) (kept kept' : Causes) : Type 0 where
+-- the events and the links are the same
+pub record LeavesAll (ss ss' : List Stander) (ls ls' : List Link) : Type 0 where
   pub events : Alike ss ss'
   pub links : Alike ls ls'
-  pub causes : (d : EventId) → kept' d ≡ kept d

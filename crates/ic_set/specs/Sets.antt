@@ -10,11 +10,10 @@ use Rattle.ic_theory.specs.Causes.{IsRank}
 use Rattle.ic_theory.specs.Machine.{IsDeep}
 use Rattle.ic_shown.specs.Naming.{Naming}
 use Rattle.ic_shown.specs.Shown.{Shows}
-use Rattle.ic_cause.specs.Dependents.{Causes}
 use Rattle.ic_roster.specs.Rosters.{Member, Stander, HaveOwnNames, HaveOwnLines}
 use Rattle.ic_set.specs.Views.{SetView, standing, agent_of, AreChildren}
 use Rattle.ic_set.specs.Ids.{IsNaming}
-use Rattle.ic_set.specs.Causes.{KeepsCauses}
+use Rattle.ic_set.specs.Causes.{HaveCauses}
 
 -- the children of the event are there, under the ids that are noted with it
 pub record HasChildren (ms : List Member) (x : Stander) : Type 0 where
@@ -27,7 +26,7 @@ abbrev pub HasRanks : SetView → Type 0
 HasRanks v = (rank : Event → ℕ) → IsRank v.start (standing v) rank → (x : Stander) → IsIn x v.events → x.rank ≡ rank x.event
 
 -- what is seen of a standing set: it is sound, no event of it is deep, its agents are those of the start and of the
--- events, each with an id of its own, and children and rank are noted with each event
+-- events, each with an id of its own, and children, rank and direct causes are noted with each event
 pub record IsStandingSet (v : SetView) : Type 0 where
   pub proper : IsProper v.start
   pub sound : IsSound v.start (standing v)
@@ -37,11 +36,11 @@ pub record IsStandingSet (v : SetView) : Type 0 where
   pub own_lines : HaveOwnLines v.events
   pub children : (x : Stander) → IsIn x v.events → HasChildren v.agents x
   pub ranks : HasRanks v
+  pub causes : HaveCauses v.start v.events
 
--- what is kept of it: the links that the set leaves, by ids, and the direct causes of each event
-pub record IsKept (v : SetView) (ls : List Link) (kept : Causes) : Type 0 where
+-- what is kept of it: the links that the set leaves, by ids
+pub record IsKept (v : SetView) (ls : List Link) : Type 0 where
   pub set : IsStandingSet v
   pub naming : Naming
   pub named : IsNaming v.agents v.events naming
   pub shows : Shows naming v.start (standing v) ls
-  pub causes : KeepsCauses v.start v.events kept

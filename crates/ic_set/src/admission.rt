@@ -9,7 +9,6 @@ ghost use Rattle.ic_link.specs.Links.{IsLawful};
 ghost use Rattle.ic_theory.specs.Born.{born_agents};
 ghost use Rattle.ic_theory.specs.Machine.{IsDeep};
 ghost use Rattle.ic_theory.specs.Rules.{born_kinds};
-ghost use Rattle.ic_cause.specs.Dependents.{causes_in};
 ghost use Rattle.ic_roster.specs.Rosters.{Stander, event_in, IsNamed};
 ghost use Rattle.ic_set.specs.Admission.{AreCausesOf, IsRankOver, CanPutIn, PutsIn, LeavesAll};
 ghost use Rattle.ic_set.specs.Changes.{Admits, IsSame};
@@ -22,7 +21,7 @@ use crate::bare::BareSet;
 use crate::entering::{NewAgent, children_of, enter_all, remove_all};
 use crate::joining::add_made;
 use crate::pairs::ActivePair;
-use ic_cause::{Dependents, direct_causes};
+use ic_cause::direct_causes;
 use ic_link::LinkStore;
 use ic_name::{AgentId, EventId, Kind, RuleEnd};
 use ic_roster::{Interaction, Roster};
@@ -77,12 +76,7 @@ impl<L: LinkStore> BareSet<L> {
             ends: rules.links,
             causes: &causes,
         };
-        match put_event(
-            &mut self.roster,
-            &mut self.store,
-            &mut self.dependents,
-            &firing,
-        ) {
+        match put_event(&mut self.roster, &mut self.store, &firing) {
             Ok(id) => {
                 self.roster.lawful();
                 Ok(id)
@@ -165,24 +159,25 @@ fn children_for(
 fn put_event<L: LinkStore>(
     roster: &mut Roster,
     store: &mut L,
-    dependents: &mut Dependents,
     firing: &Firing<'_>,
 ) -> Result<EventId, AllocError>
     requires named { IsNamed roster.old.names firing.now.interaction }
-    requires can { CanPutIn (event_in roster.old.names firing.now.interaction) firing.now.line firing.now.rank firing.now.pair firing.now.born.now firing.now.ends.now firing.now.causes.now roster.old.events (L.links store.old) (causes_in dependents.old) }
-    ensures put { IfOk result (λ id. (id.line ≡ firing.now.line) × PutsIn (record { id = id; event = event_in roster.old.names firing.now.interaction; rank = firing.now.rank; born = firing.now.born.now }) (made_links id firing.now.pair firing.now.born.now 0 firing.now.ends.now) firing.now.causes.now roster.old.events roster.new.events (L.links store.old) (L.links store.new) (causes_in dependents.old) (causes_in dependents.new)) }
-    ensures unchanged { OnErr result (LeavesAll roster.old.events roster.new.events (L.links store.old) (L.links store.new) (causes_in dependents.old) (causes_in dependents.new)) }
+    requires can { CanPutIn (event_in roster.old.names firing.now.interaction) firing.now.line firing.now.rank firing.now.pair firing.now.born.now firing.now.ends.now firing.now.causes.now roster.old.events (L.links store.old) }
+    ensures put { IfOk result (λ id. (id.line ≡ firing.now.line) × PutsIn (record { id = id; event = event_in roster.old.names firing.now.interaction; rank = firing.now.rank; born = firing.now.born.now; causes = firing.now.causes.now }) (made_links id firing.now.pair firing.now.born.now 0 firing.now.ends.now) roster.old.events roster.new.events (L.links store.old) (L.links store.new)) }
+    ensures unchanged { OnErr result (LeavesAll roster.old.events roster.new.events (L.links store.old) (L.links store.new)) }
     ensures agents { roster.new.agents ≡ roster.old.agents }
     ensures names { roster.new.names ≡ roster.old.names }
 {
-    let id = roster.insert_event(firing.interaction, firing.line, firing.rank, firing.born)?;
+    roster.lawful();
+    let id = roster.insert_event(
+        firing.interaction,
+        firing.line,
+        firing.rank,
+        firing.born,
+        firing.causes,
+    )?;
     roster.lawful();
     let Ok(_) = put_links(store, id, firing) else {
-        roster.remove_event(id);
-        return Err(AllocError);
-    };
-    let Ok(_) = dependents.add(id, firing.causes) else {
-        store.take_of(id);
         roster.remove_event(id);
         return Err(AllocError);
     };

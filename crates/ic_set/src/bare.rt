@@ -5,26 +5,23 @@ ghost use Rattle.ic_set.specs.Changes.{IsOver};
 
 use crate::entering::{agents_of_kinds, enter_all};
 use crate::joining::{add_all, links_of_start};
-use ic_cause::Dependents;
 use ic_link::LinkStore;
 use ic_roster::Roster;
 use ic_start::Start;
 use std::alloc::{AllocError, Global};
 use std::marker::Model;
 
-/// A standing set without its queue of leads: its events, and the agents that they leave, each under its id, the
-/// links in a store, and the direct causes of each event.
+/// A standing set without its queue of leads: its events with their direct causes, and the agents that they leave, each under
+/// its id, and the links in a store.
 #[derive(Drop)]
 pub struct BareSet<L: LinkStore> {
     pub(crate) start: Start,
     pub(crate) roster: Roster,
     pub(crate) store: L,
-    pub(crate) dependents: Dependents,
     pub(crate) alloc: Global,
 }
 
 impl<L: LinkStore> Model for BareSet<L> {
-    ghost use Rattle.ic_cause.specs.Dependents.{causes_in};
     ghost use Rattle.ic_set.specs.Views.{NamedView};
     ghost use Rattle.ic_set.specs.Sets.{IsKept};
 
@@ -32,7 +29,7 @@ impl<L: LinkStore> Model for BareSet<L> {
 
     ghost view = { λ a. record { set = record { start = a.start; agents = a.roster.agents; events = a.roster.events }; names = a.roster.names } };
 
-    ghost invariant = { λ a. IsKept (record { start = a.start; agents = a.roster.agents; events = a.roster.events }) (L.links a.store) (causes_in a.dependents) };
+    ghost invariant = { λ a. IsKept (record { start = a.start; agents = a.roster.agents; events = a.roster.events }) (L.links a.store) };
 }
 
 impl<L: LinkStore> BareSet<L> {
@@ -52,7 +49,6 @@ impl<L: LinkStore> BareSet<L> {
             start,
             roster,
             store,
-            dependents: Dependents::new(alloc),
             alloc,
         })
     }

@@ -5,13 +5,15 @@ ghost use Rattle.ic_theory.specs.Firings.{AreAfterCauses, then_fired};
 ghost use Rattle.ic_theory.specs.Listed.{shown};
 ghost use Rattle.ic_theory.specs.Nets.{IsSameNet, net_of};
 ghost use Rattle.ic_theory.specs.Steps.{AreDefined, steps};
+ghost use Rattle.ic_cause.specs.Journals.{Ranked, IsJournal, journal_text};
 ghost use Rattle.ic_roster.specs.Rosters.{event_in, IsNamed};
 ghost use Rattle.ic_set.specs.Views.{standing};
 ghost use Rattle.ic_set.specs.Orders.{AreRanked};
+ghost use Rattle.ic_set.specs.Placed.{ranked_in};
 
 use crate::bare::BareSet;
 use crate::orders::Placed;
-use ic_cause::RankedEvent;
+use ic_cause::{RankedEvent, journal_head, push_line};
 use ic_link::LinkStore;
 use ic_name::Event;
 use ic_net::Net;
@@ -55,6 +57,14 @@ impl<L: LinkStore> BareSet<L> {
         Ok(net)
     }
 
+    /// The text of the journal: how many events stand, and a line for each with its rank, in canonical order.
+    pub fn journal(&self) -> Result<Vec<u8>, AllocError>
+        ensures { IfOk result (λ text. (xs : List Ranked) × IsJournal self.now.set.start (standing self.now.set) xs × (text.items ≡ journal_text xs)) }
+    {
+        self.lawful();
+        journal_of(self.alloc, &self.roster, &self.all_placed()?)
+    }
+
     /// The standing events with their ranks, in canonical order.
     pub fn ranked(&self) -> Result<Vec<RankedEvent>, AllocError>
         ensures { IfOk result (λ events. AreRanked self.now.set events.items) }
@@ -62,6 +72,23 @@ impl<L: LinkStore> BareSet<L> {
         self.lawful();
         with_ranks(self.alloc, &self.roster, &self.all_placed()?)
     }
+}
+
+/// The journal of these events. One of them at a time is built.
+fn journal_of(alloc: Global, roster: &Roster, placed: &[Placed]) -> Result<Vec<u8>, AllocError>
+    requires { All (λ p. IsNamed roster.now.names p.interaction) placed.now }
+    ensures { IfOk result (λ text. text.items ≡ journal_text (map (ranked_in roster.now.names) placed.now)) }
+{
+    let mut text = journal_head(alloc, placed.len())?;
+    for standing in placed {
+        let event = roster.read(standing.interaction)?;
+        let ranked = RankedEvent {
+            event,
+            rank: standing.rank,
+        };
+        push_line(alloc, &mut text, &ranked)?;
+    }
+    Ok(text)
 }
 
 /// These events with their ranks.

@@ -1,6 +1,7 @@
-ghost use Rattle.std.specs.Prelude.{◌≡◌, All, List, map, IfOk};
+ghost use Rattle.std.specs.Prelude.{◌≡◌, All, map, IfOk};
 ghost use Rattle.ic_name.specs.declared.ids.EventId.{EventId as AnEventId};
-ghost use Rattle.ic_path.specs.Orders.{Pick, IsIn};
+ghost use Rattle.ic_path.specs.Orders.{IsIn};
+ghost use Rattle.ic_roster.specs.Rosters.{IsOnce};
 ghost use Rattle.ic_set.specs.Orders.{AreInOrder, IsAny, IsCauseOf, DependsOn};
 ghost use Rattle.ic_set.specs.Placed.{keyed_cmp, place, IsPlaced, ArePlaced};
 ghost use Rattle.ic_set.specs.Removal.{Stands};
@@ -35,8 +36,8 @@ impl<L: LinkStore> BareSet<L> {
         requires { Stands self.now.set id }
         ensures { IfOk result (λ ids. AreInOrder self.now.set (IsCauseOf self.now.set id) ids.items) }
     {
-        match self.dependents.causes(id) {
-            Some(ids) => ids_of(self.alloc, &self.in_order(ids)?),
+        match self.roster.event(id) {
+            Some(event) => ids_of(self.alloc, &self.in_order(event.causes)?),
             None => unreachable!(),
         }
     }
@@ -46,12 +47,12 @@ impl<L: LinkStore> BareSet<L> {
         requires { Stands self.now.set id }
         ensures { IfOk result (λ ids. AreInOrder self.now.set (DependsOn self.now.set id) ids.items) }
     {
-        ids_of(self.alloc, &self.in_order(self.dependents.dependents(id))?)
+        ids_of(self.alloc, &self.in_order(self.roster.dependents(id))?)
     }
 
     /// These standing events, in canonical order.
     pub fn ordered(&self, ids: &[EventId]) -> Result<Vec<EventId>, AllocError>
-        requires once { (d : AnEventId) (rest : List AnEventId) → Pick d ids.now rest → IsIn d rest → ⊥ }
+        requires once { IsOnce ids.now }
         requires standing { (d : AnEventId) → IsIn d ids.now → Stands self.now.set d }
         ensures { IfOk result (λ ordered. AreInOrder self.now.set (λ x. IsIn x.id ids.now) ordered.items) }
     {
@@ -67,7 +68,7 @@ impl<L: LinkStore> BareSet<L> {
 
     /// The standing events under these ids, in canonical order.
     fn in_order(&self, ids: &[EventId]) -> Result<Vec<Placed>, AllocError>
-        requires once { (d : AnEventId) (rest : List AnEventId) → Pick d ids.now rest → IsIn d rest → ⊥ }
+        requires once { IsOnce ids.now }
         requires standing { (d : AnEventId) → IsIn d ids.now → Stands self.now.set d }
         ensures { IfOk result (λ placed. ArePlaced self.now (λ x. IsIn x.id ids.now) placed.items) }
     {

@@ -1,12 +1,9 @@
-ghost use Rattle.std.specs.Prelude.{◌≡◌, ◌<◌, ◌≤◌, IfOk, OnOk};
+ghost use Rattle.std.specs.Prelude.{◌<◌, ◌≤◌, OnOk};
 ghost use Rattle.ic_name.specs.declared.ids.Link.{Link as ALink};
-ghost use Rattle.ic_name.specs.declared.ids.EventId.{EventId as AnEventId};
 ghost use Rattle.ic_path.specs.Orders.{IsIn};
-ghost use Rattle.ic_cause.specs.Dependents.{DependsOn, causes_in};
-ghost use Rattle.ic_test_names.specs.declared.causes.TheConstants.{THIRD};
 
 use crate::events::event;
-use ic_cause::{Dependents, RankedEvent, canonical_cmp, direct_causes, journal_text, rank_of};
+use ic_cause::{RankedEvent, canonical_cmp, direct_causes, journal_text, rank_of};
 use ic_link::{Far, LinkRows, LinkStore, has_room};
 use ic_name::{AgentId, EventId, Link, LinkId, MakerId, Spot};
 use std::alloc::{AllocError, Global};
@@ -16,8 +13,6 @@ use std::test::Fail;
 const FIRST: EventId = EventId { slot: 0, line: 4 };
 
 const SECOND: EventId = EventId { slot: 1, line: 2 };
-
-const THIRD: EventId = EventId { slot: 2, line: 7 };
 
 const NEAR: AgentId = AgentId { slot: 0, serial: 0 };
 
@@ -127,57 +122,4 @@ fn a_journal_has_a_line_for_each_event(rt: HostRuntime) {
     let rows = [(4, 5, 0), (3, 10, 12)];
     let text = b"journal 2\n4 5 rank 0\n3 10 rank 12\n";
     assert_eq!(rt; is_journal(rt.alloc(), &rows, text), Some(true));
-}
-
-/// Three events: the first is a cause of the others, and the second of the third, which is a cause of none.
-fn three_dependents(alloc: Global) -> Result<Dependents, AllocError>
-    ensures { IfOk result (λ kept. (f : AnEventId) → DependsOn (causes_in kept) THIRD f → ⊥) }
-{
-    let mut kept = Dependents::new(alloc);
-    kept.add(FIRST, &[])?;
-    kept.add(SECOND, &[FIRST])?;
-    kept.add(THIRD, &[FIRST, SECOND])?;
-    Ok(kept)
-}
-
-#[test]
-fn no_causes_are_kept_at_first(rt: HostRuntime) {
-    let kept = Dependents::new(rt.alloc());
-    assert!(rt; kept.causes(FIRST).is_none());
-}
-
-/// Whether these are the causes of an event that is kept.
-fn has_causes(kept: &Dependents, event: EventId, causes: &[EventId]) -> bool {
-    match kept.causes(event) {
-        Some(found) => found == causes,
-        None => false,
-    }
-}
-
-#[test]
-fn causes_are_kept(rt: HostRuntime) -> Result<(), Fail> {
-    let kept = three_dependents(rt.alloc())?;
-    assert!(rt; has_causes(&kept, FIRST, &[]));
-    assert!(rt; has_causes(&kept, THIRD, &[FIRST, SECOND]));
-    Ok(())
-}
-
-#[test]
-fn dependents_are_kept(rt: HostRuntime) -> Result<(), Fail> {
-    let kept = three_dependents(rt.alloc())?;
-    assert_eq!(rt; kept.dependents(FIRST).len(), 2);
-    assert!(rt; kept.dependents(FIRST).contains(&SECOND));
-    assert!(rt; kept.dependents(FIRST).contains(&THIRD));
-    assert_eq!(rt; kept.dependents(SECOND), [THIRD].as_slice());
-    Ok(())
-}
-
-#[test]
-fn what_goes_is_no_dependent(rt: HostRuntime) -> Result<(), Fail> {
-    let mut kept = three_dependents(rt.alloc())?;
-    kept.remove(THIRD);
-    assert!(rt; kept.causes(THIRD).is_none());
-    assert_eq!(rt; kept.dependents(FIRST), [SECOND].as_slice());
-    assert_eq!(rt; kept.dependents(SECOND).len(), 0);
-    Ok(())
 }

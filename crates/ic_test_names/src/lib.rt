@@ -8,6 +8,8 @@ mod causes;
 #[cfg(test)]
 mod commands;
 #[cfg(test)]
+mod dependents;
+#[cfg(test)]
 mod events;
 #[cfg(test)]
 mod lines;

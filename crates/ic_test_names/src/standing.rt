@@ -1,17 +1,23 @@
-ghost use Rattle.std.specs.Prelude.{IfSome};
+ghost use Rattle.std.specs.Prelude.{◌≡◌, IfSome};
 ghost use Rattle.ic_roster.specs.Rosters.{IsNamed};
 
 use crate::events::event_name;
 use ic_name::{AgentId, AgentName, EventId, Kind};
-use ic_roster::{Interaction, Roster};
+use ic_roster::{GoneEvent, Interaction, Roster};
 use std::alloc::Global;
 use std::cmp::Ordering;
 use std::test::Fail;
 
 /// The event of two start agents, a gamma and an epsilon, by the places of their names, which are entered. It is `None`
 /// where the first has not the lesser name.
-fn interaction(alloc: Global, roster: &mut Roster, lead: u16, other: u16) -> Option<Interaction>
-    ensures { IfSome result (λ i. IsNamed roster.new.names i) }
+pub(crate) fn interaction(
+    alloc: Global,
+    roster: &mut Roster,
+    lead: u16,
+    other: u16,
+) -> Option<Interaction>
+    ensures named { IfSome result (λ i. IsNamed roster.new.names i) }
+    ensures events { roster.new.events ≡ roster.old.events }
 {
     let lead_name = AgentName::start(alloc, lead)?;
     let other_name = AgentName::start(alloc, other)?;
@@ -30,7 +36,7 @@ fn interaction(alloc: Global, roster: &mut Roster, lead: u16, other: u16) -> Opt
     }
 }
 
-/// Enters the event of two start agents with rank 7. It is `None` where one of this line or this lead stands.
+/// Enters the event of two start agents, without causes, with rank 7. It is `None` where one of this line or this lead stands.
 fn stand(
     alloc: Global,
     roster: &mut Roster,
@@ -43,7 +49,7 @@ fn stand(
         Some(_) => None,
         None => match roster.led_by(interaction.lead) {
             Some(_) => None,
-            None => roster.insert_event(interaction, line, 7, born).ok(),
+            None => roster.insert_event(interaction, line, 7, born, &[]).ok(),
         },
     }
 }
@@ -148,10 +154,18 @@ fn hands_out(alloc: Global, roster: &mut Roster, id: EventId, lead: u16, born: &
     let Some(name) = AgentName::start(alloc, lead) else {
         return false;
     };
-    match roster.remove_event(id) {
+    match take_out(roster, id) {
         Some(gone) => roster.names().is(gone.lead, &name) && gone.born.as_slice() == born,
         None => false,
     }
+}
+
+/// The event under an id goes, if one stands under it that is no cause of another.
+pub(crate) fn take_out(roster: &mut Roster, id: EventId) -> Option<GoneEvent> {
+    if !roster.dependents(id).is_empty() {
+        return None;
+    }
+    roster.remove_event(id)
 }
 
 #[test]
@@ -159,7 +173,7 @@ fn an_event_that_goes_is_handed_out(rt: HostRuntime) -> Result<(), Fail> {
     let mut roster = Roster::new(rt.alloc());
     let id = stand(rt.alloc(), &mut roster, (3, 9), 4, &BORN).ok_or("an event")?;
     assert!(rt; hands_out(rt.alloc(), &mut roster, id, 3, &BORN));
-    assert!(rt; roster.remove_event(id).is_none());
+    assert!(rt; take_out(&mut roster, id).is_none());
     assert_eq!(rt; roster.event_count(), 0);
     Ok(())
 }

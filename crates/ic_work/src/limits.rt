@@ -1,2 +1,2 @@
 /// How many events a worker fires under one lock, at most.
-pub(crate) const MOST: usize = 64;
+pub(crate) const MOST: usize = 256;

@@ -5,6 +5,6 @@ use Rattle.ic_answer.proofs.reading.journal.Goals as goal
 
 pub returns : goal.returns
 returns g c =
-    IfOk-weaker c.journal_text.result _ _
-    (λ text e. told_journal c.args.bench.now _ _ c.deref.ensures.value c.in_ok-events.ensures text.items e)
-    c.journal_text.ensures
+    IfOk-weaker c.journal.result _ _
+    (λ text e. told_journal c.args.bench.now e.0 e.1 text.items e.2)
+    c.journal.ensures

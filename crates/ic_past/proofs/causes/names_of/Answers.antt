@@ -33,7 +33,7 @@ loop-id-preserved c =
     let i = c.loop-id.id-index in
     let so_far = c.loop-id.invariant in
     let is = ap pair (sym c.in_ok-event.ensures) ∙ sym c.in_ok-name.ensures in
-    let x : Stander = record { id = get_or ids i none; event = event_in c.args.roster.now.names c.in-Some.entry.interaction; rank = c.in-Some.entry.rank; born = c.in-Some.entry.born.now } in (
+    let x : Stander = record { id = get_or ids i none; event = event_in c.args.roster.now.names c.in-Some.entry.interaction; rank = c.in-Some.entry.rank; born = c.in-Some.entry.born.now; causes = c.in-Some.entry.causes.now } in (
       so_far.0 ++ x ∷ [],
       at_end (λ (y : Stander). IsIn y c.args.roster.now.events) so_far.0 x so_far.1 c.in-Some.ensures.found,
       map-append (λ (y : Stander). y.id) so_far.0 (x ∷ []) ∙ ap (λ ds. ds ++ get_or ids i none ∷ []) so_far.2 ∙ sym (take_more ids i none c.loop-id-test.true),

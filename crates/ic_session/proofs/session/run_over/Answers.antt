@@ -1,6 +1,6 @@
 use Rattle.std.proofs.Common.{Err, ap, ◌∙◌, subst}
 use Rattle.std.proofs.lemmas.Result.{IfOk-weaker, on_err_weaker}
-use Rattle.ic_cause.proofs.KeptViews.{at_error}
+use Rattle.ic_cause.proofs.Errors.{at_error}
 use Rattle.ic_grammar.specs.Grammar.{Denotes}
 use Rattle.ic_grammar.specs.Faults.{Stands, IsFirstFault}
 use Rattle.ic_grammar.specs.declared.refusal.Refusal.{Refusal}

@@ -1,7 +1,7 @@
 use Rattle.std.proofs.Common.{sym, take, drop}
 use Rattle.std.proofs.lemmas.List.{take_all, take-append-drop}
 use Rattle.ic_path.proofs.Alikes.{alike_self}
-use Rattle.ic_cause.proofs.KeptViews.{at_error}
+use Rattle.ic_cause.proofs.Errors.{at_error}
 use Rattle.ic_set.proofs.AddedInTurn.{next_in, can_add_next}
 use Rattle.ic_set.proofs.joining.add_all.Goals as goal
 

@@ -11,5 +11,5 @@ unreachable-requires g c = c.in_default-event.ensures.absent c.in-Some.ensures.f
 
 pub returns : goal.returns
 returns g c =
-    let x : Stander = record { id = c.in-Some.standing; event = event_in c.roster-roster.result.now.names c.in-Some-event.entry.interaction; rank = c.in-Some-event.entry.rank; born = c.in-Some-event.entry.born.now } in
+    let x : Stander = record { id = c.in-Some.standing; event = event_in c.roster-roster.result.now.names c.in-Some-event.entry.interaction; rank = c.in-Some-event.entry.rank; born = c.in-Some-event.entry.born.now; causes = c.in-Some-event.entry.causes.now } in
     rw (← c.self.view_is, ← c.bare.ensures) (x, (subst (λ (xs : List Stander). IsIn x xs) c.roster-roster.ensures.events c.in-Some-event.ensures.found, c.in-Some.ensures.found.3), sym c.in_ok-read.ensures)

@@ -11,5 +11,5 @@ unreachable-requires g c = c.in_default-event.ensures.absent c.in-Some.ensures.f
 
 pub returns : goal.returns
 returns g c =
-    let there : IsIn (record { id = c.in-Some.standing; event = event_in c.roster-roster.result.now.names c.in-Some-event.entry.interaction; rank = c.in-Some-event.entry.rank; born = c.in-Some-event.entry.born.now }) c.bare-set.result.now.set.events = subst (λ (xs : List Stander). IsIn (record { id = c.in-Some.standing; event = event_in c.roster-roster.result.now.names c.in-Some-event.entry.interaction; rank = c.in-Some-event.entry.rank; born = c.in-Some-event.entry.born.now }) xs) c.roster-roster.ensures.events c.in-Some-event.ensures.found in
-    rw (← c.self.view_is, ← c.bare-set.ensures) (record { id = c.in-Some.standing; event = event_in c.roster-roster.result.now.names c.in-Some-event.entry.interaction; rank = c.in-Some-event.entry.rank; born = c.in-Some-event.entry.born.now }, (there, c.in-Some.ensures.found.3), λ rank h. c.lawful.ensures.set.ranks rank h (record { id = c.in-Some.standing; event = event_in c.roster-roster.result.now.names c.in-Some-event.entry.interaction; rank = c.in-Some-event.entry.rank; born = c.in-Some-event.entry.born.now }) there)
+    let there : IsIn (record { id = c.in-Some.standing; event = event_in c.roster-roster.result.now.names c.in-Some-event.entry.interaction; rank = c.in-Some-event.entry.rank; born = c.in-Some-event.entry.born.now; causes = c.in-Some-event.entry.causes.now }) c.bare-set.result.now.set.events = subst (λ (xs : List Stander). IsIn (record { id = c.in-Some.standing; event = event_in c.roster-roster.result.now.names c.in-Some-event.entry.interaction; rank = c.in-Some-event.entry.rank; born = c.in-Some-event.entry.born.now; causes = c.in-Some-event.entry.causes.now }) xs) c.roster-roster.ensures.events c.in-Some-event.ensures.found in
+    rw (← c.self.view_is, ← c.bare-set.ensures) (record { id = c.in-Some.standing; event = event_in c.roster-roster.result.now.names c.in-Some-event.entry.interaction; rank = c.in-Some-event.entry.rank; born = c.in-Some-event.entry.born.now; causes = c.in-Some-event.entry.causes.now }, (there, c.in-Some.ensures.found.3), λ rank h. c.lawful.ensures.set.ranks rank h (record { id = c.in-Some.standing; event = event_in c.roster-roster.result.now.names c.in-Some-event.entry.interaction; rank = c.in-Some-event.entry.rank; born = c.in-Some-event.entry.born.now; causes = c.in-Some-event.entry.causes.now }) there)

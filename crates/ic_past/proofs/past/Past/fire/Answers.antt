@@ -2,7 +2,7 @@ use Rattle.std.proofs.Common.{◌≡◌, List, sym, subst, ◌∙◌}
 use Rattle.ic_name.specs.Events.{pair}
 use Rattle.ic_path.specs.Orders.{IsIn}
 use Rattle.ic_roster.proofs.Options.{at_none, at_some}
-use Rattle.ic_cause.proofs.KeptViews.{at_error}
+use Rattle.ic_cause.proofs.Errors.{at_error}
 use Rattle.ic_past.specs.declared.deep.DeepEvent.{DeepEvent}
 use Rattle.ic_past.specs.DeepEvents.{IsShallow}
 use Rattle.ic_past.specs.Pasts.{PastView, IsSamePast}

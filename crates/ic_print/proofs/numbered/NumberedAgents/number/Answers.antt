@@ -7,4 +7,4 @@ pub returns : goal.returns
 returns c =
     let agent = c.args.agent.now in
     let place = c.args.self.now.numbering.places agent.place c.args.port (shown_agent agent.view) c.requires.placed c.requires.port in
-    c.from.ensures ∙ c.unwrap_or.ensures ∙ ap (λ o. unwrap_or o 0) (c.get.ensures ∙ place)
+    c.unwrap_or.ensures ∙ ap (λ o. unwrap_or o 0) (c.get.ensures ∙ place)

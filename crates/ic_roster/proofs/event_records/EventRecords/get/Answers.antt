@@ -17,4 +17,4 @@ returns-then-event-id-clause-absent c =
 pub returns-clause-found : goal.returns-clause-found
 returns-clause-found c =
     let h : slot_at c.self.inside.records.slots c.args.id.slot ≡ Some c.in_ok-event.event.now = sym c.in_ok-event.ensures in
-    rw (← c.self.view_is, c.as_slice.ensures) (event_of_id c.self.inside.records.slots c.args.id c.in_ok-event.event.now h c.if-event-id.false)
+    rw (← c.self.view_is, c.as_slice.ensures, c.as_slice-2.ensures) (event_of_id c.self.inside.records.slots c.args.id c.in_ok-event.event.now h c.if-event-id.false)

@@ -1,9 +1,16 @@
-use Rattle.std.proofs.Common.{◌≡◌, None, refl}
+use Rattle.std.proofs.Common.{◌≡◌, None, refl, sym, subst, ◌∙◌}
+use Rattle.ic_path.specs.Orders.{IsIn}
 use Rattle.ic_slots.specs.Slots.{Gives}
-use Rattle.ic_roster.specs.Slots.{HoldsOneMore}
+use Rattle.ic_roster.specs.Rosters.{IsOnce}
+use Rattle.ic_roster.specs.RecordChanges.{Changes, Takes}
 use Rattle.ic_roster.specs.EventSlots.{event_at, event_line}
 use Rattle.ic_roster.proofs.Slots.{emptied_by_remove, shown_left}
 use Rattle.ic_roster.proofs.EventFacts.{holds_event, line_kept, keys_taken, event_gone, event_given}
+use Rattle.ic_roster.proofs.RecordFacts.{same_events}
+use Rattle.ic_roster.proofs.SameLinks.{same_indexed}
+use Rattle.ic_roster.proofs.LinkedEvents.{free_of}
+use Rattle.ic_roster.proofs.AddedLinks.{causes_here}
+use Rattle.ic_roster.proofs.RemovedLinks.{removed_linked}
 use Rattle.ic_roster.proofs.event_records.EventRecords.remove.Goals as goal
 
 pub returns-in_err-get-clause-gone : goal.returns-in_err-get-clause-gone
@@ -15,21 +22,28 @@ returns-in_err-get-clause-handed c = λ x i e. absurd (c.in_err-get.ensures.abse
 pub remove-event-requires : goal.remove-event-requires
 remove-event-requires c = holds_event c.self.inside.records.slots c.args.self.now _ c.self.view_is c.in_ok-get.ensures.found
 
--- the slot is emptied
-emptied : (c : goal.After-take-2) → HoldsOneMore c.remove-event.new.self.slots c.self.inside.records.slots c.args.id.slot c.remove-event.result
-emptied c = emptied_by_remove _ _ _ _ c.remove-event.ensures.value c.remove-event.ensures.updates
+pub take_at_each-requires : goal.take_at_each-requires
+take_at_each-requires c =
+    let line = line_kept c.self.inside.records.slots c.args.self.now _ c.remove-event.result c.self.view_is c.in_ok-get.ensures.found c.remove-event.ensures.value in
+    let emptied = emptied_by_remove c.self.inside.records c.remove-event.new.self c.args.id.slot c.remove-event.result c.remove-event.ensures.value c.remove-event.ensures.updates in
+    subst IsOnce (causes_here _ _ c.args.id c.remove-event.result line emptied ∙ sym c.as_slice.ensures) (c.self.invariant.1.causes_once c.args.id)
 
 pub invariant_of-self : goal.invariant_of-self
 invariant_of-self c =
     let line : event_line c.remove-event.result ≡ c.args.id.line = line_kept c.self.inside.records.slots c.args.self.now _ c.remove-event.result c.self.view_is c.in_ok-get.ensures.found c.remove-event.ensures.value in
+    let emptied = emptied_by_remove c.self.inside.records c.remove-event.new.self c.args.id.slot c.remove-event.result c.remove-event.ensures.value c.remove-event.ensures.updates in
     let takes : Gives (event_line c.remove-event.result) None c.self.inside.lines c.take.new.self = rw line c.take.ensures.taken in
-    keys_taken _ _ c.self.inside.lines c.take.new.self c.self.inside.leads c.take-2.new.self c.args.id.slot c.remove-event.result c.self.invariant (emptied c) takes c.take-2.ensures.taken
+    let keys = keys_taken _ _ c.self.inside.lines c.take.new.self c.self.inside.leads c.take-2.new.self c.args.id.slot c.remove-event.result c.self.invariant.0 emptied takes c.take-2.ensures.taken in
+    let free = free_of c.self.inside.records.slots c.args.id (λ x i. c.requires x (subst (λ xs. IsIn x xs) c.self.view_is i)) in (
+      same_indexed _ _ c.take.new.self c.take-2.new.self c.take_at_each.ensures.shows keys,
+      removed_linked _ _ _ c.args.id c.remove-event.result c.self.invariant.1 line emptied free (subst (λ es. Changes (Takes c.args.id) es c.remove-event.new.self.slots c.take_at_each.new.records.slots) c.as_slice.ensures c.take_at_each.ensures),
+    )
 
 pub returns-clause-gone : goal.returns-clause-gone
-returns-clause-gone c = rw (← c.self.view_is) (event_gone _ _ c.args.id c.remove-event.result (emptied c))
+returns-clause-gone c = rw (← c.self.view_is, same_events _ _ c.take_at_each.ensures.shows) (event_gone _ _ c.args.id c.remove-event.result (emptied_by_remove c.self.inside.records c.remove-event.new.self c.args.id.slot c.remove-event.result c.remove-event.ensures.value c.remove-event.ensures.updates))
 
 pub returns-clause-left : goal.returns-clause-left
-returns-clause-left c = rw (← c.self.view_is) (shown_left event_at _ _ c.args.id.slot c.remove-event.result (emptied c))
+returns-clause-left c = rw (← c.self.view_is, same_events _ _ c.take_at_each.ensures.shows) (shown_left event_at _ _ c.args.id.slot c.remove-event.result (emptied_by_remove c.self.inside.records c.remove-event.new.self c.args.id.slot c.remove-event.result c.remove-event.ensures.value c.remove-event.ensures.updates))
 
 pub returns-clause-handed : goal.returns-clause-handed
 returns-clause-handed c = rw (← c.self.view_is) (event_given c.self.inside.records.slots c.args.id c.remove-event.result c.remove-event.ensures.value)

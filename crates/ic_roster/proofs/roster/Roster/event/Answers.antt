@@ -9,7 +9,7 @@ returns-clause-found c = rw (← c.self.view_is) (if_some c.get.result (λ e i. 
 
 pub returns-clause-named : goal.returns-clause-named
 returns-clause-named c =
-    rw (← c.self.view_is) (if_some c.get.result (λ e i. c.self.invariant.events (record { id = c.args.id; interaction = e.interaction; rank = e.rank; born = e.born.now }) i) c.get.ensures.found)
+    rw (← c.self.view_is) (if_some c.get.result (λ e i. c.self.invariant.events (record { id = c.args.id; interaction = e.interaction; rank = e.rank; born = e.born.now; causes = e.causes.now }) i) c.get.ensures.found)
 
 pub returns-clause-absent : goal.returns-clause-absent
 returns-clause-absent c = rw (← c.self.view_is) (if_none_then c.get.result (each_image (stander_in c.self.inside.names) c.self.inside.events (λ x. x.id ≢ c.args.id)) c.get.ensures.absent)

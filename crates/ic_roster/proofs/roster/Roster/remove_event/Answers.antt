@@ -1,11 +1,16 @@
 use Rattle.std.proofs.Common.{◌≡◌, ◌∷◌, map, ap}
-use Rattle.ic_path.specs.Orders.{Alike}
+use Rattle.ic_path.specs.Orders.{Alike, IsIn}
 use Rattle.ic_path.proofs.Alikes.{alike-map}
-use Rattle.ic_roster.specs.Rosters.{IsHanded}
+use Rattle.ic_roster.specs.Rosters.{Stander, IsHanded}
 use Rattle.ic_roster.specs.Placed.{stander_in, roster_in}
 use Rattle.ic_roster.proofs.Images.{in-map, each_image}
 use Rattle.ic_roster.proofs.Named.{handed_of_given}
 use Rattle.ic_roster.proofs.roster.Roster.remove_event.Goals as goal
+
+pub remove-requires : goal.remove-requires
+remove-requires c =
+    let free : (x : Stander) → IsIn x (map (stander_in c.self.inside.names) c.self.inside.events) → IsIn c.args.id x.causes → ⊥ = rw (← c.self.view_is) at c.requires in
+    λ x i. free (stander_in c.self.inside.names x) (in-map (stander_in c.self.inside.names) i)
 
 pub invariant_of-self : goal.invariant_of-self
 invariant_of-self c = record { agents = c.self.invariant.agents; events = λ x i. c.self.invariant.events x (c.remove.ensures.left x i) }

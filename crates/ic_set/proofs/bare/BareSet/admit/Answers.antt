@@ -1,4 +1,4 @@
-use Rattle.std.proofs.Common.{◌≡◌, ◌+◌, ◌++◌, List, map, refl, sym, ap, ◌∙◌, subst}
+use Rattle.std.proofs.Common.{◌≡◌, ◌+◌, ◌++◌, List, map, sym, ap, ◌∙◌, subst}
 use Rattle.ic_name.specs.Names.{Name}
 use Rattle.ic_name.specs.Events.{Event}
 use Rattle.ic_name.specs.declared.ids.AgentId.{AgentId}
@@ -7,8 +7,7 @@ use Rattle.ic_path.proofs.Alikes.{alike_self, alike_back}
 use Rattle.ic_link.specs.Links.{IsLawful}
 use Rattle.ic_theory.specs.Born.{born_agents}
 use Rattle.ic_theory.specs.Machine.{IsDeep}
-use Rattle.ic_cause.specs.Dependents.{causes_in}
-use Rattle.ic_cause.proofs.KeptViews.{at_error}
+use Rattle.ic_cause.proofs.Errors.{at_error}
 use Rattle.ic_roster.specs.declared.interaction.Interaction.{Interaction}
 use Rattle.ic_roster.specs.Rosters.{Member, Stander, event_in, IsNamed}
 use Rattle.ic_set.specs.Entering.{agents_in, GrowsBy, Enters}
@@ -52,14 +51,13 @@ enter_all-requires-clause-can g c =
     let view = c.self.inside in
     let v : SetView = record { start = view.start; agents = view.roster.agents; events = view.roster.events } in
     let ls = g.L.LinkStore.links view.store in
-    let kept = causes_in view.dependents in
     rw (c.children_for.ensures.agents, c.deref-2.ensures.value)
-    (can_enter v c.args.self.now.set (ap (λ (w : NamedView). w.set) c.self.view_is) ls kept c.self.invariant e c.args.pair active c.args.line c.requires.new_line _ (c.in_ok-children.ensures.children ∙ ap born_agents same))
+    (can_enter v c.args.self.now.set (ap (λ (w : NamedView). w.set) c.self.view_is) ls c.self.invariant e c.args.pair active c.args.line c.requires.new_line _ (c.in_ok-children.ensures.children ∙ ap born_agents same))
 
 pub invariant_of-self-in_err-born : goal.invariant_of-self-in_err-born
 invariant_of-self-in_err-born g c =
     let view = c.self.inside in
-    kept_alike view.start (rw c.children_for.ensures.agents at c.in_err-born.ensures.unchanged) (same_alike (c.enter_all.ensures.events ∙ c.children_for.ensures.events)) (alike_self (g.L.LinkStore.links view.store)) (λ d. refl) c.self.invariant
+    kept_alike view.start (rw c.children_for.ensures.agents at c.in_err-born.ensures.unchanged) (same_alike (c.enter_all.ensures.events ∙ c.children_for.ensures.events)) (alike_self (g.L.LinkStore.links view.store)) c.self.invariant
 
 pub returns-in_err-born-clause-unchanged : goal.returns-in_err-born-clause-unchanged
 returns-in_err-born-clause-unchanged g c =
@@ -78,7 +76,6 @@ put_event-requires-clause-can g c =
     let view = c.self.inside in
     let v : SetView = record { start = view.start; agents = view.roster.agents; events = view.roster.events } in
     let ls = g.L.LinkStore.links view.store in
-    let kept = causes_in view.dependents in
     let same = rw (← c.self.view_is) at (c.interaction_of-interaction.ensures.event e active) in
     let its = its_event c.children_for.ensures.grown (rw (← c.self.view_is) at c.interaction_of-interaction.ensures.named) same c.enter_all.ensures.names in
     let events = c.enter_all.ensures.events ∙ c.children_for.ensures.events in
@@ -86,7 +83,7 @@ put_event-requires-clause-can g c =
     let enters : Enters v.agents (agents_in c.children_for.new.roster.names c.in_ok-children.children.items) (c.args.line + 1) c.in_ok-born.born.items c.enter_all.new.roster.agents = rw (c.children_for.ensures.agents, c.deref-2.ensures.value) at c.in_ok-born.ensures.entered in
     let lawful : IsLawful ls = record { slim = c.lawful.ensures.slim; own_ids = c.lawful.ensures.own_ids } in
     rw (its, c.as_slice.ensures, ends, c.deref-3.ensures.value, events)
-    (can_put_in v c.args.self.now.set (ap (λ (w : NamedView). w.set) c.self.view_is) ls kept c.self.invariant e c.args.pair active c.args.line c.requires.new_line
+    (can_put_in v c.args.self.now.set (ap (λ (w : NamedView). w.set) c.self.view_is) ls c.self.invariant e c.args.pair active c.args.line c.requires.new_line
     _ (c.in_ok-children.ensures.children ∙ ap born_agents same) c.in_ok-born.born.items _ enters c.lawful-2.ensures.names
     c.rank_over-rank.result c.in_ok-causes.causes.items (c.in_ok-causes.ensures e active) lawful)
 
@@ -97,7 +94,6 @@ invariant_of-self-in-Ok g c =
     let view = c.self.inside in
     let v : SetView = record { start = view.start; agents = view.roster.agents; events = view.roster.events } in
     let ls = g.L.LinkStore.links view.store in
-    let kept = causes_in view.dependents in
     let same = rw (← c.self.view_is) at (c.interaction_of-interaction.ensures.event e active) in
     let its = its_event c.children_for.ensures.grown (rw (← c.self.view_is) at c.interaction_of-interaction.ensures.named) same c.enter_all.ensures.names in
     let events = c.enter_all.ensures.events ∙ c.children_for.ensures.events in
@@ -106,17 +102,16 @@ invariant_of-self-in-Ok g c =
     let over = rw c.deref.ensures.value at c.rank_over-rank.ensures in
     let puts = rw (its, c.as_slice.ensures, ends, c.deref-3.ensures.value, events) at c.in-Ok.ensures.put.1 in
     rw c.put_event.ensures.agents
-    (put_keeps v c.args.self.now.set (ap (λ (w : NamedView). w.set) c.self.view_is) ls kept c.self.invariant e c.args.pair active c.args.line c.requires.new_line
+    (put_keeps v c.args.self.now.set (ap (λ (w : NamedView). w.set) c.self.view_is) ls c.self.invariant e c.args.pair active c.args.line c.requires.new_line
     _ (c.in_ok-children.ensures.children ∙ ap born_agents same) c.in_ok-born.born.items _ enters c.lawful-2.ensures.names
     c.rank_over-rank.result c.in_ok-causes.causes.items (c.in_ok-causes.ensures e active) over
-    c.in-Ok.id c.in-Ok.ensures.put.0 _ _ _ c.lawful-in-Ok.ensures.lines puts (c.requires.shallow e active))
+    c.in-Ok.id c.in-Ok.ensures.put.0 _ _ c.lawful-in-Ok.ensures.lines puts (c.requires.shallow e active))
 
 pub returns-in-Ok-clause-admitted : goal.returns-in-Ok-clause-admitted
 returns-in-Ok-clause-admitted g c = λ e active. (
     let view = c.self.inside in
     let v : SetView = record { start = view.start; agents = view.roster.agents; events = view.roster.events } in
     let ls = g.L.LinkStore.links view.store in
-    let kept = causes_in view.dependents in
     let same = rw (← c.self.view_is) at (c.interaction_of-interaction.ensures.event e active) in
     let its = its_event c.children_for.ensures.grown (rw (← c.self.view_is) at c.interaction_of-interaction.ensures.named) same c.enter_all.ensures.names in
     let events = c.enter_all.ensures.events ∙ c.children_for.ensures.events in
@@ -125,10 +120,10 @@ returns-in-Ok-clause-admitted g c = λ e active. (
     let over = rw c.deref.ensures.value at c.rank_over-rank.ensures in
     let puts = rw (its, c.as_slice.ensures, ends, c.deref-3.ensures.value, events) at c.in-Ok.ensures.put.1 in
     rw c.put_event.ensures.agents
-    (put_admits v c.args.self.now.set (ap (λ (w : NamedView). w.set) c.self.view_is) ls kept c.self.invariant e c.args.pair active c.args.line c.requires.new_line
+    (put_admits v c.args.self.now.set (ap (λ (w : NamedView). w.set) c.self.view_is) ls c.self.invariant e c.args.pair active c.args.line c.requires.new_line
     _ (c.in_ok-children.ensures.children ∙ ap born_agents same) c.in_ok-born.born.items _ enters c.lawful-2.ensures.names
     c.rank_over-rank.result c.in_ok-causes.causes.items (c.in_ok-causes.ensures e active) over
-    c.in-Ok.id c.in-Ok.ensures.put.0 _ _ _ c.lawful-in-Ok.ensures.lines puts))
+    c.in-Ok.id c.in-Ok.ensures.put.0 _ _ c.lawful-in-Ok.ensures.lines puts))
 
 -- the agents that were entered have gone again
 gone_again : (entered : List Member) {old mid put new : List Member} {ids born : List AgentId} → put ≡ mid → map (λ m. m.id) entered ≡ born → ids ≡ born → Alike (entered ++ old) mid
@@ -146,7 +141,7 @@ invariant_of-self-in-Err g c =
     let left = c.in-Err.ensures.unchanged in
     let back = gone_again enters.entered c.put_event.ensures.agents enters.under c.as_slice-in-Err.ensures enters.alike c.remove_all.ensures.left in
     let events = events_again (c.enter_all.ensures.events ∙ c.children_for.ensures.events) left.events c.remove_all.ensures.events in
-    kept_alike view.start back events left.links left.causes c.self.invariant
+    kept_alike view.start back events left.links c.self.invariant
 
 pub returns-clause-unchanged : goal.returns-clause-unchanged
 returns-clause-unchanged g c =

@@ -13,7 +13,7 @@ in_order-requires g c =
     let stands : Stands v c.args.id = rw (← c.self.view_is) at c.requires in
     record {
       once = c.dependents.ensures.once;
-      standing = rw (← c.self.view_is) (dependents_stand v _ _ c.self.invariant _ stands _ c.dependents.ensures);
+      standing = rw (← c.self.view_is) (dependents_stand v _ c.self.invariant _ stands _ c.dependents.ensures);
     }
 
 pub returns : goal.returns
@@ -22,5 +22,5 @@ returns g c =
     let b : NamedView = record { set = v; names = c.self.inside.roster.names } in
     let stands : Stands v c.args.id = rw (← c.self.view_is) at c.requires in
     let placed : ArePlaced b (λ x. IsIn x.id c.dependents.result.now) c.in_ok-in_order.field-0.items = rw (← c.self.view_is) at c.in_ok-in_order.ensures in
-    let same = dependents_of v _ c.self.invariant.set.own_lines c.self.invariant.causes c.self.invariant.naming c.self.invariant.named c.args.id _ stands c.dependents.ensures in
+    let same = dependents_of v c.self.invariant.set.own_lines c.self.invariant.set.causes c.args.id _ stands c.dependents.ensures in
     rw (← c.self.view_is) (IfOk-weaker c.ids_of.result _ _ (λ ids e. ids_in_order b _ _ ids.items (placed_so b _ same placed) e) (rw c.deref.ensures.value at c.ids_of.ensures))

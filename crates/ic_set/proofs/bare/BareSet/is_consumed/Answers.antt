@@ -1,7 +1,6 @@
 use Rattle.std.proofs.Common.{◌≡◌, Bool, true, false, refl, sym, subst, ◌∙◌}
 use Rattle.ic_names.specs.Tables.{name_at}
 use Rattle.ic_path.specs.Orders.{IsIn}
-use Rattle.ic_cause.specs.Dependents.{causes_in}
 use Rattle.ic_roster.specs.Rosters.{Member}
 use Rattle.ic_roster.proofs.Options.{at_none, at_some}
 use Rattle.ic_set.specs.Views.{SetView, NamedView}
@@ -27,7 +26,7 @@ returns-in_default g c =
     rw (← c.self.view_is) (
       λ t. absurd cc,
       λ some. (
-          let n = led_far _ _ (causes_in c.self.inside.dependents) c.self.invariant m there c.far.result c.far.ensures free some in
+          let n = led_far _ _ c.self.invariant m there c.far.result c.far.ensures free some in
           absurd (c.in_default.ensures.absent n.0.id n.2)),
     )
 
@@ -40,9 +39,9 @@ returns-in-Some-agent g c =
     rw (← c.self.view_is) (
       λ t. (
           let x = at_some c.led_by-in-Some-agent.result (sym c.is_some-in-Some-agent.ensures ∙ t) c.led_by-in-Some-agent.ensures.found in
-          far_led _ _ (causes_in c.self.inside.dependents) c.self.invariant m there c.far.result c.far.ensures n c.in-Some-agent.ensures.found c.in-Some.ensures.found x.1.0 x.1.1 x.1.3),
+          far_led _ _ c.self.invariant m there c.far.result c.far.ensures n c.in-Some-agent.ensures.found c.in-Some.ensures.found x.1.0 x.1.1 x.1.3),
       λ some. true_unless c.is_some-in-Some-agent.result (λ no.
-          unled_far _ _ (causes_in c.self.inside.dependents) c.self.invariant m there c.far.result c.far.ensures free n c.in-Some-agent.ensures.found c.in-Some.ensures.found
+          unled_far _ _ c.self.invariant m there c.far.result c.far.ensures free n c.in-Some-agent.ensures.found c.in-Some.ensures.found
           (at_none c.led_by-in-Some-agent.result (sym c.is_some-in-Some-agent.ensures ∙ no) c.led_by-in-Some-agent.ensures.absent) some),
     )
 
@@ -54,6 +53,6 @@ returns-in-None g c =
     rw (← c.self.view_is) (
       λ t. absurd cc,
       λ some. (
-          let n = led_far _ _ (causes_in c.self.inside.dependents) c.self.invariant m there c.far.result c.far.ensures free some in
+          let n = led_far _ _ c.self.invariant m there c.far.result c.far.ensures free some in
           absurd (c.in-None.ensures.absent n.0 n.1 (far_agent (sym n.2 ∙ c.in-Some.ensures.found)))),
     )

@@ -39,7 +39,7 @@ invariant_of-result g c =
     let all = append-nil (map (moved_link c.in_ok-ids.ids.items) c.links.result.now) in
     let added = rw (c.deref-2.ensures.value, c.in_ok-links.ensures, c.as_slice.ensures, c.empty-store.ensures, all) at c.in_ok-add_all.ensures.added in
     rw (c.in_ok-ids.ensures.events ∙ named.events ∙ c.new-roster.ensures.events)
-    (start_kept c.args.start c.lawful.ensures.proper _ _ c.links.result.now entered c.lawful-2.ensures.names c.links.ensures.joins c.links.ensures.placed _ _ added c.new.ensures)
+    (start_kept c.args.start c.lawful.ensures.proper _ _ c.links.result.now entered c.lawful-2.ensures.names c.links.ensures.joins c.links.ensures.placed _ added)
 
 pub returns : goal.returns
 returns g c =

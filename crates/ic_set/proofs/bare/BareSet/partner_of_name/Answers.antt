@@ -1,6 +1,5 @@
 use Rattle.std.proofs.Common.{◌≡◌, None, Some, sym, subst}
 use Rattle.ic_name.specs.declared.ports.Port.TheVariants as port
-use Rattle.ic_cause.specs.Dependents.{causes_in}
 use Rattle.ic_set.specs.Reading.{net_in, IsPortAt}
 use Rattle.ic_set.specs.Views.{NamedView}
 use Rattle.ic_set.proofs.ReadNets.{name_leads, name_none}
@@ -9,14 +8,14 @@ use Rattle.ic_set.proofs.bare.BareSet.partner_of_name.Goals as goal
 pub returns-in_default : goal.returns-in_default
 returns-in_default g c =
     subst (λ (w : NamedView). None ≡ (net_in w.set).partner (port.Name c.args.number)) c.self.view_is
-    (name_none _ _ (causes_in c.self.inside.dependents) c.self.invariant c.args.number c.far.result c.far.ensures (λ q e. c.in_default.not-End q e))
+    (name_none _ _ c.self.invariant c.args.number c.far.result c.far.ensures (λ q e. c.in_default.not-End q e))
 
 pub port_of-requires : goal.port_of-requires
 port_of-requires g c =
-    rw (← c.self.view_is) (name_leads _ _ (causes_in c.self.inside.dependents) c.self.invariant c.args.number c.far.result c.far.ensures c.in-End.spot c.in-End.is).0
+    rw (← c.self.view_is) (name_leads _ _ c.self.invariant c.args.number c.far.result c.far.ensures c.in-End.spot c.in-End.is).0
 
 pub returns : goal.returns
 returns g c =
     let at = subst (λ (w : NamedView). IsPortAt w.set c.in-End.spot c.in_ok-port_of.field-0) (sym c.self.view_is) c.in_ok-port_of.ensures in
     subst (λ (w : NamedView). Some c.in_ok-port_of.field-0 ≡ (net_in w.set).partner (port.Name c.args.number)) c.self.view_is
-    (sym ((name_leads _ _ (causes_in c.self.inside.dependents) c.self.invariant c.args.number c.far.result c.far.ensures c.in-End.spot c.in-End.is).1 c.in_ok-port_of.field-0 at))
+    (sym ((name_leads _ _ c.self.invariant c.args.number c.far.result c.far.ensures c.in-End.spot c.in-End.is).1 c.in_ok-port_of.field-0 at))

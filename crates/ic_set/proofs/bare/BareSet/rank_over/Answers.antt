@@ -17,7 +17,7 @@ loop-cause-preserved g c =
     let i = c.loop-cause.cause-index in
     let none : EventId = record { slot = 0; line = 0 } in
     let entry = c.in-Some.entry in
-    let x : Stander = record { id = get_or ids i none; event = event_in c.self.inside.roster.names entry.interaction; rank = entry.rank; born = entry.born.now } in
+    let x : Stander = record { id = get_or ids i none; event = event_in c.self.inside.roster.names entry.interaction; rank = entry.rank; born = entry.born.now; causes = entry.causes.now } in
     let there = subst (λ (ss : List Stander). IsIn x ss) (ap (λ (w : NamedView). w.set.events) c.self.view_is) c.in-Some.ensures.found in
     let own = subst (λ (w : NamedView). HaveOwnLines w.set.events) c.self.view_is c.self.invariant.set.own_lines in
     rw (take_more ids i none c.loop-cause-test.true, c.max-rank.ensures, greater_is c.loop-cause.rank (c.in-Some.entry.rank + 1)) (rank_more c.args.self.now.set.events (take i ids) c.loop-cause.rank x own c.loop-cause.invariant there)
@@ -26,7 +26,7 @@ pub overflow_add-entry : goal.overflow_add-entry
 overflow_add-entry g c =
     let none : EventId = record { slot = 0; line = 0 } in
     let entry = c.in-Some.entry in
-    let x : Stander = record { id = get_or c.args.causes.now c.loop-cause.cause-index none; event = event_in c.self.inside.roster.names entry.interaction; rank = entry.rank; born = entry.born.now } in
+    let x : Stander = record { id = get_or c.args.causes.now c.loop-cause.cause-index none; event = event_in c.self.inside.roster.names entry.interaction; rank = entry.rank; born = entry.born.now; causes = entry.causes.now } in
     let there = subst (λ (ss : List Stander). IsIn x ss) (ap (λ (w : NamedView). w.set.events) c.self.view_is) c.in-Some.ensures.found in
     let low = c.requires.low x there in
     omega (arith, low)

@@ -1,12 +1,11 @@
 use Rattle.ic_set.specs.Removal.{Stands, IsFree}
 use Rattle.ic_set.specs.Views.{SetView}
 use Rattle.ic_set.proofs.TakenOut.{nothing_depends, kept_left, takes_out}
-use Rattle.std.proofs.Common.{◌≡◌, List, ◌∷◌, None, sym, subst, ◌∙◌}
+use Rattle.std.proofs.Common.{◌≡◌, List, ◌∷◌, sym, subst, ◌∙◌}
 use Rattle.ic_name.specs.declared.ids.EventId.{EventId}
 use Rattle.ic_names.specs.Tables.{StandsAt}
-use Rattle.ic_path.specs.Orders.{Alike}
+use Rattle.ic_path.specs.Orders.{Alike, IsIn}
 use Rattle.ic_link.specs.Links.{Drops}
-use Rattle.ic_cause.specs.Dependents.{causes_in, with_event, DependsOn}
 use Rattle.ic_roster.specs.Rosters.{Member, Stander}
 use Rattle.ic_set.specs.Changes.{TakesOut}
 use Rattle.ic_set.proofs.bare.BareSet.take_out.Goals as goal
@@ -25,13 +24,13 @@ unreachable-requires g c =
     let stands : Stands v c.args.id = rw (← c.self.view_is) at c.requires.standing in
     c.in_default.ensures.handed stands.0 stands.1 stands.2
 
-pub remove-requires : goal.remove-requires
-remove-requires g c =
+pub remove_event-requires : goal.remove_event-requires
+remove_event-requires g c =
     let v : SetView = record { start = c.self.inside.start; agents = c.self.inside.roster.agents; events = c.self.inside.roster.events } in
     let stands : Stands v c.args.id = rw (← c.self.view_is) at c.requires.standing in
     let free : IsFree v c.args.id = rw (← c.self.view_is) at c.requires.free in
-    subst (λ (d : EventId). (f : EventId) → DependsOn (causes_in c.self.inside.dependents) d f → ⊥) stands.2
-    (nothing_depends v _ _ c.self.invariant stands.0 stands.1 (subst (IsFree v) (sym stands.2) free))
+    subst (λ (d : EventId). (x : Stander) → IsIn x v.events → IsIn d x.causes → ⊥) stands.2
+    (nothing_depends v _ c.self.invariant stands.0 stands.1 (subst (IsFree v) (sym stands.2) free))
 
 pub invariant_of-self : goal.invariant_of-self
 invariant_of-self g c =
@@ -39,9 +38,9 @@ invariant_of-self g c =
     let stands : Stands v c.args.id = rw (← c.self.view_is) at c.requires.standing in
     let free : IsFree v c.args.id = rw (← c.self.view_is) at c.requires.free in
     let handed = c.in-Some.ensures.handed stands.0 stands.1 stands.2 in
-    kept_left v _ _ c.self.invariant stands.0 stands.1 (subst (IsFree v) (sym stands.2) free) _ _ _ _ (left_events c.remove_all.ensures.events (c.in-Some.ensures.gone stands.0 stands.1 stands.2))
+    kept_left v _ c.self.invariant stands.0 stands.1 (subst (IsFree v) (sym stands.2) free) _ _ _ (left_events c.remove_all.ensures.events (c.in-Some.ensures.gone stands.0 stands.1 stands.2))
     (λ gone left e a. c.remove_all.ensures.left gone left (e ∙ sym handed.2 ∙ sym c.as_slice.ensures) (left_agents c.in-Some.ensures.agents a))
-    (subst (λ (d : EventId). Drops d (g.L.LinkStore.links c.self.inside.store) (g.L.LinkStore.links c.take_of.new.self)) (sym stands.2) c.take_of.ensures) (subst (λ (d : EventId). (e : EventId) → causes_in c.remove.new.self e ≡ with_event d None (causes_in c.self.inside.dependents) e) (sym stands.2) c.remove.ensures)
+    (subst (λ (d : EventId). Drops d (g.L.LinkStore.links c.self.inside.store) (g.L.LinkStore.links c.take_of.new.self)) (sym stands.2) c.take_of.ensures)
 
 pub returns-clause-out : goal.returns-clause-out
 returns-clause-out g c =
@@ -49,9 +48,9 @@ returns-clause-out g c =
     let stands : Stands v c.args.id = rw (← c.self.view_is) at c.requires.standing in
     let free : IsFree v c.args.id = rw (← c.self.view_is) at c.requires.free in
     let handed = c.in-Some.ensures.handed stands.0 stands.1 stands.2 in
-    let out = takes_out v _ _ c.self.invariant stands.0 stands.1 (subst (IsFree v) (sym stands.2) free) _ _ _ _ (left_events c.remove_all.ensures.events (c.in-Some.ensures.gone stands.0 stands.1 stands.2))
+    let out = takes_out v _ c.self.invariant stands.0 stands.1 (subst (IsFree v) (sym stands.2) free) _ _ _ (left_events c.remove_all.ensures.events (c.in-Some.ensures.gone stands.0 stands.1 stands.2))
     (λ gone left e a. c.remove_all.ensures.left gone left (e ∙ sym handed.2 ∙ sym c.as_slice.ensures) (left_agents c.in-Some.ensures.agents a))
-    (subst (λ (d : EventId). Drops d (g.L.LinkStore.links c.self.inside.store) (g.L.LinkStore.links c.take_of.new.self)) (sym stands.2) c.take_of.ensures) (subst (λ (d : EventId). (e : EventId) → causes_in c.remove.new.self e ≡ with_event d None (causes_in c.self.inside.dependents) e) (sym stands.2) c.remove.ensures) in
+    (subst (λ (d : EventId). Drops d (g.L.LinkStore.links c.self.inside.store) (g.L.LinkStore.links c.take_of.new.self)) (sym stands.2) c.take_of.ensures) in
     rw (← c.self.view_is) (subst (λ (d : EventId). TakesOut v d (record { start = c.self.inside.start; agents = c.remove_all.new.roster.agents; events = c.remove_all.new.roster.events })) stands.2 out)
 
 pub returns-clause-lead : goal.returns-clause-lead

@@ -1,7 +1,7 @@
 use Rattle.std.proofs.Common.{◌≡◌, ◌≤◌, length, arith, ap, ◌∙◌}
 use Rattle.ic_path.proofs.Alikes.{alike-in}
 use Rattle.ic_path.proofs.Picks.{in_first}
-use Rattle.ic_cause.proofs.KeptViews.{at_error}
+use Rattle.ic_cause.proofs.Errors.{at_error}
 use Rattle.ic_queue.proofs.Heaps.{kept_heap}
 use Rattle.ic_set.specs.Pairs.{IsPairOf}
 use Rattle.ic_set.specs.Sets.{IsStandingSet}
