@@ -6,7 +6,7 @@
 It runs what `rt ci` has built: each test below and each worked session again and again, the first time with the first
 allocation refused, then with the second one, and so on until a run meets none that is refused. With words given, only tests
 and sessions whose names contain one of them are run. It needs a C compiler, for the few lines that refuse. All of it takes
-about four minutes.
+about five minutes.
 
 Tests: each passes whichever allocation is refused. It looks at what is left where a call is answered by want of memory,
 and makes the call again.
@@ -15,7 +15,8 @@ Sessions: where no answer can be given, the program ends with status 3, and what
 memory. Where a command is answered by `refused 25`, it is given once more, with the same allocation refused: then the first
 of both answers is the refusal, the second what is wanting of the worked answer, and all others are the worked ones. With
 several workers, of which no two runs take memory in one order, what was written up to the refusal is looked at alone.
-Sessions that take memory thousands of times have some of these refused, from the first to the last.
+Sessions that would run for longer than half a minute have some allocations refused, from the first to the last, and what
+they wrote up to the refusal is looked at alone.
 """
 import os
 import pathlib
@@ -38,9 +39,8 @@ TESTS = {
     "ic_test_threads": ["refused_growth"],
 }
 
-# A session that takes memory more often than MANY times has so many of its allocations refused as take about these seconds.
-MANY = 5000
-SECONDS = 4
+# A session has all of its allocations refused where that takes about these seconds at most, and else so many as do.
+SECONDS = 30
 
 STATUS_OF_NO_MEMORY = 3
 
@@ -188,8 +188,8 @@ def fails_in_session(refuser, session):
     taken = time.perf_counter() - begun
     if written != session.answer:
         return ["none"], 0, asked
-    places = session.places(refuser) if session.workers == "1" and asked <= MANY else []
-    step = 1 if asked <= MANY else max(1, int(asked * taken / SECONDS))
+    step = max(1, int(asked * taken / SECONDS))
+    places = session.places(refuser) if session.workers == "1" and step == 1 else []
     failed, tried = [], 0
     for refused in range(1, asked + 1, step):
         status, written, _ = refuser.run(session.command, refused, session.text)

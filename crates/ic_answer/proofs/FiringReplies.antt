@@ -1,10 +1,9 @@
 -- What firing an event by its name answers.
-use Rattle.std.proofs.Common.{◌≡◌, length, map, codes, Result, Err, inl, refl, sym, ap, subst, ◌∙◌}
+use Rattle.std.proofs.Common.{◌≡◌, length, map, codes, inl, refl, sym, ap, subst, ◌∙◌}
 use Rattle.std.specs.declared.cmp.Ordering.TheVariants.{Less}
 use Rattle.ic_name.specs.Names.{Name, name_cmp}
 use Rattle.ic_name.specs.Events.{Event, Pair, event_of}
 use Rattle.ic_name.specs.declared.ids.AgentId.{AgentId}
-use Rattle.ic_name.specs.declared.ids.EventId.{EventId}
 use Rattle.ic_name.specs.declared.kinds.Kind.{Kind}
 use Rattle.ic_name.specs.declared.limits.TheConstants.{MAX_LINES}
 use Rattle.ic_name.specs.declared.lines.Call.TheVariants as call
@@ -23,8 +22,7 @@ use Rattle.ic_set.specs.Views.{agent_of}
 use Rattle.ic_set.proofs.Namings.{same_member}
 use Rattle.ic_journal.specs.Views.{BenchView}
 use Rattle.ic_journal.specs.Benches.{IsAt, IsBench}
-use Rattle.ic_journal.specs.Calls.{Steps, Fires}
-use Rattle.ic_journal.specs.declared.faults.FireFault.{FireFault}
+use Rattle.ic_journal.specs.Calls.{Steps}
 use Rattle.ic_journal.specs.Proposals.{IsEventOf}
 use Rattle.ic_journal.proofs.MachineSteps.{events_at}
 use Rattle.ic_command.specs.declared.command.Command.TheVariants.{Fire}

@@ -1,15 +1,12 @@
 -- TurnsByCommand: answers that change nothing, and answers of one step of the machine.
-use Rattle.std.proofs.Common.{◌≡◌, ℕ, ◌<◌, List, refl, sym, subst, arith}
+use Rattle.std.proofs.Common.{◌≡◌, ℕ, ◌<◌, List, refl, sym, subst}
 use Rattle.ic_name.specs.declared.limits.TheConstants.{MAX_LINES}
 use Rattle.ic_name.specs.declared.lines.Call.{Call}
 use Rattle.ic_name.specs.declared.lines.Reply.{Reply}
-use Rattle.ic_path.proofs.Alikes.{alike_back, alike_then, alike-map}
 use Rattle.ic_theory.specs.Machine.{State, MachineStep}
-use Rattle.ic_theory.proofs.Machines.{history_length}
 use Rattle.ic_journal.specs.Views.{BenchView}
-use Rattle.ic_journal.specs.Benches.{fired_in, IsAt, IsBench}
+use Rattle.ic_journal.specs.Benches.{IsAt, IsBench}
 use Rattle.ic_journal.specs.Calls.{Steps, Stays}
-use Rattle.ic_journal.proofs.Answering.{length-noted}
 use Rattle.ic_reduce.proofs.BenchSteps.{still_at, line_left}
 use Rattle.ic_command.specs.declared.command.Command.{Command}
 use Rattle.ic_answer.specs.declared.refused.Refused.TheVariants as refused

@@ -8,7 +8,7 @@ use Rattle.ic_name.specs.declared.lines.Reply.TheVariants.{Undone}
 use Rattle.ic_path.specs.Orders.{here, IsIn, Alike}
 use Rattle.ic_path.proofs.Picks.{in_first}
 use Rattle.ic_path.proofs.Alikes.{alike_back, alike_pick, alike_then, alike_more, alike_past, alike-map, alike-in}
-use Rattle.ic_shown.proofs.Elements.{map_cases}
+use Rattle.ic_shown.proofs.Elements.{map_cases, in_behind}
 use Rattle.ic_theory.specs.Causes.{IsDependent}
 use Rattle.ic_theory.specs.Future.{Includes}
 use Rattle.ic_theory.specs.Machine.{Standing, State, events, MachineStep, undone, IsHistory, goes_on}
@@ -20,7 +20,7 @@ use Rattle.ic_journal.specs.Benches.{fired_in}
 use Rattle.ic_journal.proofs.MachineSteps.{fired_events}
 use Rattle.ic_undo.specs.Undone.{undoing}
 use Rattle.ic_undo.specs.Backwards.{AreFree}
-use Rattle.ic_undo.proofs.Backs.{reverse_more, in_behind, apart}
+use Rattle.ic_undo.proofs.Backs.{reverse_more, apart}
 use Rattle.ic_answer.specs.Unwinding.{AreUndoneInTurn, none, more}
 use Rattle.std.proofs.lemmas.List.{map-append}
 

@@ -19,10 +19,11 @@ use Rattle.ic_journal.specs.Views.{BenchView, set_of}
 use Rattle.ic_journal.specs.Benches.{IsAt, IsBench, fired_in}
 use Rattle.ic_journal.proofs.MachineSteps.{events_at, fired_events}
 use Rattle.ic_undo.specs.Absorbing as bench
-use Rattle.ic_undo.specs.Absorbing.{IsWithin, IsNever, IsLeastNever, IsNextListed, NoneIsNext, refusing}
+use Rattle.ic_undo.specs.Absorbing.{IsWithin, IsLeastNever, IsNextListed, NoneIsNext, refusing}
 use Rattle.ic_undo.specs.GoingBack.{firing}
 use Rattle.ic_undo.specs.Undone.{undoing}
-use Rattle.ic_undo.proofs.Backs.{alike_reverse, in-map, map-reverse}
+use Rattle.ic_shown.proofs.Elements.{in-map}
+use Rattle.ic_undo.proofs.Backs.{alike_reverse, map-reverse}
 use Rattle.ic_answer.specs.Unwinding.{events_of}
 use Rattle.ic_work.proofs.HistoryParts.{AreAnswered, same_history, history_on, one_state}
 use Rattle.ic_work.proofs.HistoryParts as parts

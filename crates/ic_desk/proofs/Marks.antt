@@ -8,7 +8,7 @@ use Rattle.ic_path.specs.Orders.{Pick, here, there, IsIn, Alike}
 use Rattle.ic_path.proofs.Picks.{none_in, in_picked, in_others, in-cons_cases, pick-map}
 use Rattle.ic_path.proofs.Alikes.{alike_back, alike_then, alike_pick, alike-cons, alike-in, alike-length, alike-map, append-alike-comm, picked_alike}
 use Rattle.ic_cause.proofs.OnceLists.{pick_at}
-use Rattle.ic_undo.proofs.Backs.{in-append_cases, in-map, map_cases}
+use Rattle.ic_shown.proofs.Elements.{in-append_cases, in-map, map_cases}
 use Rattle.ic_desk.specs.Desks.{Noted, NoneNoted, IsNoted, Puts, replaced, added}
 use Rattle.ic_desk.specs.Places.{IsPlace, IsPlaceIn, PutsAt}
 use Rattle.ic_desk.specs.Views.{NamedView, note_of}

@@ -21,7 +21,7 @@ use Rattle.ic_undo.specs.Undone.{AreUndone, undoing}
 use Rattle.ic_undo.specs.Backwards.{AreFree}
 use Rattle.ic_undo.specs.GoingBack as bench
 use Rattle.ic_undo.specs.GoingBack.{AreFirable, firing}
-use Rattle.ic_undo.proofs.Backs.{in_behind}
+use Rattle.ic_shown.proofs.Elements.{in_behind}
 use Rattle.ic_answer.specs.Unwinding.{AreUndoneInTurn}
 use Rattle.ic_answer.proofs.UndoneInTurn.{EndsSo, undone_in_turn}
 use Rattle.ic_desk.specs.Backs.{AreFired}

@@ -1,13 +1,13 @@
 -- Listed events that are absorbed from states that are the same up to order.
-use Rattle.std.proofs.Common.{◌≡◌, List, [], ◌∷◌, ◌⊎◌, inl, inr, refl, sym, ap, subst, ◌∙◌}
+use Rattle.std.proofs.Common.{◌≡◌, List, ◌∷◌, ◌⊎◌, inl, inr, refl, sym, ap, subst, ◌∙◌}
 use Rattle.std.specs.Prelude.{reverse}
 use Rattle.ic_name.specs.Events.{Event, Pair, pair}
 use Rattle.ic_name.specs.declared.lines.Call.TheVariants.{Fire}
 use Rattle.ic_name.specs.declared.lines.Reply.{Reply}
 use Rattle.ic_name.specs.declared.lines.Reply.TheVariants.{Fired}
 use Rattle.ic_name.proofs.NameOrder.{name_cmp_total, name_tied}
-use Rattle.ic_path.specs.Orders.{IsIn, Alike}
-use Rattle.ic_path.proofs.Alikes.{alike_back, alike-in}
+use Rattle.ic_path.specs.Orders.{IsIn}
+use Rattle.ic_path.proofs.Alikes.{alike_back}
 use Rattle.ic_path.proofs.Picks.{in_first, in-cons_cases}
 use Rattle.ic_theory.specs.Starts.{Start, IsProper}
 use Rattle.ic_theory.specs.Sound.{IsSound}
@@ -16,12 +16,11 @@ use Rattle.ic_theory.proofs.Machines.{fire_sound}
 use Rattle.ic_theory.proofs.Normal.{active-alike}
 use Rattle.ic_cause.proofs.OneFuture.{one_event}
 use Rattle.ic_undo.specs.Absorbing.{IsLeastListed}
-use Rattle.ic_answer.specs.Unwinding.{events_of}
 use Rattle.ic_desk.specs.Absorbs.{AreAbsorbed, none, more, NoneIsActive, IsRefused, TakesBack}
 use Rattle.ic_desk.proofs.AbsorbedRuns.{listed-alike}
 use Rattle.ic_one_text.specs.States.{IsReached, AreSame}
 use Rattle.ic_one_text.proofs.OneStep.{reached_next, one_step}
-use Rattle.ic_one_text.proofs.SameStates.{same_self, same_back, same_events, reached_kept}
+use Rattle.ic_one_text.proofs.SameStates.{same_back, same_events, reached_kept}
 use Rattle.ic_one_text.proofs.SortedLists.{neither_greater}
 use Rattle.ic_one_text.proofs.UndoneRuns.{reached_undone, undone_once}
 

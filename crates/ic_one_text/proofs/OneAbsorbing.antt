@@ -1,5 +1,5 @@
 -- Absorbing events has one answer, where memory isn't wanting.
-use Rattle.std.proofs.Common.{◌≡◌, ◌+◌, ◌*◌, ◌≤◌, ℕ, List, [], length, refl, sym, ap, subst, arith, rules}
+use Rattle.std.proofs.Common.{◌≡◌, ℕ, List, [], length, refl, sym, ap, subst, arith, rules}
 use Rattle.std.specs.Global.{Vec}
 use Rattle.ic_name.specs.Events.{Event, Pair, pair, pair_cmp}
 use Rattle.ic_name.specs.declared.lines.Reply.{Reply}

@@ -2,7 +2,6 @@
 use Rattle.std.proofs.Common.{◌≡◌, ◌+◌, ◌<◌, ℕ, List, [], ◌∷◌, ◌++◌, length, inl, inr, refl, sym, ap, subst, arith, ◌∙◌, length-append}
 use Rattle.std.specs.Global.{Vec}
 use Rattle.ic_name.specs.Events.{Pair}
-use Rattle.ic_path.specs.Orders.{IsIn}
 use Rattle.ic_path.proofs.Picks.{none_in, in-cons_cases}
 use Rattle.ic_command.specs.declared.asked.Asked.{Asked}
 use Rattle.ic_command.specs.declared.asked.Asked.TheVariants as asked

@@ -1,5 +1,5 @@
 -- A session has one text, where memory isn't wanting.
-use Rattle.std.proofs.Common.{◌≡◌, ℕ, List, [], ◌∷◌, ◌++◌, refl, sym, ap, ap₂, subst, arith, ◌∙◌}
+use Rattle.std.proofs.Common.{◌≡◌, ℕ, List, [], ◌++◌, refl, sym, ap, ap₂, subst, arith, ◌∙◌}
 use Rattle.ic_theory.specs.Starts.{Start, IsProper}
 use Rattle.ic_grammar.proofs.Proper.{proper}
 use Rattle.ic_grammar.proofs.Spelling.{one_start}

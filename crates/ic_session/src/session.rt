@@ -46,9 +46,9 @@ pub enum Status {
 
 /// Runs a session over an input: reads a net as text and commands, and writes an answer to each command.
 ///
-/// `Fault::Read` only where the input has no call of the reader left: all were made, or the reader failed. `Fault::Write` where the writer fails, `Fault::Memory` where there is no memory, and `Fault::Settle` where
-/// the workers of a sweep say that they did what the history doesn't say. What was written by then is a front of what a
-/// session may write.
+/// `Fault::Read` only where the input has no call of the reader left: all were made, or the reader failed. `Fault::Write`
+/// where the writer fails, `Fault::Memory` where there is no memory, and `Fault::Settle` where the workers of a sweep say that
+/// they did what the history doesn't say. What was written by then is a front of what a session may write.
 pub(crate) fn run_over<R: Read, W: Write, E: Write, T: Threads + Wait + Sync, G: Gate>(
     setting: &Setting<'_, T, G>,
     input: &mut Input,

@@ -1,7 +1,6 @@
 -- Known events by their numbers.
-use Rattle.std.proofs.Common.{◌≡◌, ℕ, suc, zero, ◌+◌, ◌<◌, List, [], ◌∷◌, ◌++◌, length, map, get_or, refl, sym, ap, arith, ◌∙◌, length-append}
-use Rattle.std.proofs.lemmas.List.{length-map, map-append, get_or_append_left, get_or_push, get_or-map, length_push}
-use Rattle.ic_name.specs.Events.{Event}
+use Rattle.std.proofs.Common.{◌≡◌, ℕ, suc, ◌<◌, List, [], ◌∷◌, ◌++◌, length, map, get_or, refl, sym, ap, arith, ◌∙◌}
+use Rattle.std.proofs.lemmas.List.{length-map, map-append, get_or_append_left, get_or_push, get_or-map}
 use Rattle.ic_path.specs.Orders.{Pick, here, there, IsIn}
 use Rattle.ic_set.proofs.InPlace.{in_at}
 use Rattle.ic_trace.specs.declared.known.Known.{Known}

@@ -1,7 +1,6 @@
 -- Direct causes and concurrency by numbers.
-use Rattle.std.proofs.Common.{◌≡◌, ◌↔◌, ℕ, ◌<◌, ◌⊎◌, Bool, true, false, not, List, length, map, get_or, inl, inr, refl, sym, ap, subst, ◌∙◌}
+use Rattle.std.proofs.Common.{◌≡◌, ◌↔◌, ℕ, ◌<◌, ◌⊎◌, Bool, true, false, not, List, length, get_or, inl, inr, refl, sym, ap, subst}
 use Rattle.std.specs.Prelude.{IsTrue}
-use Rattle.ic_name.specs.Events.{Event}
 use Rattle.ic_path.specs.Orders.{IsIn}
 use Rattle.ic_set.proofs.InPlace.{in_at}
 use Rattle.ic_shown.proofs.Elements.{map_cases, in-map}

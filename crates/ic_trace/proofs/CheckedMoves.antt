@@ -1,9 +1,8 @@
 -- Moves that are made one after the other.
-use Rattle.std.proofs.Common.{◌≡◌, ◌↔◌, ℕ, ◌+◌, ◌<◌, Bool, true, false, List, [], ◌∷◌, ◌++◌, length, map, take, drop, get_or, refl, sym, ap, arith, subst, ◌∙◌, append_assoc, append-nil}
+use Rattle.std.proofs.Common.{◌≡◌, ◌↔◌, ℕ, ◌+◌, Bool, false, List, [], ◌∷◌, ◌++◌, map, take, drop, refl, sym, ap, ◌∙◌, append_assoc, append-nil}
 use Rattle.std.specs.Prelude.{IsTrue}
-use Rattle.std.proofs.lemmas.List.{take-append-drop, take-map, drop_more}
+use Rattle.std.proofs.lemmas.List.{take-append-drop, take-map}
 use Rattle.ic_name.specs.Events.{Event}
-use Rattle.ic_path.specs.Orders.{Alike}
 use Rattle.ic_theory.specs.Starts.{Start, IsProper}
 use Rattle.ic_theory.specs.Firings.{nothing}
 use Rattle.ic_theory.specs.Letters as theory

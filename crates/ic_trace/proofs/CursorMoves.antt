@@ -1,19 +1,16 @@
 -- What a move makes of the letters of a cursor.
-use Rattle.std.proofs.Common.{◌≡◌, ◌↔◌, ℕ, ◌+◌, ◌<◌, Bool, true, false, List, [], ◌∷◌, ◌++◌, length, map, reverse, Some, None, inl, inr, refl, sym, ap, arith, subst, ◌∙◌}
-use Rattle.std.specs.Prelude.{IsTrue, Option}
+use Rattle.std.proofs.Common.{◌≡◌, ℕ, ◌+◌, ◌<◌, List, [], ◌∷◌, ◌++◌, length, reverse, inl, inr, refl, ap, arith, ◌∙◌}
 use Rattle.std.proofs.lemmas.List.{map-append, length-map, reverse-append}
-use Rattle.ic_path.specs.Orders.{IsIn, here, there}
+use Rattle.ic_path.specs.Orders.{here, there}
 use Rattle.ic_path.proofs.Picks.{pick_before, in-cons_cases}
 use Rattle.ic_shown.proofs.Elements.{in-append_cases, in_behind}
-use Rattle.ic_theory.specs.Starts.{Start, IsProper}
+use Rattle.ic_theory.specs.Starts.{Start}
 use Rattle.ic_theory.specs.Letters as theory
-use Rattle.ic_trace.specs.declared.cursor.Cursor.{Cursor}
 use Rattle.ic_trace.specs.declared.known.Known.{Known}
 use Rattle.ic_trace.specs.declared.moving.Move.{Move}
 use Rattle.ic_trace.specs.declared.moving.Move.TheVariants.{Swap, Cancel}
 use Rattle.ic_trace.specs.declared.reading.Step.{Step}
 use Rattle.ic_trace.specs.declared.reading.Step.TheVariants.{Fire, Undo}
-use Rattle.ic_trace.specs.Cursors.{HasTwo, Does, list_in}
 use Rattle.ic_trace.specs.Known.{event_at, AreKnown}
 use Rattle.ic_trace.specs.Moves.{Makes}
 use Rattle.ic_trace.specs.Readings.{number_of, letter_in, letters_in, AreInside, AreInverse}

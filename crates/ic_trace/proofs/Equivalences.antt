@@ -1,5 +1,5 @@
 -- Equivalence by names is equivalence.
-use Rattle.std.proofs.Common.{◌≡◌, List, [], ◌∷◌, map, refl, sym, subst, ◌∙◌}
+use Rattle.std.proofs.Common.{◌≡◌, List, [], ◌∷◌, map, refl, sym, ◌∙◌}
 use Rattle.ic_name.specs.Events.{Event}
 use Rattle.ic_path.specs.Orders.{Alike}
 use Rattle.ic_theory.specs.Starts.{Start, IsProper}
@@ -8,11 +8,10 @@ use Rattle.ic_theory.proofs.Kept.{one_standing}
 use Rattle.ic_theory.proofs.Normal.{consistent}
 use Rattle.ic_trace.specs.declared.lists.Letter.{Letter}
 use Rattle.ic_trace.specs.declared.moving.Move.{Move}
-use Rattle.ic_trace.specs.declared.moving.Move.TheVariants.{Swap, Cancel}
 use Rattle.ic_trace.specs.Letters.{named, Leaves}
 use Rattle.ic_trace.specs.Moves.{Makes, swaps, fire_undo, undo_fire, MakeInTurn, ends, goes_on, Lead, AreEquivalent, same, forth, back}
 use Rattle.ic_trace.proofs.LegalMoves.{move_legal, unnumbered, turns_equivalent}
-use Rattle.ic_trace.proofs.OneList.{one_legal, one_left}
+use Rattle.ic_trace.proofs.OneList.{one_legal}
 
 module _ (s : Start) where
   -- the first move of a single one

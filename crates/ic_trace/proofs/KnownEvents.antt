@@ -1,5 +1,5 @@
 -- Events that are sound together, by number.
-use Rattle.std.proofs.Common.{◌≡◌, ℕ, suc, zero, ◌+◌, ◌<◌, ◌≤◌, ◌⊎◌, Bool, true, List, [], ◌∷◌, ◌++◌, inl, inr, length, map, get_or, refl, sym, ap, arith, subst, ◌∙◌, Option, Some, None}
+use Rattle.std.proofs.Common.{◌≡◌, ℕ, suc, zero, ◌<◌, ◌≤◌, ◌⊎◌, true, List, [], ◌∷◌, inl, inr, length, get_or, refl, sym, ap, arith, ◌∙◌, Some, None}
 use Rattle.std.specs.Prelude.{eqb}
 use Rattle.std.proofs.lemmas.Bool.{eq-eqb}
 use Rattle.ic_name.specs.Names.{Name}
@@ -7,10 +7,10 @@ use Rattle.ic_name.specs.Same.{same_name}
 use Rattle.ic_name.proofs.SameFacts.{same_name_self}
 use Rattle.ic_name.specs.declared.kinds.Kind.{Kind}
 use Rattle.ic_name.specs.Events.{Event}
-use Rattle.ic_path.specs.Orders.{Pick, here, there, IsIn, Alike, more}
-use Rattle.ic_path.proofs.Alikes.{picked_alike, alike_then, alike_back, alike_more}
+use Rattle.ic_path.specs.Orders.{Pick, IsIn}
+use Rattle.ic_path.proofs.Alikes.{picked_alike, alike_then, alike_back}
 use Rattle.ic_set.proofs.InPlace.{in_at}
-use Rattle.ic_shown.proofs.Elements.{map_cases, in-map}
+use Rattle.ic_shown.proofs.Elements.{map_cases}
 use Rattle.ic_theory.specs.Starts.{Start, IsProper}
 use Rattle.ic_theory.specs.Active.{IsActive}
 use Rattle.ic_theory.specs.Future.{Includes}
@@ -23,8 +23,8 @@ use Rattle.ic_theory.proofs.NameKinds.{some_among}
 use Rattle.ic_theory.proofs.Normal.{active-alike}
 use Rattle.ic_theory.proofs.Ranks.{consumed-alike, first_or_in, sound_order}
 use Rattle.ic_trace.specs.declared.known.Known.{Known}
-use Rattle.ic_trace.specs.Known.{events_in, event_at, rank_at, IsNumberOf}
-use Rattle.ic_trace.proofs.ByNumber.{event_in, length-events, entry_number}
+use Rattle.ic_trace.specs.Known.{events_in, event_at, IsNumberOf}
+use Rattle.ic_trace.proofs.ByNumber.{length-events, entry_number}
 
 -- each event has a number
 pub event_number : {e : Event} (ks : List Known) → IsIn e (events_in ks) → (i : ℕ) × (i < length ks) × (event_at ks i ≡ e)

@@ -1,24 +1,24 @@
 -- A firing of a new event makes one more known.
-use Rattle.std.proofs.Common.{◌≡◌, ◌≢◌, ◌↔◌, ℕ, zero, suc, ◌+◌, ◌<◌, ◌≤◌, ◌⊎◌, List, [], ◌∷◌, ◌++◌, inl, inr, length, map, get_or, refl, sym, ap, arith, subst, ◌∙◌, None}
+use Rattle.std.proofs.Common.{◌≡◌, ◌↔◌, ℕ, zero, suc, ◌+◌, ◌<◌, ◌⊎◌, List, [], ◌∷◌, ◌++◌, inl, inr, length, map, refl, sym, ap, arith, subst, ◌∙◌, None}
 use Rattle.std.proofs.lemmas.List.{length_push}
 use Rattle.ic_name.specs.Events.{Event, Pair, pair}
-use Rattle.ic_path.specs.Orders.{Pick, here, there, IsIn, Alike, more}
+use Rattle.ic_path.specs.Orders.{here, IsIn, more}
 use Rattle.ic_path.specs.Rings.{HasEachOnce}
-use Rattle.ic_path.proofs.Alikes.{alike_then, alike_back, alike-in, append-alike-comm}
+use Rattle.ic_path.proofs.Alikes.{alike_then, alike_back, append-alike-comm}
 use Rattle.ic_path.proofs.Picks.{in_first, in_more, in-cons_cases, none_in}
 use Rattle.ic_shown.proofs.Elements.{map_cases, in-map, in-append_cases, in_behind}
 use Rattle.ic_set.proofs.KeptRanks.{part_ranks, in_whole}
 use Rattle.ic_theory.specs.Starts.{Start, IsProper}
 use Rattle.ic_theory.specs.Active.{IsActive}
 use Rattle.ic_theory.specs.Causes.{IsCause, IsRank}
-use Rattle.ic_theory.specs.Firings.{IsFired, fired}
+use Rattle.ic_theory.specs.Firings.{fired}
 use Rattle.ic_theory.specs.Future.{Includes}
 use Rattle.ic_theory.specs.Sound.{IsSound}
 use Rattle.ic_theory.proofs.Normal.{active-alike}
 use Rattle.ic_theory.proofs.Ranks.{sound_order, sound-alike, cause_in, rank_one}
 use Rattle.ic_trace.specs.declared.known.Known.{Known}
 use Rattle.ic_trace.specs.Known.{events_in, event_at, rank_at, IsNumberOf, AreNumbersOf, IsRankAbove, IsKnown, AreKnown}
-use Rattle.ic_trace.proofs.ByNumber.{events-append, event_at-append, event_in, entry_number}
+use Rattle.ic_trace.proofs.ByNumber.{events-append, event_at-append, event_in}
 use Rattle.ic_trace.proofs.KnownEvents.{led_once, lead_numbered}
 use Rattle.ic_trace.proofs.SameCauses.{same_cause}
 use Rattle.ic_trace.proofs.Swapped.{fired_is_sound}

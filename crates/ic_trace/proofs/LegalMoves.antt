@@ -1,5 +1,5 @@
 -- Lawful moves lead from legal lists to legal lists.
-use Rattle.std.proofs.Common.{◌≡◌, ℕ, List, [], ◌∷◌, ◌++◌, length, refl}
+use Rattle.std.proofs.Common.{List, ◌∷◌, ◌++◌}
 use Rattle.ic_name.specs.Events.{Event}
 use Rattle.ic_path.specs.Orders.{Alike, here}
 use Rattle.ic_path.proofs.Alikes.{alike_rest, picked_alike}

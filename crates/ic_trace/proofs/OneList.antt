@@ -1,13 +1,13 @@
 -- A legal list by names is that of one list of events.
 use Rattle.std.proofs.Common.{◌≡◌, List, [], ◌∷◌, map, inl, refl, ap}
-use Rattle.ic_name.specs.Events.{Event, Pair, pair}
+use Rattle.ic_name.specs.Events.{Event, pair}
 use Rattle.ic_path.specs.Orders.{Alike, here}
 use Rattle.ic_theory.specs.Starts.{Start, IsProper}
 use Rattle.ic_theory.specs.Firings.{IsFired, nothing, fired}
-use Rattle.ic_theory.specs.Letters.{Letter, Fire, Undo, Runs, stops, fires, undoes, IsLegal, same}
+use Rattle.ic_theory.specs.Letters.{Letter, Fire, Undo, Runs, fires, undoes, IsLegal, same}
 use Rattle.ic_theory.proofs.Future.{one_partner}
 use Rattle.ic_theory.proofs.Kept.{one_standing}
-use Rattle.ic_trace.specs.Letters.{named, Leaves}
+use Rattle.ic_trace.specs.Letters.{named}
 use Rattle.ic_trace.proofs.LastFired.{fired_rest}
 
 module _ (s : Start) (ok : IsProper s) where

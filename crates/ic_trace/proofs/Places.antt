@@ -1,5 +1,5 @@
 -- Where a move is made, and that it is determined.
-use Rattle.std.proofs.Common.{◌≡◌, ℕ, zero, suc, ◌+◌, ◌<◌, ◌⊎◌, List, [], ◌∷◌, ◌++◌, inl, inr, length, refl, sym, ap, arith, subst, ◌∙◌, length-append}
+use Rattle.std.proofs.Common.{◌≡◌, ℕ, ◌+◌, ◌<◌, ◌⊎◌, List, [], ◌∷◌, ◌++◌, inl, inr, length, refl, sym, ap, arith, subst, ◌∙◌, length-append}
 use Rattle.ic_theory.specs.Starts.{Start}
 use Rattle.ic_theory.specs.Letters.{Letter, Fire, Undo, event_of, AreConcurrent}
 use Rattle.ic_trace.specs.declared.moving.Move.{Move}

@@ -1,5 +1,5 @@
 -- Firings as they are read.
-use Rattle.std.proofs.Common.{◌≡◌, ℕ, ◌<◌, ◌⊎◌, List, [], ◌∷◌, ◌++◌, inl, inr, length, map, refl, sym, ap, arith, subst, ◌∙◌, append-nil, Some, None, true}
+use Rattle.std.proofs.Common.{◌≡◌, ℕ, List, [], ◌∷◌, ◌++◌, inl, inr, length, sym, ap, arith, subst, ◌∙◌, append-nil, Some, None}
 use Rattle.std.proofs.lemmas.List.{length_push}
 use Rattle.ic_name.specs.Events.{Event, Pair, pair}
 use Rattle.ic_path.specs.Orders.{here, IsIn, Alike, more}
@@ -20,12 +20,10 @@ use Rattle.ic_theory.proofs.Normal.{active-alike}
 use Rattle.ic_theory.proofs.Ranks.{sound_order, sound-alike}
 use Rattle.ic_trace.specs.declared.known.Known.{Known}
 use Rattle.ic_trace.specs.declared.known.EventTable.{EventTable}
-use Rattle.ic_trace.specs.declared.lists.Letter.{Letter}
-use Rattle.ic_trace.specs.declared.lists.Letter.TheVariants.{Fire, Undo}
+use Rattle.ic_trace.specs.declared.lists.Letter.TheVariants.{Fire}
 use Rattle.ic_trace.specs.declared.reading.Step.TheVariants as step
 use Rattle.ic_trace.specs.Known.{events_in, event_at, AreNumbered, IsNumberOf, AreNumbersOf, IsRankAbove, AreKnown}
-use Rattle.ic_trace.specs.Letters.{named}
-use Rattle.ic_trace.specs.Readings.{letter_in, IsFollowed, IsAccepted, IsRefused}
+use Rattle.ic_trace.specs.Readings.{IsFollowed, IsAccepted, IsRefused}
 use Rattle.ic_trace.proofs.ByNumber.{event_in, event_at-last, events-append}
 use Rattle.ic_trace.proofs.KnownEvents.{led_once, lead_numbered, stands_or_active}
 use Rattle.ic_trace.proofs.KnownMore.{known_more, names_known}

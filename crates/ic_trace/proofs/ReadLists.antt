@@ -1,9 +1,9 @@
 -- Lists as they are read letter by letter.
 use Rattle.std.proofs.Common.{◌≡◌, ℕ, ◌+◌, ◌<◌, ◌≤◌, List, [], ◌∷◌, ◌++◌, inl, inr, length, map, take, refl, sym, ap, arith, subst, ◌∙◌, length-append}
-use Rattle.std.proofs.lemmas.List.{map-append, length-map, length-take-le}
-use Rattle.ic_name.specs.Events.{Event, Pair, pair}
+use Rattle.std.proofs.lemmas.List.{map-append, length-map}
+use Rattle.ic_name.specs.Events.{Event}
 use Rattle.ic_name.specs.declared.limits.TheConstants.{MAX_LINES}
-use Rattle.ic_path.specs.Orders.{IsIn, Alike, none}
+use Rattle.ic_path.specs.Orders.{none}
 use Rattle.ic_path.proofs.Alikes.{alike_then, alike_back, alike_more, alike-length}
 use Rattle.ic_path.proofs.Picks.{in_first, in_more, in-cons_cases, none_in, length-pick}
 use Rattle.ic_past.specs.Pasts.{PastView}
@@ -17,7 +17,7 @@ use Rattle.ic_trace.specs.declared.lists.Letter.{Letter}
 use Rattle.ic_trace.specs.declared.reading.Step.{Step}
 use Rattle.ic_trace.specs.declared.reading.Step.TheVariants as step
 use Rattle.ic_trace.specs.declared.reading.Trace.{Trace}
-use Rattle.ic_trace.specs.Known.{event_at, AreKnown, AreNumbered}
+use Rattle.ic_trace.specs.Known.{AreKnown, AreNumbered}
 use Rattle.ic_trace.specs.Letters.{named, IsLegal, IsFirstRefused}
 use Rattle.ic_trace.specs.Readings.{IsFollowed, number_of, letter_in, letters_in, AreInside, IsAccepted, IsRefused, IsReadUpTo, IsTraceOf}
 use Rattle.ic_trace.proofs.ByNumber.{event_at-append}

@@ -1,20 +1,15 @@
 -- Undos as they are read.
-use Rattle.std.proofs.Common.{◌≡◌, ℕ, ◌<◌, List, [], ◌∷◌, ◌++◌, length, map, refl, sym, ap, subst, ◌∙◌, append-nil, append_assoc, Some, None, true, false}
-use Rattle.ic_name.specs.Events.{Event, Pair, pair}
-use Rattle.ic_path.specs.Orders.{Pick, here, IsIn, Alike, more}
+use Rattle.std.proofs.Common.{◌≡◌, ℕ, [], ◌∷◌, ◌++◌, sym, ap, subst, ◌∙◌, append-nil, append_assoc, Some, None, true, false}
+use Rattle.ic_name.specs.Events.{Pair, pair}
+use Rattle.ic_path.specs.Orders.{here, IsIn}
 use Rattle.ic_path.proofs.Alikes.{alike_then, alike_back, alike_more, alike-in, alike_pick}
-use Rattle.ic_past.specs.Pasts.{PastView, IsWith, Undoes}
+use Rattle.ic_past.specs.Pasts.{PastView, Undoes}
 use Rattle.ic_set.proofs.KeptRanks.{in_whole}
-use Rattle.ic_theory.specs.Causes.{IsCause, IsDependent}
-use Rattle.ic_theory.specs.Future.{Includes}
 use Rattle.ic_theory.specs.Letters as theory
-use Rattle.ic_trace.specs.declared.known.Known.{Known}
 use Rattle.ic_trace.specs.declared.known.EventTable.{EventTable}
-use Rattle.ic_trace.specs.declared.lists.Letter.{Letter}
-use Rattle.ic_trace.specs.declared.lists.Letter.TheVariants.{Fire, Undo}
+use Rattle.ic_trace.specs.declared.lists.Letter.TheVariants.{Undo}
 use Rattle.ic_trace.specs.declared.reading.Step.TheVariants as step
-use Rattle.ic_trace.specs.Known.{events_in, event_at, IsNumberOf, AreKnown}
-use Rattle.ic_trace.specs.Letters.{named}
+use Rattle.ic_trace.specs.Known.{event_at, IsNumberOf, AreKnown}
 use Rattle.ic_trace.specs.Readings.{IsFollowed, IsAccepted, IsRefused}
 use Rattle.ic_trace.proofs.ByNumber.{event_in}
 use Rattle.ic_trace.proofs.KnownEvents.{led_once, lead_numbered}

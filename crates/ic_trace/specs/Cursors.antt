@@ -1,5 +1,5 @@
 -- A list of letters with a place in it, and what a move makes of it.
-use Rattle.std.specs.Prelude.{◌≡◌, ℕ, ◌+◌, ◌<◌, Bool, true, false, List, [], ◌∷◌, ◌++◌, length, reverse, Option, Some, None}
+use Rattle.std.specs.Prelude.{◌≡◌, ℕ, ◌+◌, ◌<◌, Bool, true, false, List, ◌∷◌, ◌++◌, length, reverse, Option, Some, None}
 use Rattle.ic_theory.specs.Starts.{Start}
 use Rattle.ic_theory.specs.Letters as theory
 use Rattle.ic_trace.specs.declared.cursor.Cursor.{Cursor}

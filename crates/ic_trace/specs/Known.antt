@@ -1,5 +1,5 @@
 -- The events of a list of letters by number.
-use Rattle.std.specs.Prelude.{◌≡◌, ◌≢◌, ℕ, ◌+◌, ◌<◌, ◌⊎◌, ◌↔◌, List, [], length, map, slice_index_or, Option, Some, None}
+use Rattle.std.specs.Prelude.{◌≡◌, ◌≢◌, ℕ, ◌+◌, ◌<◌, ◌⊎◌, ◌↔◌, List, length, map, slice_index_or, Option, Some, None}
 use Rattle.std.specs.BTreeMap.{get}
 use Rattle.ic_name.specs.Names.{Name, name_cmp, start_name}
 use Rattle.ic_name.specs.Events.{Event, Pair}

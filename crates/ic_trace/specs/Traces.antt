@@ -1,5 +1,5 @@
 -- What the calls on lists of letters answer.
-use Rattle.std.specs.Prelude.{◌≡◌, ℕ, ◌≤◌, ◌<◌, List, length, map, Result, Ok, Err}
+use Rattle.std.specs.Prelude.{◌≡◌, ◌≤◌, ◌<◌, List, length, map, Result, Ok, Err}
 use Rattle.ic_name.specs.Events.{Event, pair}
 use Rattle.ic_path.specs.Orders.{Alike}
 use Rattle.ic_theory.specs.Starts.{Start}

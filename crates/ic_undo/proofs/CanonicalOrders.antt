@@ -24,7 +24,7 @@ use Rattle.ic_set.specs.Orders.{AreInOrder, IsAny}
 use Rattle.ic_set.specs.Sets.{IsStandingSet}
 use Rattle.ic_set.specs.Views.{SetView, standing, events_of}
 use Rattle.ic_set.proofs.Namings.{same_lead}
-use Rattle.ic_undo.proofs.Backs.{in-map}
+use Rattle.ic_shown.proofs.Elements.{in-map}
 
 -- what passes the test is less
 is_less : (o : Ordering) → is_lt o ≡ true → o ≡ Less

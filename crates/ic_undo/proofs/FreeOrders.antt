@@ -19,7 +19,7 @@ use Rattle.ic_journal.specs.Views.{BenchView, set_of}
 use Rattle.ic_journal.specs.Benches.{IsBench}
 use Rattle.ic_undo.specs.Undone.{RestsOn, through}
 use Rattle.ic_undo.specs.Backwards.{AreFree}
-use Rattle.ic_undo.proofs.Backs.{in_behind, in-append_cases, in-map}
+use Rattle.ic_shown.proofs.Elements.{in_behind, in-append_cases, in-map}
 
 -- an event that comes first has no greater rank
 not_above : (rank : Event → ℕ) (x y : Event) → canonical_cmp rank x y ≡ Less → rank x ≤ rank y

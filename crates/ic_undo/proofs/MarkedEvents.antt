@@ -24,7 +24,8 @@ use Rattle.ic_journal.specs.Views.{BenchView, set_of}
 use Rattle.ic_undo.specs.Undone.{AreUndone}
 use Rattle.ic_undo.specs.Marks.{MarkView, IsMark}
 use Rattle.ic_undo.specs.GoingBack.{IsOutside, AreOutside, AreMissing, AreFired}
-use Rattle.ic_undo.proofs.Backs.{in-append_cases, in_behind, in-map, map_cases, apart}
+use Rattle.ic_shown.proofs.Elements.{in-append_cases, in_behind, in-map, map_cases}
+use Rattle.ic_undo.proofs.Backs.{apart}
 use Rattle.ic_undo.proofs.ChosenLists.{Chosen, chosen_from, chosen_in, chosen_once, chosen_sorted}
 use Rattle.ic_undo.proofs.FirableEvents.{HaveCausesBefore}
 use Rattle.ic_undo.proofs.FreeOrders.{AreWithDependents}

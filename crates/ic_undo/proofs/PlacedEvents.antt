@@ -6,7 +6,8 @@ use Rattle.ic_name.specs.declared.ids.EventId.{EventId}
 use Rattle.ic_path.specs.Orders.{IsIn}
 use Rattle.ic_path.proofs.Picks.{in_first}
 use Rattle.ic_roster.specs.Rosters.{Stander}
-use Rattle.ic_undo.proofs.Backs.{reverse_more, in_behind}
+use Rattle.ic_shown.proofs.Elements.{in_behind}
+use Rattle.ic_undo.proofs.Backs.{reverse_more}
 
 -- an order is as long as its ids
 pub order_length : (order : List Stander) (ids : List EventId) → map (λ x. x.id) order ≡ ids → length order ≡ length ids

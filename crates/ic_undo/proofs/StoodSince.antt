@@ -19,7 +19,7 @@ use Rattle.ic_journal.proofs.MachineSteps.{events_at}
 use Rattle.ic_undo.specs.GoingBack.{IsOutside, IsMissing}
 use Rattle.ic_undo.specs.Marks.{MarkView}
 use Rattle.ic_undo.specs.Stood.{StoodAt}
-use Rattle.ic_undo.proofs.Backs.{in-map}
+use Rattle.ic_shown.proofs.Elements.{in-map}
 use Rattle.ic_undo.proofs.SameHistories.{same_history}
 
 -- the line behind others

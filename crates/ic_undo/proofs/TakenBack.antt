@@ -22,7 +22,8 @@ use Rattle.ic_undo.specs.Absorbing.{Fits, TakesBack}
 use Rattle.ic_undo.specs.Coming.{Comes}
 use Rattle.ic_undo.specs.GoingBack.{firing}
 use Rattle.ic_undo.specs.Undone.{AreUndone, undoing}
-use Rattle.ic_undo.proofs.Backs.{alike_reverse, in-map}
+use Rattle.ic_shown.proofs.Elements.{in-map}
+use Rattle.ic_undo.proofs.Backs.{alike_reverse}
 
 -- what stands in front of both can go
 cancel_front : {X : Type 0} (zs : List X) {xs ys : List X} → Alike (zs ++ xs) (zs ++ ys) → Alike xs ys

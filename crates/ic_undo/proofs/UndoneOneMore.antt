@@ -25,7 +25,8 @@ use Rattle.ic_journal.specs.declared.faults.UndoFault.TheVariants as undo
 use Rattle.ic_journal.proofs.MachineSteps.{events_at}
 use Rattle.ic_undo.specs.Undone.{AreUndone, undoing}
 use Rattle.ic_undo.specs.Backwards.{AreFree}
-use Rattle.ic_undo.proofs.Backs.{alike_reverse, in_behind, in-append_cases, one_in_line, apart, reverse_more, in-map, map_cases}
+use Rattle.ic_shown.proofs.Elements.{in_behind, in-append_cases, in-map, map_cases}
+use Rattle.ic_undo.proofs.Backs.{alike_reverse, one_in_line, apart, reverse_more}
 
 -- an event is the next one: those behind it in the order are undone, and nothing else
 pub record IsNext (old mid : BenchView) (front rest : List Stander) (x : Stander) : Type 0 where

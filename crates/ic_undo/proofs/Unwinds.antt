@@ -19,7 +19,8 @@ use Rattle.ic_journal.specs.Reads.{NoneStands, IsRankOf}
 use Rattle.ic_undo.specs.Undone.{AreLastFirst, AreUndone, IsCleared, IsUnwound}
 use Rattle.ic_undo.specs.Backwards.{AreIdsOfFree, AreUndoneBack, AreUndoneFrom}
 use Rattle.ic_undo.specs.Unwinding.{DontFit}
-use Rattle.ic_undo.proofs.Backs.{alike_reverse, map-reverse, in_behind, apart}
+use Rattle.ic_shown.proofs.Elements.{in_behind}
+use Rattle.ic_undo.proofs.Backs.{alike_reverse, map-reverse, apart}
 use Rattle.ic_undo.proofs.PlacedEvents.{order_length}
 use Rattle.ic_undo.proofs.FreeOrders.{AreWithDependents, in_free_order}
 

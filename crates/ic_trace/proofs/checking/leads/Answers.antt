@@ -1,15 +1,13 @@
-use Rattle.std.proofs.Common.{◌≡◌, ℕ, ◌+◌, ◌↔◌, List, [], ◌∷◌, ◌++◌, Bool, true, false, take, drop, get_or, map, refl, sym, ap, subst, ◌∙◌}
+use Rattle.std.proofs.Common.{◌≡◌, ◌+◌, ◌↔◌, List, [], ◌∷◌, ◌++◌, Bool, take, drop, get_or, map, sym, ap, subst, ◌∙◌}
 use Rattle.std.specs.Prelude.{IsTrue}
 use Rattle.std.proofs.lemmas.List.{drop_more, take_more, take_all, drop_all, take-append-drop}
-use Rattle.ic_theory.specs.Letters as theory
 use Rattle.ic_trace.specs.declared.moving.Move.{Move}
 use Rattle.ic_trace.specs.declared.moving.Move.TheVariants.{Swap}
 use Rattle.ic_trace.specs.declared.reading.Reading.{Reading}
-use Rattle.ic_trace.specs.declared.reading.Step.{Step}
 use Rattle.ic_trace.specs.Cursors.{Does, list_in}
 use Rattle.ic_trace.specs.Letters.{named}
 use Rattle.ic_trace.specs.Moves.{Lead}
-use Rattle.ic_trace.specs.Readings.{IsReadingOf, AreInside, letters_in}
+use Rattle.ic_trace.specs.Readings.{IsReadingOf, letters_in}
 use Rattle.ic_trace.proofs.CheckedMoves.{AreMade, none_lead, made_none, made_more, refused_lead, all_lead}
 use Rattle.ic_trace.proofs.checking.leads.Goals as goal
 

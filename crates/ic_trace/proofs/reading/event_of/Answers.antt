@@ -1,4 +1,4 @@
-use Rattle.std.proofs.Common.{◌≡◌, Some, None, sym, ap, ◌∙◌}
+use Rattle.std.proofs.Common.{sym, ap, ◌∙◌}
 use Rattle.ic_name.specs.Names.{Name}
 use Rattle.ic_theory.specs.Nets.{kind_of}
 use Rattle.ic_trace.proofs.OnlyActive.{no_lead, no_other, only_active}

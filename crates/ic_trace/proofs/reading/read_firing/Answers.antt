@@ -1,12 +1,11 @@
-use Rattle.std.proofs.Common.{◌≡◌, ℕ, List, [], ◌∷◌, Bool, Option, Some, None, true, false, option_map, refl, sym, ap, subst, ◌∙◌, length, Vec, Global}
+use Rattle.std.proofs.Common.{◌≡◌, ℕ, List, Bool, Option, Some, None, true, option_map, refl, subst, Vec, Global}
 use Rattle.ic_name.specs.Names.{Name}
-use Rattle.ic_name.specs.Events.{Event, Pair, pair}
-use Rattle.ic_path.specs.Orders.{IsIn}
+use Rattle.ic_name.specs.Events.{Event, Pair}
 use Rattle.ic_past.specs.Pasts.{PastView, Fires, AreCausesNamed, IsWith}
 use Rattle.ic_theory.specs.Active.{IsActive}
 use Rattle.ic_trace.specs.declared.known.Known.{Known}
 use Rattle.ic_trace.specs.Readings.{IsOnlyActive}
-use Rattle.ic_trace.specs.Known.{IsNumberOf, AreNumbersOf, IsRankAbove}
+use Rattle.ic_trace.specs.Known.{IsNumberOf}
 use Rattle.ic_trace.proofs.ReadFirings.{firing_refused, accepted_again, accepted_new, causes_known, there}
 use Rattle.ic_trace.proofs.reading.read_firing.Goals as goal
 

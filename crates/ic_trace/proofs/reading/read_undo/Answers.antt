@@ -1,4 +1,4 @@
-use Rattle.std.proofs.Common.{◌≡◌, ℕ, Bool, Some, None, true, false, ap, subst, ◌∙◌}
+use Rattle.std.proofs.Common.{Bool, Some, None, subst}
 use Rattle.ic_name.specs.Names.{Name}
 use Rattle.ic_past.specs.Pasts.{Undoes}
 use Rattle.ic_trace.specs.Known.{IsNumberOf}

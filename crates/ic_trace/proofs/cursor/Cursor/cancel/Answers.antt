@@ -1,4 +1,4 @@
-use Rattle.std.proofs.Common.{◌≡◌, ℕ, ◌↔◌, List, [], ◌∷◌, ◌++◌, Bool, true, false, Option, Some, reverse, length, refl, sym, ap, subst, ◌∙◌}
+use Rattle.std.proofs.Common.{◌≡◌, ℕ, ◌↔◌, List, ◌∷◌, ◌++◌, Bool, true, false, Option, Some, reverse, length, refl, subst}
 use Rattle.std.specs.Prelude.{IsTrue}
 use Rattle.ic_theory.specs.Starts.{Start}
 use Rattle.ic_trace.specs.Cursors.{HasTwo, Does, list_in}

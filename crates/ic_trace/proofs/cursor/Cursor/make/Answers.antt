@@ -1,4 +1,3 @@
-use Rattle.std.proofs.Common.{Bool}
 use Rattle.std.proofs.lemmas.Result.{IfOk-weaker}
 use Rattle.ic_trace.proofs.cursor.Cursor.make.Goals as goal
 

@@ -1,10 +1,10 @@
-use Rattle.std.proofs.Common.{◌≡◌, ◌<◌, ℕ, List, [], ◌∷◌, ◌++◌, Bool, true, false, Option, Some, reverse, length, refl, sym, ap, subst, ◌∙◌}
+use Rattle.std.proofs.Common.{◌≡◌, ℕ, List, ◌∷◌, ◌++◌, Option, Some, reverse, length, subst}
 use Rattle.ic_theory.specs.Letters.{AreConcurrent}
 use Rattle.ic_trace.specs.Cursors.{HasTwo, list_in}
 use Rattle.ic_trace.specs.Known.{event_at}
 use Rattle.ic_trace.specs.declared.reading.Step.{Step}
 use Rattle.ic_trace.specs.declared.cursor.Cursor.{Cursor}
-use Rattle.ic_trace.proofs.CursorMoves.{no_two, swap_made, swap_refused, first_inside, second_inside, swapped_inside, put_back}
+use Rattle.ic_trace.proofs.CursorMoves.{swap_made, swap_refused, first_inside, second_inside, swapped_inside, put_back}
 use Rattle.ic_trace.proofs.cursor.Cursor.swap.Goals as goal
 
 -- the letters that were taken out

@@ -1,4 +1,4 @@
-use Rattle.std.proofs.Common.{rules, ◌≡◌, ℕ, Some, ap, subst, ◌∙◌}
+use Rattle.std.proofs.Common.{rules, ◌≡◌, ℕ, Some, subst, ◌∙◌}
 use Rattle.std.specs.BTreeMap.{Updates}
 use Rattle.ic_name.specs.Names.{Name, name_cmp}
 use Rattle.ic_trace.proofs.Renumbered.{renumbered}

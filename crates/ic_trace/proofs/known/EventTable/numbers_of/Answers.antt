@@ -1,8 +1,6 @@
-use Rattle.std.proofs.Common.{◌≡◌, ℕ, ◌<◌, List, [], ◌∷◌, ◌++◌, inl, inr, length, map, take, sym, ap, subst, ◌∙◌}
+use Rattle.std.proofs.Common.{◌≡◌, ℕ, ◌<◌, List, [], ◌∷◌, ◌++◌, inl, inr, length, map, sym, ap, ◌∙◌}
 use Rattle.std.proofs.lemmas.List.{map_push}
 use Rattle.ic_name.specs.Events.{Pair}
-use Rattle.ic_name.specs.Names.{Name}
-use Rattle.ic_path.specs.Orders.{IsIn}
 use Rattle.ic_path.proofs.Picks.{in-cons_cases, none_in}
 use Rattle.ic_past.proofs.SeenSoFar.{item_in, seen_more}
 use Rattle.ic_shown.proofs.Elements.{in-append_cases}
