@@ -18,8 +18,7 @@ use Rattle.ic_set.specs.Views.{standing, events_of}
 use Rattle.ic_journal.specs.Views.{BenchView, set_of}
 use Rattle.ic_journal.specs.Benches.{fired_in}
 use Rattle.ic_journal.proofs.MachineSteps.{fired_events}
-use Rattle.ic_undo.specs.Undone.{undoing}
-use Rattle.ic_undo.specs.Backwards.{AreFree}
+use Rattle.ic_journal.specs.Undone.{undoing, AreFree}
 use Rattle.ic_undo.proofs.Backs.{reverse_more, apart}
 use Rattle.ic_answer.specs.Unwinding.{AreUndoneInTurn, none, more}
 use Rattle.std.proofs.lemmas.List.{map-append}

@@ -23,7 +23,7 @@ use Rattle.ic_undo.specs.Undone as bench
 use Rattle.ic_undo.specs.Unwinding as bench_faults
 use Rattle.ic_undo.specs.declared.faults.UnwindFault.{UnwindFault}
 use Rattle.ic_undo.specs.declared.faults.UndoAllFault.{UndoAllFault}
-use Rattle.ic_undo.specs.Backwards.{AreFree}
+use Rattle.ic_journal.specs.Undone.{AreFree, AreUndone, undoing}
 use Rattle.ic_undo.proofs.Backs.{map-reverse}
 use Rattle.ic_undo.proofs.FreeOrders.{AreWithDependents, in_free_order, resting_with_dependents, all_with_dependents}
 use Rattle.ic_undo.proofs.Unwinds.{each_once_back}
@@ -74,8 +74,8 @@ undone_so old new P names ok lawful closed u st at = record {
     few =
         let short = lawful.running.short in
         let count = history_length at.history in
-        let whole = ap length u.did.lines ∙ length-append old.lines (map bench.undoing u.undone) in
-        let undone = length-map u.undone bench.undoing in
+        let whole = ap length u.did.lines ∙ length-append old.lines (map undoing u.undone) in
+        let undone = length-map u.undone undoing in
         omega (arith, short, count, whole, undone)
 
     ends : EndsSo old ok.set.own_lines (reverse u.undone) (free_back old P u.undone ok closed u.which) old.lines u.undone new.events st
@@ -187,10 +187,10 @@ lines_more head text next names i none name few before is more =
 
 -- what is told of undoing, or a refusal where no line was added
 pub undoes_or_refused : (old new : BenchView) (c : Command) (undone : List Stander) (known : List ℕ) (text : Result (Vec ℕ Global) AllocError) (result : Result Answer AllocError)
-    → IsBench new → MayWant c → bench.AreUndone old undone new → TurnsByCommand old c known new → IfOk text (λ t. t.items ≡ known)
+    → IsBench new → MayWant c → AreUndone old undone new → TurnsByCommand old c known new → IfOk text (λ t. t.items ≡ known)
     → IfOk text (λ t. IfOk result (λ a. answer_text a ≡ t.items))
     → OnErr text (IfOk result (λ a. (answer_text a ≡ refusal_text refused.Memory) × (length new.lines ≤ length old.lines)))
     → MatchResult result (λ a. TurnsByCommand old c (answer_text a) new) (λ _. new.start ≡ old.start)
 undoes_or_refused old new c undone known text result lawful want did turns is told instead =
     told_or_refused (λ t. TurnsByCommand old c t new) (new.start ≡ old.start) (length new.lines ≤ length old.lines) known text result refused.Memory turns
-    (untold old new c (refusal_text refused.Memory) lawful did.start (record { more = map bench.undoing undone; lines = did.lines }) (tells_memory old c want)) did.start is told instead
+    (untold old new c (refusal_text refused.Memory) lawful did.start (record { more = map undoing undone; lines = did.lines }) (tells_memory old c want)) did.start is told instead

@@ -21,7 +21,7 @@ use Rattle.ic_journal.proofs.MachineSteps.{events_at, fired_events}
 use Rattle.ic_undo.specs.Absorbing as bench
 use Rattle.ic_undo.specs.Absorbing.{IsWithin, IsLeastNever, IsNextListed, NoneIsNext, refusing}
 use Rattle.ic_undo.specs.GoingBack.{firing}
-use Rattle.ic_undo.specs.Undone.{undoing}
+use Rattle.ic_journal.specs.Undone.{undoing}
 use Rattle.ic_shown.proofs.Elements.{in-map}
 use Rattle.ic_undo.proofs.Backs.{alike_reverse, map-reverse}
 use Rattle.ic_answer.specs.Unwinding.{events_of}

@@ -18,7 +18,7 @@ use Rattle.ic_journal.specs.Views.{BenchView}
 use Rattle.ic_journal.specs.Benches.{IsAt, IsBench, fired_in}
 use Rattle.ic_undo.specs.Absorbing.{IsLeastListed, AreLeastInTurn}
 use Rattle.ic_undo.specs.GoingBack.{firing}
-use Rattle.ic_undo.specs.Undone.{undoing}
+use Rattle.ic_journal.specs.Undone.{undoing}
 use Rattle.ic_undo.proofs.Backs.{reverse_more}
 use Rattle.ic_answer.specs.Unwinding.{AreUndoneInTurn}
 use Rattle.ic_answer.specs.Unwinding as undo

@@ -13,8 +13,7 @@ use Rattle.ic_journal.specs.Views.{BenchView, set_of}
 use Rattle.ic_journal.specs.Benches.{IsAt, IsBench, fired_in}
 use Rattle.ic_journal.proofs.MachineSteps.{events_at}
 use Rattle.ic_undo.specs.declared.faults.Counts.{Counts}
-use Rattle.ic_undo.specs.Undone.{AreUndone}
-use Rattle.ic_undo.specs.Backwards.{AreFree}
+use Rattle.ic_journal.specs.Undone.{AreUndone, AreFree}
 use Rattle.ic_undo.specs.Marks.{MarkView, IsMark}
 use Rattle.ic_undo.specs.GoingBack as bench
 use Rattle.ic_undo.specs.GoingBack.{IsOutside, AreFirable}

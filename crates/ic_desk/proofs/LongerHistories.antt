@@ -7,7 +7,7 @@ use Rattle.ic_journal.specs.Views.{BenchView}
 use Rattle.ic_undo.specs.Absorbing.{TakesBack}
 use Rattle.ic_undo.specs.GoingBack.{Goes, IsBack, IsntBack, firing}
 use Rattle.ic_undo.specs.Marks.{MarkView}
-use Rattle.ic_undo.specs.Undone.{undoing}
+use Rattle.ic_journal.specs.Undone.{undoing}
 use Rattle.ic_undo.specs.declared.faults.Counts.{Counts}
 use Rattle.ic_undo.specs.declared.faults.BackFault.{BackFault}
 use Rattle.ic_undo.specs.declared.faults.BackFault.TheVariants as back

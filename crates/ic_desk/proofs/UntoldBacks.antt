@@ -14,7 +14,7 @@ use Rattle.ic_journal.specs.Benches.{IsBench}
 use Rattle.ic_undo.specs.declared.faults.Counts.{Counts}
 use Rattle.ic_undo.specs.GoingBack.{Goes, IsBack, IsPartWay, firing}
 use Rattle.ic_undo.specs.Marks.{IsMark}
-use Rattle.ic_undo.specs.Undone.{undoing}
+use Rattle.ic_journal.specs.Undone.{undoing}
 use Rattle.ic_command.specs.declared.request.Request.TheVariants.{Back}
 use Rattle.ic_answer.specs.declared.answer.Answer.{Answer}
 use Rattle.ic_answer.specs.declared.refused.Refused.TheVariants.{MemoryBeforeBack}

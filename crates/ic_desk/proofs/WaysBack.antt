@@ -17,8 +17,7 @@ use Rattle.ic_set.specs.Views.{standing}
 use Rattle.ic_journal.specs.Views.{BenchView, set_of}
 use Rattle.ic_journal.specs.Benches.{IsAt, IsBench, fired_in}
 use Rattle.ic_journal.proofs.MachineSteps.{fired_events}
-use Rattle.ic_undo.specs.Undone.{AreUndone, undoing}
-use Rattle.ic_undo.specs.Backwards.{AreFree}
+use Rattle.ic_journal.specs.Undone.{AreUndone, undoing, AreFree}
 use Rattle.ic_undo.specs.GoingBack as bench
 use Rattle.ic_undo.specs.GoingBack.{AreFirable, firing}
 use Rattle.ic_shown.proofs.Elements.{in_behind}

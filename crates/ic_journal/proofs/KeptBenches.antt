@@ -34,7 +34,7 @@ pub keeps_self : (ns : List Name) → Keeps ns ns
 keeps_self ns m k stands = stands
 
 -- lines that are few are few with their names
-few_lines : (ns : List Name) (ls : List NotedLine) (room : ℕ) → length ls + room ≤ MAX_LINES → length (map (line_in ns) ls) + room ≤ MAX_LINES
+pub few_lines : (ns : List Name) (ls : List NotedLine) (room : ℕ) → length ls + room ≤ MAX_LINES → length (map (line_in ns) ls) + room ≤ MAX_LINES
 few_lines ns ls room few = omega (arith, length-map ls (line_in ns))
 
 -- where the set is the same, names are kept, and only room for lines changes

@@ -9,3 +9,5 @@ pub mod PairLimits
 pub mod NamedPairs
 pub mod ChangedLines
 pub mod LedEvents
+pub mod Reversed
+pub mod ClearedBenches

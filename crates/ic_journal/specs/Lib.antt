@@ -10,3 +10,4 @@ pub mod Proposals
 pub mod Faults
 pub mod Reads
 pub mod Restored
+pub mod Undone

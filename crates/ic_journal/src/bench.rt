@@ -1,8 +1,10 @@
-ghost use Rattle.std.specs.Prelude.{◌≡◌, IfOk};
+ghost use Rattle.std.specs.Prelude.{◌≡◌, ◌≤◌, [], length, IfOk};
 ghost use Rattle.ic_journal.specs.Benches.{IsBench, Opens};
 ghost use Rattle.ic_set.specs.Pairs.{Awakes};
+ghost use Rattle.ic_set.specs.Cleared.{AreAll};
 ghost use Rattle.ic_journal.specs.Views.{set_of};
 ghost use Rattle.ic_journal.specs.Calls.{id_answer, Fires, Undoes, Reserves};
+ghost use Rattle.ic_journal.specs.Undone.{AreIdsOfFree, AreUndoneFrom};
 
 use crate::faults::{FireFault, ReserveFault, UndoFault};
 use crate::history::History;
@@ -165,5 +167,20 @@ impl<L: LinkStore> Bench<L> {
                 Ok(())
             }
         }
+    }
+
+    /// Undoes all events, the last of these ids first, each of which stands before those that rest on it: one step of the
+    /// machine for each, which adds a line. Then nothing stands, and the net is that of the start. It takes no memory, and
+    /// for many events less time than an `undo` for each, but a look at every slot that ever had an event.
+    pub fn clear(&mut self, ids: &[EventId])
+        requires free { AreIdsOfFree self.old ids.now }
+        requires all { AreAll (set_of self.old) ids.now }
+        requires room { length ids.now ≤ self.old.room }
+        ensures undone { AreUndoneFrom self.old ids.now self.new }
+        ensures nothing { self.new.events ≡ [] }
+    {
+        self.lawful();
+        self.set.clear(ids);
+        self.history.note_undone(ids);
     }
 }

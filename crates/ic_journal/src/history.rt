@@ -1,13 +1,13 @@
-ghost use Rattle.std.specs.Prelude.{◌≡◌, ◌+◌, ◌<◌, ◌≤◌, ◌++◌, ◌∷◌, ◌↔◌, [], length, map, slice_get, IsTrue, Some, IfOk, IfErr, OnOk, OnErr};
+ghost use Rattle.std.specs.Prelude.{◌≡◌, ◌+◌, ◌<◌, ◌≤◌, ◌++◌, ◌∷◌, ◌↔◌, [], length, map, reverse, slice_get, IsTrue, Some, IfOk, IfErr, OnOk, OnErr};
 ghost use Rattle.ic_name.specs.declared.limits.TheConstants.{MAX_LINES};
 ghost use Rattle.ic_name.specs.Names.{Name};
 ghost use Rattle.ic_journal.specs.Changed.{IsLeadChangedIn, IsLeadFiredIn};
 ghost use Rattle.ic_journal.specs.Kept.{line_of, IsPlaced};
-ghost use Rattle.ic_journal.specs.Noted.{Refused, line_in, AreLinesNamed};
+ghost use Rattle.ic_journal.specs.Noted.{Refused, Undone, line_in, AreLinesNamed};
 
 use crate::kept::{KeptLine, RefusedProposal, interaction};
 use ic_name::limits::MAX_LINES;
-use ic_name::{AgentName, Call, Line, Reply};
+use ic_name::{AgentName, Call, EventId, Line, Reply};
 use ic_names::NameTable;
 use ic_roster::Roster;
 use std::alloc::{AllocError, Global};
@@ -44,6 +44,13 @@ impl History {
             lines: Vec::new(alloc),
             refused: Vec::new(alloc),
         }
+    }
+
+    /// What holds of every history, for whoever has to show it.
+    fn lawful(&self)
+        ensures { length self.now.lines + self.now.room ≤ MAX_LINES }
+    {
+        let _ = &self.lines;
     }
 
     /// The number of lines.
@@ -97,6 +104,20 @@ impl History {
         ensures few { length self.new.lines + self.new.room ≤ MAX_LINES }
     {
         self.lines.push_reserved(line);
+    }
+
+    /// Notes a line for each of these events, the last one first, that its firing was undone. There is room for them. It takes
+    /// no memory.
+    pub fn note_undone(&mut self, ids: &[EventId])
+        requires room { length ids.now ≤ self.old.room }
+        ensures lines { self.new.lines ≡ self.old.lines ++ map (λ d. Undone d.line) (reverse ids.now) }
+        ensures room { self.old.room ≡ self.new.room + length ids.now }
+        ensures few { length self.new.lines + self.new.room ≤ MAX_LINES }
+    {
+        self.lawful();
+        for place in (0..ids.len()).rev() {
+            self.note(KeptLine::Undone(ids[place].line));
+        }
     }
 
     /// Notes that a proposal was refused, where there is room for a line. At an error memory ran out; the proposal is

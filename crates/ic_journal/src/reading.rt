@@ -15,7 +15,7 @@ ghost use Rattle.ic_roster.specs.Rosters.{Stander, IsNewName};
 ghost use Rattle.ic_set.specs.declared.pairs.ActivePair.{ActivePair as APair};
 ghost use Rattle.ic_set.specs.Views.{standing};
 ghost use Rattle.ic_set.specs.Removal.{Stands};
-ghost use Rattle.ic_set.specs.Orders.{AreInOrder, AreRanked, IsAny};
+ghost use Rattle.ic_set.specs.Orders.{AreCanonical, AreInOrder, IsAny};
 ghost use Rattle.ic_set.specs.Pairs.{IsPairOf, IsActivePair, IsLeastPair, AreActivePairs};
 ghost use Rattle.ic_journal.specs.Views.{set_of};
 ghost use Rattle.ic_journal.specs.Proposals.{Proposes};
@@ -24,7 +24,6 @@ ghost use Rattle.ic_journal.specs.Reads.{IsKindOf, IsNameOf, IsEventUnder, IsRan
 use crate::bench::Bench;
 use crate::faults::ProposeFault;
 use crate::proposal::Proposal;
-use ic_cause::RankedEvent;
 use ic_link::LinkStore;
 use ic_name::{AgentId, AgentName, Event, EventId, EventName, Kind, Line};
 use ic_names::NameTable;
@@ -252,11 +251,11 @@ impl<L: LinkStore> Bench<L> {
         self.set.bare().standing()
     }
 
-    /// The standing events with their ranks, in canonical order.
-    pub fn ranked(&self) -> Result<Vec<RankedEvent>, AllocError>
-        ensures { IfOk result (λ events. AreRanked (set_of self.now) events.items) }
+    /// The standing events, in canonical order.
+    pub fn events(&self) -> Result<Vec<Event>, AllocError>
+        ensures { IfOk result (λ events. AreCanonical (set_of self.now) events.items) }
     {
-        self.set.bare().ranked()
+        self.set.bare().events()
     }
 
     /// The text of the journal: how many events stand, and a line for each with its rank, in canonical order.

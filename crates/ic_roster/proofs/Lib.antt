@@ -5,6 +5,7 @@ pub mod Inverses
 pub mod Indexes
 pub mod Entries
 pub mod AgentFacts
+pub mod GoneAgents
 pub mod EventFacts
 pub mod RecordFacts
 pub mod RecordLoops
@@ -13,6 +14,7 @@ pub mod LinkedEvents
 pub mod AddedLinks
 pub mod AddedEvents
 pub mod RemovedLinks
+pub mod ClearedEvents
 pub mod Named
 pub mod NamedCauses
 pub mod OwnEvents

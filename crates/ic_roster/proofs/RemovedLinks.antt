@@ -18,7 +18,7 @@ use Rattle.ic_roster.proofs.RecordLoops.{has_in}
 use Rattle.ic_roster.proofs.AddedLinks.{causes_here, record_lacking, record_elsewhere}
 
 -- no event is in the empty list twice
-once_none : IsOnce []
+pub once_none : IsOnce []
 once_none e rest k i = elim k [ ]
 
 -- an event that is no cause: `m` is what was, `mid` lacks its record, and `n` lacks it at the dependents of its causes, too

@@ -6,3 +6,4 @@ pub mod AgentSlots
 pub mod EventSlots
 pub mod Records
 pub mod RecordChanges
+pub mod Born

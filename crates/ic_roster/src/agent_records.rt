@@ -1,4 +1,4 @@
-ghost use Rattle.std.specs.Prelude.{◌≡◌, ◌≢◌, ◌∷◌, [], length, IfSome, IfNone, IfOk, OnErr};
+ghost use Rattle.std.specs.Prelude.{◌≡◌, ◌≢◌, ◌↔◌, ◌∷◌, [], length, IfSome, IfNone, IfOk, OnErr};
 ghost use Rattle.ic_path.specs.Orders.{Alike, IsIn};
 ghost use Rattle.ic_name.specs.declared.kinds.Kind.{Kind as AKind};
 ghost use Rattle.ic_roster.specs.declared.agent_records.PlacedAgent.{PlacedAgent as APlacedAgent};
@@ -151,5 +151,15 @@ impl AgentRecords {
         }
         let agent = self.records.remove(id.slot as usize);
         self.slots.take(agent.name.place);
+    }
+
+    /// The agents under these ids go, those that there are, in constant time for each. It takes no memory.
+    pub fn remove_each(&mut self, ids: &[AgentId])
+        ensures { (m : APlacedAgent) → IsIn m self.new ↔ (IsIn m self.old × (IsIn m.id ids.now → ⊥)) }
+    {
+        for id in ids {
+            self.lawful();
+            self.remove(*id);
+        }
     }
 }

@@ -1,8 +1,10 @@
-ghost use Rattle.std.specs.Prelude.{◌≡◌, ◌≢◌, ◌∷◌, [], length, map, IsNone, IfSome, IfNone, IfOk, OnErr};
+ghost use Rattle.std.specs.Prelude.{◌≡◌, ◌≢◌, ◌↔◌, ◌∷◌, [], length, map, IsNone, IfSome, IfNone, IfOk, OnErr};
 ghost use Rattle.ic_path.specs.Orders.{Alike, IsIn};
 ghost use Rattle.ic_roster.specs.Rosters.{IsOnce};
+ghost use Rattle.ic_roster.specs.declared.agent_records.PlacedAgent.{PlacedAgent as APlacedAgent};
 ghost use Rattle.ic_roster.specs.Placed.{PlacedEvent, HaveOwnKeys, IsNewKey, IsGiven, AreKept, AreUsers};
 
+use crate::agent_records::AgentRecords;
 use crate::dependents::{put_at_each, reserve_places, take_at_each};
 use crate::event_record::EventRecord;
 use crate::events::{GoneEvent, StandingEntry};
@@ -194,5 +196,19 @@ impl EventRecords {
             lead,
             born: event.born,
         })
+    }
+
+    /// All events go, and with each the agents that are its children, in one look at every slot that ever had an event. It
+    /// takes no memory.
+    pub fn clear(&mut self, agents: &mut AgentRecords)
+        ensures none { self.new ≡ [] }
+        ensures agents { (m : APlacedAgent) → IsIn m agents.new ↔ (IsIn m agents.old × ((x : PlacedEvent) → IsIn x self.old → IsIn m.id x.born → ⊥)) }
+    {
+        for (_, event) in self.records.iter() {
+            agents.remove_each(event.born.as_slice());
+            self.lines.take(event.line);
+            self.leads.take(event.interaction.lead.place);
+        }
+        self.records.clear();
     }
 }

@@ -1,8 +1,9 @@
-ghost use Rattle.std.specs.Prelude.{◌≡◌, ◌≢◌, ◌<◌, ◌∷◌, length, map, All, IsNone, IfSome, IfNone, IfOk, OnErr};
+ghost use Rattle.std.specs.Prelude.{◌≡◌, ◌≢◌, ◌<◌, ◌↔◌, ◌∷◌, [], length, map, All, IsNone, IfSome, IfNone, IfOk, OnErr};
 ghost use Rattle.ic_path.specs.Orders.{Alike, IsIn};
 ghost use Rattle.ic_name.specs.Events.{pair};
 ghost use Rattle.ic_names.specs.Tables.{name_at};
-ghost use Rattle.ic_roster.specs.Rosters.{Stander, IsNewEvent, Stands, IsOnce, AreDependents, event_in, IsNamed, IsHanded};
+ghost use Rattle.ic_roster.specs.Born.{IsBorn};
+ghost use Rattle.ic_roster.specs.Rosters.{Member, Stander, IsNewEvent, Stands, IsOnce, AreDependents, event_in, IsNamed, IsHanded};
 
 use crate::interaction::Interaction;
 use crate::roster::Roster;
@@ -126,5 +127,15 @@ impl Roster {
         ensures unchanged { ((x : Stander) → IsIn x self.old.events → x.id ≢ id) → self.new ≡ self.old }
     {
         self.events.remove(id)
+    }
+
+    /// All events go, and with each the agents that are its children, in one look at every slot that ever had an event. It
+    /// takes no memory.
+    pub fn clear_events(&mut self)
+        ensures events { self.new.events ≡ [] }
+        ensures agents { (m : Member) → IsIn m self.new.agents ↔ (IsIn m self.old.agents × ¬ (IsBorn self.old.events m.id)) }
+        ensures names { self.new.names ≡ self.old.names }
+    {
+        self.events.clear(&mut self.agents);
     }
 }

@@ -44,7 +44,7 @@ can_enter_start s = record { new = λ x i m j. absurd (none_in j); apart = λ x 
         omega arith
 
 -- no events have lines of their own
-none_own : HaveOwnLines []
+pub none_own : HaveOwnLines []
 none_own = record { slots = λ x y rest k i e. none_in (rest, k); lines = λ x y rest k i e. none_in (rest, k); leads = λ x y rest k i e. none_in (rest, k) }
 
 module _ (s : Start) (ok : IsProper s) (ids : List AgentId) (ms : List Member) (ls : List Link)

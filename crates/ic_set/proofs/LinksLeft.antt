@@ -62,7 +62,7 @@ module _ (s : Start) (ok : IsProper s) (n less : Naming) (x : Extends less n) (m
       subst (λ e. less.has_event e ≡ true) (sym (h.apart.events d y.0.id k more.0 same)) held.0
 
   -- so are the ends and the maker of a link
-  link_held : (l : Link) → IsIn l ls → IsHeld less l
+  pub link_held : (l : Link) → IsIn l ls → IsHeld less l
   link_held l i =
       let held = h.held l i in
       let j : IsIn (link_of n l) (links s (events_of ss)) = alike-in h.alike (in-map (link_of n) i) in

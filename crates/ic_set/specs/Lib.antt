@@ -13,3 +13,4 @@ pub mod Placed
 pub mod Queues
 pub mod Reading
 pub mod Meetings
+pub mod Cleared

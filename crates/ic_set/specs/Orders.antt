@@ -6,7 +6,6 @@ use Rattle.ic_name.specs.declared.ids.EventId.{EventId}
 use Rattle.ic_path.specs.Orders.{IsIn, Alike}
 use Rattle.ic_path.specs.Rings.{HasEachOnce}
 use Rattle.ic_theory.specs.Causes.{IsRank, IsCause, canonical_cmp}
-use Rattle.ic_cause.specs.declared.journal.RankedEvent.{RankedEvent}
 use Rattle.ic_roster.specs.Rosters.{Stander}
 use Rattle.ic_set.specs.Views.{SetView, standing, events_of}
 
@@ -33,8 +32,3 @@ DependsOn v d y = (x : Stander) × IsIn x v.events × (x.id ≡ d) × IsCause v.
 pub record AreCanonical (v : SetView) (events : List Event) : Type 0 where
   pub alike : Alike (standing v) events
   pub canonical : (rank : Event → ℕ) → IsRank v.start (standing v) rank → IsStrictlySortedBy (canonical_cmp rank) events
-
--- the standing events in canonical order, each with its rank
-pub record AreRanked (v : SetView) (xs : List RankedEvent) : Type 0 where
-  pub in_order : AreCanonical v (map (λ x. x.event) xs)
-  pub ranks : (rank : Event → ℕ) → IsRank v.start (standing v) rank → (x : RankedEvent) → IsIn x xs → x.rank ≡ rank x.event

@@ -14,5 +14,4 @@ mod reading;
 pub mod removal;
 
 pub use bare::BareSet;
-pub use nets::without_ranks;
 pub use pairs::{ActivePair, Fired};

@@ -8,7 +8,7 @@ ghost use Rattle.ic_theory.specs.Steps.{AreDefined, steps};
 ghost use Rattle.ic_cause.specs.Journals.{Ranked, IsJournal, journal_text};
 ghost use Rattle.ic_roster.specs.Rosters.{event_in, IsNamed};
 ghost use Rattle.ic_set.specs.Views.{standing};
-ghost use Rattle.ic_set.specs.Orders.{AreRanked};
+ghost use Rattle.ic_set.specs.Orders.{AreCanonical};
 ghost use Rattle.ic_set.specs.Placed.{ranked_in};
 
 use crate::bare::BareSet;
@@ -65,12 +65,11 @@ impl<L: LinkStore> BareSet<L> {
         journal_of(self.alloc, &self.roster, &self.all_placed()?)
     }
 
-    /// The standing events with their ranks, in canonical order.
-    pub fn ranked(&self) -> Result<Vec<RankedEvent>, AllocError>
-        ensures { IfOk result (λ events. AreRanked self.now.set events.items) }
+    /// The standing events, in canonical order.
+    pub fn events(&self) -> Result<Vec<Event>, AllocError>
+        ensures { IfOk result (λ events. AreCanonical self.now.set events.items) }
     {
-        self.lawful();
-        with_ranks(self.alloc, &self.roster, &self.all_placed()?)
+        events_of(self.alloc, &self.roster, &self.all_placed()?)
     }
 }
 
@@ -91,34 +90,15 @@ fn journal_of(alloc: Global, roster: &Roster, placed: &[Placed]) -> Result<Vec<u
     Ok(text)
 }
 
-/// These events with their ranks.
-fn with_ranks(
-    alloc: Global,
-    roster: &Roster,
-    placed: &[Placed],
-) -> Result<Vec<RankedEvent>, AllocError>
+/// These events, by their names.
+fn events_of(alloc: Global, roster: &Roster, placed: &[Placed]) -> Result<Vec<Event>, AllocError>
     requires { All (λ p. IsNamed roster.now.names p.interaction) placed.now }
-    ensures events { IfOk result (λ events. map (λ x. x.event) events.items ≡ map (λ p. event_in roster.now.names p.interaction) placed.now) }
-    ensures ranks { IfOk result (λ events. map (λ x. x.rank) events.items ≡ map (λ p. p.rank) placed.now) }
+    ensures { IfOk result (λ events. events.items ≡ map (λ p. event_in roster.now.names p.interaction) placed.now) }
 {
     let mut events = Vec::with_capacity(alloc, placed.len())?;
     for standing in placed {
         let event = roster.read(standing.interaction)?;
-        events.push(RankedEvent {
-            event,
-            rank: standing.rank,
-        })?;
-    }
-    Ok(events)
-}
-
-/// These events without their ranks.
-pub fn without_ranks(alloc: Global, ranked: Vec<RankedEvent>) -> Result<Vec<Event>, AllocError>
-    ensures { IfOk result (λ events. events.items ≡ map (λ x. x.event) ranked.items) }
-{
-    let mut events = Vec::with_capacity(alloc, ranked.len())?;
-    for standing in ranked {
-        events.push(standing.event)?;
+        events.push(event)?;
     }
     Ok(events)
 }

@@ -4,6 +4,7 @@ ghost use Rattle.ic_names.specs.Tables.{StandsAt};
 ghost use Rattle.ic_path.specs.Orders.{IsIn};
 ghost use Rattle.ic_roster.specs.Rosters.{Stander};
 ghost use Rattle.ic_set.specs.Changes.{TakesOut};
+ghost use Rattle.ic_set.specs.Cleared.{AreAll, Clears};
 ghost use Rattle.ic_set.specs.Removal.{Stands, IsFree, IsLeast, TellsOrder, IsLeastOf};
 
 use crate::bare::BareSet;
@@ -40,6 +41,20 @@ impl<L: LinkStore> BareSet<L> {
         remove_all(&mut self.roster, gone.born.as_slice());
         self.store.take_of(id);
         gone.lead
+    }
+
+    /// All events go, whose ids these are: with them their children go, and their links, those of the last one first. It
+    /// takes no memory, and no look at what rests on what.
+    pub fn clear(&mut self, ids: &[EventId])
+        requires all { AreAll self.old.set ids.now }
+        ensures cleared { Clears self.old.set self.new.set }
+        ensures names { self.new.names ≡ self.old.names }
+    {
+        for place in (0..ids.len()).rev() {
+            self.store.take_of(ids[place]);
+        }
+        self.roster.clear_events();
+        self.roster.lawful();
     }
 }
 

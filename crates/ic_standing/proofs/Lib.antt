@@ -2,4 +2,5 @@ pub mod TakenElements
 pub mod Awakened
 pub mod PairsAdmitted
 pub mod PairsLeft
+pub mod PairsCleared
 pub mod Fronts

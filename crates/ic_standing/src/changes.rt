@@ -5,11 +5,12 @@ ghost use Rattle.ic_path.specs.Orders.{IsIn};
 ghost use Rattle.ic_theory.specs.Machine.{IsDeep};
 ghost use Rattle.ic_roster.specs.Rosters.{Stander};
 ghost use Rattle.ic_set.specs.Changes.{Admits, IsSame, TakesOut};
+ghost use Rattle.ic_set.specs.Cleared.{AreAll, Clears};
 ghost use Rattle.ic_set.specs.Entering.{GrowsBy};
 ghost use Rattle.ic_set.specs.Pairs.{IsPairOf, IsActivePair, Awakes};
 ghost use Rattle.ic_set.specs.Removal.{Stands, IsFree};
 
-use crate::queue::{drop_stale, put_leads};
+use crate::queue::{drop_stale, put_leads, put_start_leads};
 use crate::set::StandingSet;
 use ic_link::LinkStore;
 use ic_name::EventId;
@@ -58,6 +59,20 @@ impl<L: LinkStore> StandingSet<L> {
         let lead = self.bare.take_out(id);
         self.bare.lawful();
         self.queue.put(self.bare.roster().names(), lead);
+        self.front = drop_stale(&mut self.queue, &self.bare);
+    }
+
+    /// All events go, whose ids these are: with them their children go, and their links, those of the last one first. It
+    /// takes no memory.
+    pub fn clear(&mut self, ids: &[EventId])
+        requires all { AreAll self.old.set ids.now }
+        ensures cleared { Clears self.old.set self.new.set }
+        ensures names { self.new.names ≡ self.old.names }
+    {
+        self.bare.lawful();
+        put_start_leads(&mut self.queue, &self.bare, ids);
+        self.bare.clear(ids);
+        self.bare.lawful();
         self.front = drop_stale(&mut self.queue, &self.bare);
     }
 }

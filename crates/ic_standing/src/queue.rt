@@ -1,15 +1,18 @@
-ghost use Rattle.std.specs.Prelude.{◌≡◌, ◌≤◌, Some, IfSome, length};
+ghost use Rattle.std.specs.Prelude.{◌≡◌, ◌≤◌, [], Some, IfSome, length};
 ghost use Rattle.ic_name.specs.Names.{Name};
 ghost use Rattle.ic_name.specs.Events.{Event as AnEvent};
+ghost use Rattle.ic_name.specs.declared.ids.EventId.{EventId as AnEventId};
 ghost use Rattle.ic_path.specs.Orders.{IsIn};
+ghost use Rattle.ic_roster.specs.Rosters.{Stander};
 ghost use Rattle.ic_queue.specs.Queues.{IsHeap};
 ghost use Rattle.ic_set.specs.declared.pairs.ActivePair.{ActivePair as APair};
 ghost use Rattle.ic_set.specs.Pairs.{IsPairOf, IsActivePair};
 ghost use Rattle.ic_set.specs.Queues.{IsQueued, HasLeads};
+ghost use Rattle.ic_set.specs.Removal.{Stands};
 ghost use Rattle.ic_standing.specs.Fronts.{IsFront};
 
 use ic_link::LinkStore;
-use ic_name::AgentId;
+use ic_name::{AgentId, EventId};
 use ic_queue::LeadQueue;
 use ic_set::{ActivePair, BareSet};
 
@@ -44,6 +47,33 @@ pub(crate) fn put_leads<L: LinkStore>(
 {
     for pair in pairs {
         put_pair(queue, set, *pair);
+    }
+}
+
+/// Puts in the lead of each of these standing events that is an agent of the start. There is room for every name.
+pub(crate) fn put_start_leads<L: LinkStore>(
+    queue: &mut LeadQueue,
+    set: &BareSet<L>,
+    events: &[EventId],
+)
+    requires standing { (d : AnEventId) → IsIn d events.now → Stands set.now.set d }
+    requires heap { IsHeap set.now.names queue.old.leads }
+    requires room { length set.now.names ≤ queue.old.room }
+    ensures heap { IsHeap set.now.names queue.new.leads }
+    ensures stay { (n : Name) → IsQueued set.now.names queue.old.leads n → IsQueued set.now.names queue.new.leads n }
+    ensures led { (x : Stander) → IsIn x set.now.set.events → IsIn x.id events.now → x.event.lead.digits ≡ [] → IsQueued set.now.names queue.new.leads x.event.lead }
+    ensures room { queue.old.room ≤ queue.new.room }
+{
+    set.lawful();
+    let names = set.roster().names();
+    for id in events {
+        let Some(event) = set.roster().event(*id) else {
+            unreachable!()
+        };
+        let lead = event.interaction.lead;
+        if names.depth(lead) == 0 {
+            queue.put(names, lead);
+        }
     }
 }
 

@@ -1,5 +1,4 @@
 // Benches for tests, calls of them, and what they show as text.
-use ic_cause::journal_text;
 use ic_journal::{Bench, Proposal, Store};
 use ic_name::{AgentName, EventId, EventName, Kind};
 use ic_print::print_net;
@@ -54,12 +53,7 @@ pub fn fire<B: Ledger, R: Wait>(
 pub fn shown(alloc: Global, bench: &Bench<Store>) -> Option<Vec<u8>> {
     let net = bench.net().ok()?;
     let mut text = print_net(alloc, &net, bench.start().names()).ok()?;
-    let journal = journal_of(alloc, bench)?;
+    let journal = bench.journal().ok()?;
     text.extend_from_slice(&journal).ok()?;
     Some(text)
-}
-
-fn journal_of(alloc: Global, bench: &Bench<Store>) -> Option<Vec<u8>> {
-    let events = bench.ranked().ok()?;
-    journal_text(alloc, &events).ok()
 }

@@ -27,7 +27,7 @@ use Rattle.ic_undo.specs.declared.faults.AbsorbFault.TheVariants as absorb
 use Rattle.ic_undo.specs.declared.turns.Hindrance.{Hindrance}
 use Rattle.ic_undo.specs.declared.turns.Hindrance.TheVariants as hindrance
 use Rattle.ic_undo.specs.Absorbing.{Fits, Absorbs, AbsorbsNone, NoneIsNext, TakesBack, refusing}
-use Rattle.ic_undo.specs.Backwards.{AreIdsOfFree, AreUndoneFrom}
+use Rattle.ic_journal.specs.Undone.{AreIdsOfFree, AreUndoneFrom}
 use Rattle.ic_undo.specs.Coming.{Comes, NoneListed, HindersNext, fault_from}
 use Rattle.ic_undo.specs.Ready.{TellsMissing}
 use Rattle.ic_undo.proofs.ComingEvents.{none_came, stands_now, came_length, next_listed, comes_from}

@@ -1,29 +1,15 @@
--- Lists read from their ends, and standing events that are told apart by their lines.
-use Rattle.std.proofs.Common.{◌≡◌, List, [], ◌∷◌, ◌++◌, inl, inr, Option, Some, None, map, reverse, refl, sym, ap, subst, ◌∙◌}
-use Rattle.std.proofs.lemmas.List.{map-append, reverse-append}
+-- Standing events that are told apart by their lines, and lists read from their ends.
+use Rattle.std.proofs.Common.{◌≡◌, List, ◌++◌, inl, inr, Option, Some, None, refl, sym, ap, ◌∙◌}
 use Rattle.ic_name.specs.Events.{Event}
 use Rattle.ic_name.specs.declared.ids.EventId.{EventId}
-use Rattle.ic_path.specs.Orders.{IsIn, Alike, none}
+use Rattle.ic_path.specs.Orders.{IsIn, Alike}
 use Rattle.ic_path.proofs.Picks.{in_others, pick_before}
-use Rattle.ic_path.proofs.Alikes.{alike_back, alike_then, alike_pick, alike-cons, alike-in, append-alike-comm}
+use Rattle.ic_path.proofs.Alikes.{alike_back, alike_pick, alike-in}
 use Rattle.ic_shown.proofs.Elements.{in_behind}
 use Rattle.ic_roster.specs.Rosters.{Stander, HaveOwnLines}
 use Rattle.ic_journal.specs.Reads.{StandsIn, IsEventUnder}
 use Rattle.ic_journal.specs.Views.{BenchView}
-
--- the first element comes last
-pub reverse_more : {X : Type 0} (x : X) (xs : List X) → reverse (x ∷ xs) ≡ reverse xs ++ x ∷ []
-reverse_more x xs = reverse-append (x ∷ []) xs
-
--- a list has the same elements read from its end
-pub alike_reverse : {X : Type 0} (xs : List X) → Alike xs (reverse xs)
-alike_reverse [] = none
-alike_reverse (x ∷ xs) = subst (λ ys. Alike (x ∷ xs) ys) (sym (reverse_more x xs)) (alike_then (alike-cons x (alike_reverse xs)) (append-alike-comm (x ∷ []) (reverse xs)))
-
--- what is made of each element, read from the end
-pub map-reverse : {X Y : Type 0} (f : X → Y) (xs : List X) → map f (reverse xs) ≡ reverse (map f xs)
-map-reverse f [] = refl
-map-reverse f (x ∷ xs) = ap (map f) (reverse_more x xs) ∙ map-append f (reverse xs) (x ∷ []) ∙ ap (λ ys. ys ++ f x ∷ []) (map-reverse f xs) ∙ sym (reverse_more (f x) (map f xs))
+pub use Rattle.ic_journal.proofs.Reversed.{reverse_more, alike_reverse, map-reverse}
 
 -- a standing event is known by its line
 pub one_in_line : (v : BenchView) → HaveOwnLines v.events → (x y : Stander) → IsIn x v.events → IsIn y v.events → x.id.line ≡ y.id.line → x ≡ y

@@ -18,7 +18,7 @@ use Rattle.ic_set.specs.Orders.{AreInOrder, IsAny}
 use Rattle.ic_journal.specs.Views.{BenchView, set_of}
 use Rattle.ic_journal.specs.Benches.{IsBench}
 use Rattle.ic_undo.specs.Undone.{RestsOn, through}
-use Rattle.ic_undo.specs.Backwards.{AreFree}
+use Rattle.ic_journal.specs.Undone.{AreFree}
 use Rattle.ic_shown.proofs.Elements.{in_behind, in-append_cases, in-map}
 
 -- an event that comes first has no greater rank

@@ -18,7 +18,7 @@ use Rattle.ic_set.specs.Views.{standing}
 use Rattle.ic_journal.specs.Benches.{IsBench}
 use Rattle.ic_journal.specs.Calls.{Fires}
 use Rattle.ic_journal.specs.Views.{BenchView, set_of}
-use Rattle.ic_undo.specs.Backwards.{AreFree}
+use Rattle.ic_journal.specs.Undone.{AreFree}
 use Rattle.ic_shown.proofs.Elements.{in_behind, in-append_cases, in-map}
 use Rattle.ic_undo.proofs.Backs.{apart}
 use Rattle.ic_undo.proofs.WithinSets.{active_absent}

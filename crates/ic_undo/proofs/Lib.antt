@@ -27,6 +27,7 @@ pub mod PairTests
 mod MissingNames
 mod ReadyPairs
 mod Absorbed
+mod AllUndone
 mod TurnsTaken
 pub mod SameHistories
 mod StoodSince

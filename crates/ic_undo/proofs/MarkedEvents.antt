@@ -21,7 +21,7 @@ use Rattle.ic_roster.specs.Rosters.{Stander}
 use Rattle.ic_set.specs.Sets.{IsStandingSet}
 use Rattle.ic_set.specs.Views.{standing, events_of}
 use Rattle.ic_journal.specs.Views.{BenchView, set_of}
-use Rattle.ic_undo.specs.Undone.{AreUndone}
+use Rattle.ic_journal.specs.Undone.{AreUndone}
 use Rattle.ic_undo.specs.Marks.{MarkView, IsMark}
 use Rattle.ic_undo.specs.GoingBack.{IsOutside, AreOutside, AreMissing, AreFired}
 use Rattle.ic_shown.proofs.Elements.{in-append_cases, in_behind, in-map, map_cases}

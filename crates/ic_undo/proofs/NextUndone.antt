@@ -6,8 +6,7 @@ use Rattle.ic_journal.specs.Views.{BenchView}
 use Rattle.ic_journal.specs.Benches.{IsBench}
 use Rattle.ic_journal.specs.Calls.{Undoes}
 use Rattle.ic_journal.specs.declared.faults.UndoFault.{UndoFault}
-use Rattle.ic_undo.specs.Undone.{AreUndone}
-use Rattle.ic_undo.specs.Backwards.{AreFree}
+use Rattle.ic_journal.specs.Undone.{AreUndone, AreFree}
 use Rattle.ic_undo.proofs.PlacedEvents.{IsAtPlace}
 use Rattle.ic_undo.proofs.UndoneOneMore.{IsNext, not_refused, undone_too}
 

@@ -12,8 +12,7 @@ use Rattle.ic_set.specs.Views.{standing}
 use Rattle.ic_journal.specs.Views.{BenchView, set_of}
 use Rattle.ic_journal.specs.Calls.{Stays}
 use Rattle.ic_journal.proofs.Answering.{same_set}
-use Rattle.ic_undo.specs.Undone.{AreUndone}
-use Rattle.ic_undo.specs.Backwards.{AreFree}
+use Rattle.ic_journal.specs.Undone.{AreUndone, AreFree}
 
 -- a bench stays as it is
 pub unchanged : (v : BenchView) → Stays v v

@@ -21,7 +21,7 @@ use Rattle.ic_journal.specs.Views.{BenchView, set_of}
 use Rattle.ic_undo.specs.Absorbing.{Fits, TakesBack}
 use Rattle.ic_undo.specs.Coming.{Comes}
 use Rattle.ic_undo.specs.GoingBack.{firing}
-use Rattle.ic_undo.specs.Undone.{AreUndone, undoing}
+use Rattle.ic_journal.specs.Undone.{AreUndone, undoing}
 use Rattle.ic_shown.proofs.Elements.{in-map}
 use Rattle.ic_undo.proofs.Backs.{alike_reverse}
 

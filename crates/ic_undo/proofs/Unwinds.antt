@@ -16,8 +16,9 @@ use Rattle.ic_set.specs.Orders.{AreInOrder, IsAny}
 use Rattle.ic_journal.specs.Views.{BenchView, set_of}
 use Rattle.ic_journal.specs.Benches.{IsBench}
 use Rattle.ic_journal.specs.Reads.{NoneStands, IsRankOf}
-use Rattle.ic_undo.specs.Undone.{AreLastFirst, AreUndone, IsCleared, IsUnwound}
-use Rattle.ic_undo.specs.Backwards.{AreIdsOfFree, AreUndoneBack, AreUndoneFrom}
+use Rattle.ic_journal.specs.Undone.{AreUndone, AreIdsOfFree, AreUndoneFrom}
+use Rattle.ic_undo.specs.Undone.{AreLastFirst, IsCleared, IsUnwound}
+use Rattle.ic_undo.specs.Backwards.{AreUndoneBack}
 use Rattle.ic_undo.specs.Unwinding.{DontFit}
 use Rattle.ic_shown.proofs.Elements.{in_behind}
 use Rattle.ic_undo.proofs.Backs.{alike_reverse, map-reverse, apart}

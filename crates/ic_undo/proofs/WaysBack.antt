@@ -14,8 +14,7 @@ use Rattle.ic_journal.specs.Benches.{IsBench}
 use Rattle.ic_journal.specs.Calls.{Stays}
 use Rattle.ic_journal.specs.Views.{BenchView, set_of}
 use Rattle.ic_undo.specs.declared.faults.Counts.{Counts}
-use Rattle.ic_undo.specs.Undone.{AreUndone, undoing}
-use Rattle.ic_undo.specs.Backwards.{AreFree, AreIdsOfFree}
+use Rattle.ic_journal.specs.Undone.{AreUndone, undoing, AreFree, AreIdsOfFree}
 use Rattle.ic_undo.specs.Marks.{MarkView, IsMark}
 use Rattle.ic_undo.specs.GoingBack.{IsOutside, AreOutside, AreMissing, AreFirable, AreFired, AreSomeFired, IsBack, IsPartWay, DontFitBack}
 use Rattle.ic_undo.proofs.Backs.{alike_reverse}

@@ -18,7 +18,7 @@ use Rattle.ic_set.specs.Changes.{IsSame}
 use Rattle.ic_set.specs.Views.{standing, events_of}
 use Rattle.ic_journal.specs.Benches.{IsBench}
 use Rattle.ic_journal.specs.Views.{BenchView, set_of}
-use Rattle.ic_undo.specs.Undone.{undoing}
+use Rattle.ic_journal.specs.Undone.{undoing}
 use Rattle.ic_undo.specs.GoingBack.{AreFired, firing}
 use Rattle.ic_undo.specs.declared.faults.AbsorbFault.{AbsorbFault}
 use Rattle.ic_undo.specs.declared.faults.AbsorbFault.TheVariants as absorb

@@ -18,7 +18,7 @@ use Rattle.ic_undo.specs.declared.faults.AbsorbFault.TheVariants as absorb
 use Rattle.ic_undo.specs.declared.turns.Hindrance.{Hindrance}
 use Rattle.ic_undo.specs.declared.turns.Hindrance.TheVariants as hindrance
 use Rattle.ic_undo.specs.Absorbing.{IsLeastListed, AreLeastInTurn}
-use Rattle.ic_undo.specs.Backwards.{AreFree}
+use Rattle.ic_journal.specs.Undone.{AreFree}
 use Rattle.ic_undo.specs.GoingBack.{AreFired}
 use Rattle.ic_undo.specs.Ready.{AddsPairs}
 

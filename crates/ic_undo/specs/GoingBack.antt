@@ -18,7 +18,8 @@ use Rattle.ic_journal.specs.Views.{BenchView, set_of}
 use Rattle.ic_undo.specs.declared.faults.Counts.{Counts}
 use Rattle.ic_undo.specs.declared.faults.BackFault.{BackFault}
 use Rattle.ic_undo.specs.declared.faults.BackFault.TheVariants.{HistoryFull, Memory}
-use Rattle.ic_undo.specs.Undone.{AreLastFirst, AreUndone}
+use Rattle.ic_journal.specs.Undone.{AreUndone}
+use Rattle.ic_undo.specs.Undone.{AreLastFirst}
 use Rattle.ic_undo.specs.Marks.{MarkView}
 
 -- the event isn't in the mark

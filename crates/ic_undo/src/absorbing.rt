@@ -1,6 +1,6 @@
 ghost use Rattle.std.specs.Prelude.{◌≡◌, ◌≤◌, length, IfErr, IfOk};
 ghost use Rattle.ic_undo.specs.Absorbing.{Absorbs, AbsorbsNone};
-ghost use Rattle.ic_undo.specs.Backwards.{AreIdsOfFree, AreUndoneFrom};
+ghost use Rattle.ic_journal.specs.Undone.{AreIdsOfFree, AreUndoneFrom};
 ghost use Rattle.ic_undo.specs.Coming.{fault_from};
 
 use crate::backwards::undo_each;

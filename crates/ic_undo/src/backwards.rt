@@ -3,11 +3,15 @@ ghost use Rattle.ic_name.specs.Events.{pair};
 ghost use Rattle.ic_path.specs.Orders.{IsIn};
 ghost use Rattle.ic_roster.specs.Rosters.{Stander};
 ghost use Rattle.ic_journal.specs.Reads.{StandsIn};
-ghost use Rattle.ic_undo.specs.Backwards.{AreIdsOfFree, AreUndoneBack, AreUndoneFrom, ArentUndoneBack};
+ghost use Rattle.ic_journal.specs.Undone.{AreIdsOfFree, AreUndoneFrom};
+ghost use Rattle.ic_undo.specs.Backwards.{AreUndoneBack, ArentUndoneBack};
 
 use ic_journal::{Bench, LinkStore, ReserveFault};
 use ic_name::{EventId, EventName};
 use std::alloc::{AllocError, Global};
+
+/// So many events are undone at once: for fewer, a look at every slot that ever had an event may cost more than they do.
+const MANY: usize = 256;
 
 /// Why events aren't undone.
 #[derive(Clone, Copy)]
@@ -54,8 +58,22 @@ pub(crate) fn undo_unnamed<L: LinkStore>(
     Ok(())
 }
 
-/// Undoes these events, the last one first, with the room that is reserved. It takes no memory.
+/// Undoes these events, the last one first, with the room that is reserved: many of them at once, where no others stand. It
+/// takes no memory.
 pub(crate) fn undo_each<L: LinkStore>(bench: &mut Bench<L>, ids: &[EventId])
+    requires free { AreIdsOfFree bench.old ids.now }
+    requires room { length ids.now ≤ bench.old.room }
+    ensures { AreUndoneFrom bench.old ids.now bench.new }
+{
+    if ids.len() >= MANY && ids.len() == bench.standing_count() {
+        bench.clear(ids);
+    } else {
+        undo_in_turn(bench, ids);
+    }
+}
+
+/// Undoes these events one after the other, the last one first, with the room that is reserved. It takes no memory.
+fn undo_in_turn<L: LinkStore>(bench: &mut Bench<L>, ids: &[EventId])
     requires free { AreIdsOfFree bench.old ids.now }
     requires room { length ids.now ≤ bench.old.room }
     ensures { AreUndoneFrom bench.old ids.now bench.new }

@@ -4,7 +4,6 @@ ghost use Rattle.ic_undo.specs.Marks.{Marks};
 use crate::event_places::places_of;
 use crate::marks::Mark;
 use ic_journal::{Bench, LinkStore};
-use ic_set::without_ranks;
 use std::alloc::{AllocError, Global};
 
 /// A mark of what stands on the bench.
@@ -14,7 +13,7 @@ pub fn mark<L: LinkStore>(alloc: Global, bench: &Bench<L>) -> Result<Mark, Alloc
     bench.lawful();
     let start = bench.start().copy()?;
     start.lawful();
-    let events = without_ranks(alloc, bench.ranked()?)?;
+    let events = bench.events()?;
     let places = places_of(alloc, &events)?;
     Ok(Mark {
         start,

@@ -1,6 +1,6 @@
 use Rattle.std.proofs.Common.{subst, ◌∙◌}
 use Rattle.ic_set.specs.Orders.{IsAny}
-use Rattle.ic_undo.specs.Backwards.{AreUndoneFrom}
+use Rattle.ic_journal.specs.Undone.{AreUndoneFrom}
 use Rattle.ic_undo.proofs.StayedBenches.{unchanged}
 use Rattle.ic_undo.proofs.FreeOrders.{all_with_dependents}
 use Rattle.ic_undo.proofs.Unwinds.{ids_of_free, cleared, dont_fit, nothing_left}

@@ -1,8 +1,7 @@
 use Rattle.std.proofs.Common.{◌≡◌, ◌≤◌, List, map, reverse, drop}
 use Rattle.ic_roster.specs.Rosters.{Stander}
-use Rattle.ic_undo.specs.Undone.{AreUndone}
-use Rattle.ic_undo.specs.Backwards.{AreFree}
-use Rattle.ic_undo.proofs.backwards.undo_each.Given as goal
+use Rattle.ic_journal.specs.Undone.{AreUndone, AreFree}
+use Rattle.ic_undo.proofs.backwards.undo_in_turn.Given as goal
 
 abbrev pub invariant-loop-place : goal.invariant-loop-place
 invariant-loop-place g l = record {
