@@ -29,6 +29,15 @@ line_in ns (Undone line) = record { call = Undo line; reply = reply.Undone }
 line_in ns (NotStanding line) = record { call = Undo line; reply = reply.NotStanding }
 line_in ns (Held line by) = record { call = Undo line; reply = reply.Held by }
 
+-- the line is a call to fire an event
+abbrev pub IsCallToFire : NotedLine → Type 0
+IsCallToFire (Fired i) = Unit {0}
+IsCallToFire (Limited limit i) = Unit {0}
+IsCallToFire (Refused p) = Unit {0}
+IsCallToFire (Undone line) = ⊥
+IsCallToFire (NotStanding line) = ⊥
+IsCallToFire (Held line by) = ⊥
+
 -- the event of an active pair has its places among the names
 abbrev pub IsLineNamed : List Name → NotedLine → Type 0
 IsLineNamed ns (Fired i) = IsNamed ns i

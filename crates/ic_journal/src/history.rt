@@ -3,7 +3,7 @@ ghost use Rattle.ic_name.specs.declared.limits.TheConstants.{MAX_LINES};
 ghost use Rattle.ic_name.specs.Names.{Name};
 ghost use Rattle.ic_journal.specs.Changed.{IsLeadChangedIn, IsLeadFiredIn};
 ghost use Rattle.ic_journal.specs.Kept.{line_of, IsPlaced};
-ghost use Rattle.ic_journal.specs.Noted.{Refused, Undone, line_in, AreLinesNamed};
+ghost use Rattle.ic_journal.specs.Noted.{NotedLine as ANotedLine, IsCallToFire, Refused, Undone, line_in, AreLinesNamed};
 
 use crate::kept::{KeptLine, RefusedProposal, interaction};
 use ic_name::limits::MAX_LINES;
@@ -70,6 +70,16 @@ impl History {
             Some(line) => {
                 line.has_call(&self.refused, names, call) && line.reply(&self.refused) == reply
             }
+            None => false,
+        }
+    }
+
+    /// Whether there is a line with this number, and it is a call to fire an event.
+    pub fn fires(&self, number: usize) -> bool
+        ensures { IsTrue result ↔ ((l : ANotedLine) × (slice_get self.now.lines number ≡ Some l) × IsCallToFire l) }
+    {
+        match self.lines.get(number) {
+            Some(line) => line.fires(),
             None => false,
         }
     }

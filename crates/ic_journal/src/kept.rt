@@ -2,7 +2,8 @@ ghost use Rattle.std.specs.Prelude.{◌≡◌, ◌↔◌, List, [], IsTrue, IfOk
 ghost use Rattle.ic_name.specs.Names.{Name};
 ghost use Rattle.ic_roster.specs.Rosters.{event_in, IsNamed};
 ghost use Rattle.ic_journal.specs.Kept.{event_kept, line_of, IsPlaced};
-ghost use Rattle.ic_journal.specs.Noted.{Fired, Limited, line_in, IsLineNamed};
+ghost use Rattle.ic_journal.specs.declared.kept.RefusedProposal.{RefusedProposal as ARefusedProposal};
+ghost use Rattle.ic_journal.specs.Noted.{Fired, Limited, line_in, IsCallToFire, IsLineNamed};
 
 use crate::proposal::Proposal;
 use crate::verdict::{Limit, Refusal};
@@ -83,6 +84,16 @@ impl KeptLine {
             KeptLine::Undone(_) => Reply::Undone,
             KeptLine::NotStanding(_) => Reply::NotStanding,
             KeptLine::Held { by, .. } => Reply::Held(*by),
+        }
+    }
+
+    /// Whether it is a call to fire an event.
+    pub fn fires(&self) -> bool
+        ensures { (refused : List ARefusedProposal) → IsTrue result ↔ IsCallToFire (line_of refused self.now) }
+    {
+        match self {
+            KeptLine::Fired(..) | KeptLine::Limited(..) | KeptLine::Refused(_) => true,
+            KeptLine::Undone(_) | KeptLine::NotStanding(_) | KeptLine::Held { .. } => false,
         }
     }
 

@@ -1,4 +1,7 @@
 ghost use Rattle.std.specs.Prelude.{◌≡◌, ◌↔◌, IsTrue, Some, length, slice_get};
+ghost use Rattle.ic_name.specs.Events.{Event as AnEvent};
+ghost use Rattle.ic_name.specs.declared.lines.Call.TheVariants.{Fire};
+ghost use Rattle.ic_name.specs.declared.lines.Line.{Line as ALine};
 
 use crate::bench::Bench;
 use ic_link::LinkStore;
@@ -25,5 +28,13 @@ impl<L: LinkStore> Bench<L> {
     {
         let names = self.set.bare().roster().names();
         self.history.line_is(names, number as usize, call, reply)
+    }
+
+    /// Whether the history has a line with this number, and it is a call to fire an event, whatever was answered. It takes no
+    /// memory.
+    pub fn line_fires(&self, number: u32) -> bool
+        ensures { IsTrue result ↔ ((l : ALine) × (e : AnEvent) × (slice_get self.now.lines number ≡ Some l) × (l.call ≡ Fire e)) }
+    {
+        self.history.fires(number as usize)
     }
 }

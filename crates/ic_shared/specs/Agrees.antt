@@ -1,30 +1,30 @@
 -- What settling says.
 use Rattle.std.specs.Prelude.{◌≡◌, ◌≢◌, ℕ, ◌+◌, ◌<◌, ◌++◌, List, length, drop, slice_get}
 use Rattle.ic_journal.specs.Views.{BenchView}
-use Rattle.ic_shared.specs.declared.receipts.Receipt.{Receipt}
+use Rattle.ic_shared.specs.Passes.{PassView, added_by_all, columns}
 use Rattle.ic_shared.specs.Openings.{OpeningView}
-use Rattle.ic_shared.specs.Settles.{Settles, WrongAt, lengths}
+use Rattle.ic_shared.specs.Settles.{Settles, WrongAt}
 
--- the history is the opening's lines and then as many lines, which are the passes' receipts
-pub record Agrees (opening : OpeningView) (passes : List (List Receipt)) (bench : BenchView) (lines : ℕ) : Type 0 where
+-- the history is the opening's lines and then as many lines, which are those of the passes' columns
+pub record Agrees (opening : OpeningView) (passes : List PassView) (bench : BenchView) (lines : ℕ) : Type 0 where
   pub every_pass : length passes ≡ opening.passes
   pub start : bench.start ≡ opening.start
   pub opened : bench.lines ≡ opening.lines ++ drop (length opening.lines) bench.lines
   pub added : length bench.lines ≡ length opening.lines + lines
-  pub counted : lines ≡ lengths passes
-  pub settled : Settles (length opening.lines) (drop (length opening.lines) bench.lines) passes
+  pub counted : lines ≡ added_by_all passes
+  pub settled : Settles (length opening.lines) (drop (length opening.lines) bench.lines) (columns passes)
 
 -- what is false at the number
-pub data IsFalseAt (opening : OpeningView) (passes : List (List Receipt)) (bench : BenchView) (number : ℕ) : Type 0 where
+pub data IsFalseAt (opening : OpeningView) (passes : List PassView) (bench : BenchView) (number : ℕ) : Type 0 where
   -- at the history's length: the start is another
   other_start : number ≡ length bench.lines → bench.start ≢ opening.start → IsFalseAt opening passes bench number
-  -- there, too: the receipts are too few or too many
-  other_count : number ≡ length bench.lines → length bench.lines ≢ length opening.lines + lengths passes
+  -- there, too: the passes have too few or too many lines
+  other_count : number ≡ length bench.lines → length bench.lines ≢ length opening.lines + added_by_all passes
       → IsFalseAt opening passes bench number
   -- where start and count agree: a line of the opening isn't the history's
-  other_line : bench.start ≡ opening.start → length bench.lines ≡ length opening.lines + lengths passes
+  other_line : bench.start ≡ opening.start → length bench.lines ≡ length opening.lines + added_by_all passes
       → number < length opening.lines → slice_get bench.lines number ≢ slice_get opening.lines number
       → IsFalseAt opening passes bench number
   -- there, too: what the passes say of the lines since the opening
-  other_receipts : bench.start ≡ opening.start → length bench.lines ≡ length opening.lines + lengths passes
-      → WrongAt (length opening.lines) bench.lines passes number → IsFalseAt opening passes bench number
+  other_receipts : bench.start ≡ opening.start → length bench.lines ≡ length opening.lines + added_by_all passes
+      → WrongAt (length opening.lines) bench.lines (columns passes) number → IsFalseAt opening passes bench number

@@ -1,5 +1,6 @@
 pub mod CallLines
 pub mod Receipts
+pub mod Passes
 pub mod CallsForPass
 pub mod Runs
 pub mod Openings

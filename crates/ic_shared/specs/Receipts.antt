@@ -11,3 +11,8 @@ receipt_of number line = record { number = number; call = line.call; reply = lin
 abbrev pub receipts_of : ℕ → List Line → List Receipt
 receipts_of number [] = []
 receipts_of number (line ∷ lines) = receipt_of number line ∷ receipts_of (number + 1) lines
+
+-- the number of each line, from here on
+abbrev pub numbers_of : ℕ → List Line → List ℕ
+numbers_of number [] = []
+numbers_of number (line ∷ lines) = number ∷ numbers_of (number + 1) lines

@@ -56,37 +56,29 @@ impl<B: Ledger> Locked<B> {
         answer
     }
 
-    /// Fires an active pair on the bench, once its event is made for the receipt, and gives a receipt for the line.
+    /// Fires an active pair on the bench, and notes the number of the line.
     pub fn fire_pair(
         &mut self,
         share: &mut Share<B>,
-        receipts: &mut Vec<Receipt>,
+        ran: &mut Vec<u32>,
         pair: ActivePair,
     ) -> Result<Fired, PairFault>
         requires part { 0 < share.old.parts }
-        requires room { vec_len receipts.old < vec_capacity receipts.old }
+        requires room { vec_len ran.old < vec_capacity ran.old }
         requires active { IsActivePair (set_of self.old.bench) pair }
-        ensures fires { FiresOn self.old.bench pair result receipts.old.items self.new.bench receipts.new.items }
+        ensures fires { FiresOn self.old.bench pair result ran.old.items self.new.bench ran.new.items }
         ensures parts { share.new.parts ≡ share.old.parts }
-        ensures amount { share.new.amount + length receipts.old.items ≡ share.old.amount + length receipts.new.items }
-        ensures room { vec_capacity receipts.new ≡ vec_capacity receipts.old }
-        ensures one { vec_len receipts.new ≤ vec_len receipts.old + 1 }
+        ensures amount { share.new.amount + length ran.old.items ≡ share.old.amount + length ran.new.items }
+        ensures room { vec_capacity ran.new ≡ vec_capacity ran.old }
+        ensures one { vec_len ran.new ≤ vec_len ran.old + 1 }
     {
         self.bench.lawful();
-        let Ok(event) = self.bench.event_of_pair(pair) else {
-            return Err(PairFault::Memory);
-        };
         let number = self.bench.lines();
         let answer = self.bench.fire_pair(pair);
-        let reply = reply_of_pair(&answer);
-        note(
-            &mut self.book,
-            share,
-            receipts,
-            number,
-            Call::Fire(event),
-            reply,
-        );
+        if reply_of_pair(&answer).is_some() {
+            self.book.add(share, 1);
+            ran.push_reserved(number);
+        }
         answer
     }
 

@@ -1,44 +1,64 @@
-// The lines of a history and the receipts of all passes, gone through together.
-ghost use Rattle.std.specs.Prelude.{◌≡◌, ◌+◌, ◌<◌, ◌≤◌, ℕ, length, drop, IfOk, IfErr, IfSome, IfNone};
+// The lines of a history and the columns of all passes, gone through together.
+ghost use Rattle.std.specs.Prelude.{◌≡◌, ◌+◌, ◌*◌, ◌/◌, ◌<◌, ◌≤◌, ℕ, List, Some, length, drop, slice_get, IfOk, IfErr, IfSome, IfNone};
+ghost use Rattle.ic_shared.specs.Passes.{PassView, column, columns};
 ghost use Rattle.ic_shared.specs.Settles.{IsNext, Settles, WrongAt};
 
 use crate::limits::MAX_PASSES;
-use crate::passes::Pass;
+use crate::passes::{Column, Pass};
 use ic_journal::{Bench, Store};
 use std::sync::ledger::Ledger;
 
-/// The pass whose next receipt has this number. One pass is looked at before the others.
+/// Each pass has two columns.
+const MAX_COLUMNS: usize = 2 * MAX_PASSES;
+
+/// Which column of its pass the one with this number is, where those of each pass have two numbers in a row: among the columns
+/// of any passes it has this number.
+fn column_of(number: usize) -> Column
+    ensures { (passes : List PassView) (pass : PassView) → slice_get passes (number / 2) ≡ Some pass → slice_get (columns passes) number ≡ Some (column pass result) }
+{
+    if number % 2 == 0 {
+        Column::Calls
+    } else {
+        Column::Runs
+    }
+}
+
+/// The column whose next entry has this number. One column is looked at before the others.
 fn find<B: Ledger>(
     passes: &[Pass<B>],
-    cursors: &[usize; MAX_PASSES],
+    cursors: &[usize; MAX_COLUMNS],
     number: u32,
     before_others: usize,
 ) -> Option<usize>
     requires { length passes.now ≤ MAX_PASSES }
-    ensures some { IfSome result (λ p. (p < length passes.now) × IsNext passes.now cursors.now p number) }
-    ensures none { IfNone result ((p : ℕ) → p < length passes.now → ¬ IsNext passes.now cursors.now p number) }
+    ensures some { IfSome result (λ c. (c < 2 * length passes.now) × IsNext (columns passes.now) cursors.now c number) }
+    ensures none { IfNone result ((c : ℕ) → c < 2 * length passes.now → ¬ IsNext (columns passes.now) cursors.now c number) }
 {
-    if before_others < passes.len()
-        && passes[before_others].has_number(cursors[before_others], number)
+    if before_others < 2 * passes.len()
+        && passes[before_others / 2].has_number(
+            column_of(before_others),
+            cursors[before_others],
+            number,
+        )
     {
         return Some(before_others);
     }
-    for p in 0..passes.len() {
-        if passes[p].has_number(cursors[p], number) {
-            return Some(p);
+    for c in 0..2 * passes.len() {
+        if passes[c / 2].has_number(column_of(c), cursors[c], number) {
+            return Some(c);
         }
     }
     None
 }
 
-/// The number of a pass's next receipt that is less than this one.
-fn behind<B: Ledger>(passes: &[Pass<B>], cursors: &[usize; MAX_PASSES], number: u32) -> Option<u32>
+/// The number of a column's next entry that is less than this one.
+fn behind<B: Ledger>(passes: &[Pass<B>], cursors: &[usize; MAX_COLUMNS], number: u32) -> Option<u32>
     requires { length passes.now ≤ MAX_PASSES }
-    ensures some { IfSome result (λ n. (n < number) × ((p : ℕ) × IsNext passes.now cursors.now p n)) }
-    ensures none { IfNone result ((p : ℕ) → p < length passes.now → (n : ℕ) → IsNext passes.now cursors.now p n → number ≤ n) }
+    ensures some { IfSome result (λ n. (n < number) × ((c : ℕ) × IsNext (columns passes.now) cursors.now c n)) }
+    ensures none { IfNone result ((c : ℕ) → c < 2 * length passes.now → (n : ℕ) → IsNext (columns passes.now) cursors.now c n → number ≤ n) }
 {
-    for p in 0..passes.len() {
-        match passes[p].less_at(cursors[p], number) {
+    for c in 0..2 * passes.len() {
+        match passes[c / 2].less_at(column_of(c), cursors[c], number) {
             Some(lesser) => return Some(lesser),
             None => {}
         }
@@ -46,8 +66,8 @@ fn behind<B: Ledger>(passes: &[Pass<B>], cursors: &[usize; MAX_PASSES], number: 
     None
 }
 
-/// Goes through the lines from `base` on, each of which is to be the next receipt of a pass: often of the one that has the
-/// line before, which is looked at first. The error is a number at which what the passes say is false.
+/// Goes through the lines from `base` on, each of which is to be for the next entry of a column: often of the one that has
+/// the line before, which is looked at first. The error is a number at which what the passes say is false.
 pub(crate) fn merge<B: Ledger>(
     bench: &Bench<Store>,
     base: u32,
@@ -55,28 +75,28 @@ pub(crate) fn merge<B: Ledger>(
 ) -> Result<(), u32>
     requires few { length passes.now ≤ MAX_PASSES }
     requires within { base ≤ length bench.now.lines }
-    ensures ok { IfOk result (λ _. Settles base (drop base bench.now.lines) passes.now) }
-    ensures err { IfErr result (WrongAt base bench.now.lines passes.now) }
+    ensures ok { IfOk result (λ _. Settles base (drop base bench.now.lines) (columns passes.now)) }
+    ensures err { IfErr result (WrongAt base bench.now.lines (columns passes.now)) }
 {
-    let mut cursors = [0usize; MAX_PASSES];
+    let mut cursors = [0usize; MAX_COLUMNS];
     let mut last = 0;
     let count = bench.lines() - base;
     for j in 0..count {
         let number = base + j;
-        let Some(p) = find(passes, &cursors, number, last) else {
+        let Some(c) = find(passes, &cursors, number, last) else {
             return match behind(passes, &cursors, number) {
                 Some(lesser) => Err(lesser),
                 None => Err(number),
             };
         };
-        if !passes[p].confirms(cursors[p], bench, number) {
+        if !passes[c / 2].confirms(column_of(c), cursors[c], bench, number) {
             return Err(number);
         }
-        cursors[p] += 1;
-        last = p;
+        cursors[c] += 1;
+        last = c;
     }
-    for p in 0..passes.len() {
-        match passes[p].number_at(cursors[p]) {
+    for c in 0..2 * passes.len() {
+        match passes[c / 2].number_at(column_of(c), cursors[c]) {
             Some(number) => return Err(number),
             None => {}
         }

@@ -1,4 +1,5 @@
-ghost use Rattle.std.specs.Prelude.{◌≡◌, ◌<◌, ◌≤◌, ◌↔◌, ℕ, length, MatchOption, IsTrue};
+ghost use Rattle.std.specs.Prelude.{◌≡◌, ◌+◌, ◌<◌, ◌≤◌, ◌↔◌, ℕ, length, MatchOption, IsTrue};
+ghost use Rattle.ic_shared.specs.Passes.{added_by, column as the_column};
 ghost use Rattle.ic_shared.specs.Settles.{NumberAt, Confirms};
 
 use crate::receipts::Receipt;
@@ -6,78 +7,105 @@ use ic_journal::{Bench, Store};
 use std::marker::Model;
 use std::sync::ledger::{Ledger, Share};
 
-/// The receipts of one caller, in the order of its calls.
+/// The receipts of one caller, in the order of its calls, and the numbers of the lines that its runs of firings added, in
+/// theirs. A line of a run has its number alone, so that no names are copied for it.
 #[derive(Drop)]
 pub struct Pass<B: Ledger> {
     pub(crate) share: Share<B>,
     pub(crate) receipts: Vec<Receipt>,
+    pub(crate) ran: Vec<u32>,
+}
+
+/// The two columns of a pass: what its caller's calls added to the history, and what its runs did.
+#[derive(Clone, Copy, Debug, PartialEq, Eq)]
+pub enum Column {
+    Calls,
+    Runs,
 }
 
 impl<B: Ledger> Model for Pass<B> {
-    ghost use Rattle.std.specs.Prelude.{◌≡◌, List, length};
-    ghost use Rattle.ic_shared.specs.declared.receipts.Receipt.{Receipt};
+    ghost use Rattle.std.specs.Prelude.{◌≡◌, ◌+◌, length};
+    ghost use Rattle.ic_shared.specs.Passes.{PassView};
 
-    ghost Value = { List Receipt };
+    ghost Value = { PassView };
 
-    ghost view = { λ p. p.receipts.items };
+    ghost view = { λ p. record { receipts = p.receipts.items; ran = p.ran.items } };
 
-    ghost invariant = { λ p. (p.share.parts ≡ 1) × (p.share.amount ≡ length p.receipts.items) };
+    ghost invariant = { λ p. (p.share.parts ≡ 1) × (p.share.amount ≡ length p.receipts.items + length p.ran.items) };
 }
 
 impl<B: Ledger> Pass<B> {
-    /// The number of receipts.
+    /// The number of lines that its caller added.
     pub fn len(&self) -> usize
-        ensures { result ≡ length self.now }
+        ensures { result ≡ added_by self.now }
     {
-        self.receipts.len()
+        self.receipts.len() + self.ran.len()
     }
 
-    /// The receipts.
+    /// The receipts of the caller's calls.
     pub fn receipts(&self) -> &[Receipt]
-        ensures { result.now ≡ self.now }
+        ensures { result.now ≡ self.now.receipts }
     {
         self.receipts.as_slice()
     }
 
-    /// The number on the receipt at this place; `None` past the last one.
-    pub(crate) fn number_at(&self, place: usize) -> Option<u32>
-        ensures { MatchOption result (length self.now ≤ place) (λ n. NumberAt self.now place n) }
+    /// The number of the entry at this place of a column; `None` past the last one.
+    pub(crate) fn number_at(&self, column: Column, place: usize) -> Option<u32>
+        ensures { MatchOption result (length (the_column self.now column) ≤ place) (λ n. NumberAt (the_column self.now column) place n) }
     {
-        match self.receipts.get(place) {
-            Some(receipt) => Some(receipt.number),
-            None => None,
+        match column {
+            Column::Calls => match self.receipts.get(place) {
+                Some(receipt) => Some(receipt.number),
+                None => None,
+            },
+            Column::Runs => match self.ran.get(place) {
+                Some(number) => Some(*number),
+                None => None,
+            },
         }
     }
 
-    /// The number on the receipt at this place, where it is less than the one given.
-    pub(crate) fn less_at(&self, place: usize, number: u32) -> Option<u32>
-        ensures { MatchOption result ((n : ℕ) → NumberAt self.now place n → number ≤ n) (λ n. (n < number) × NumberAt self.now place n) }
+    /// The number of the entry at this place of a column, where it is less than the one given.
+    pub(crate) fn less_at(&self, column: Column, place: usize, number: u32) -> Option<u32>
+        ensures { MatchOption result ((n : ℕ) → NumberAt (the_column self.now column) place n → number ≤ n) (λ n. (n < number) × NumberAt (the_column self.now column) place n) }
     {
-        match self.number_at(place) {
+        match self.number_at(column, place) {
             Some(lesser) => { if lesser < number { Some(lesser) } else { None } }
             None => None,
         }
     }
 
-    /// Whether the receipt at this place has the number.
-    pub(crate) fn has_number(&self, place: usize, number: u32) -> bool
-        ensures { IsTrue result ↔ NumberAt self.now place number }
+    /// Whether the entry at this place of a column has the number.
+    pub(crate) fn has_number(&self, column: Column, place: usize, number: u32) -> bool
+        ensures { IsTrue result ↔ NumberAt (the_column self.now column) place number }
     {
-        match self.receipts.get(place) {
-            Some(receipt) => receipt.number == number,
+        match self.number_at(column, place) {
+            Some(found) => found == number,
             None => false,
         }
     }
 
-    /// Whether the receipt at this place is the line with the number.
-    pub(crate) fn confirms(&self, place: usize, bench: &Bench<Store>, number: u32) -> bool
-        ensures { IsTrue result ↔ Confirms bench.now.lines self.now place number }
+    /// Whether the entry at this place of a column is for the line with the number.
+    pub(crate) fn confirms(
+        &self,
+        column: Column,
+        place: usize,
+        bench: &Bench<Store>,
+        number: u32,
+    ) -> bool
+        ensures { IsTrue result ↔ Confirms bench.now.lines (the_column self.now column) place number }
     {
-        match self.receipts.get(place) {
-            Some(receipt) => {
-                receipt.number == number && bench.line_is(number, &receipt.call, receipt.reply)
-            }
-            None => false,
+        match column {
+            Column::Calls => match self.receipts.get(place) {
+                Some(receipt) => {
+                    receipt.number == number && bench.line_is(number, &receipt.call, receipt.reply)
+                }
+                None => false,
+            },
+            Column::Runs => match self.ran.get(place) {
+                Some(ran) => *ran == number && bench.line_fires(number),
+                None => false,
+            },
         }
     }
 }

@@ -5,7 +5,6 @@ ghost use Rattle.ic_shared.specs.Runs.{Ends, Runs, RunsForPass};
 use crate::chooser::Chooser;
 use crate::locked::Locked;
 use crate::passes::Pass;
-use crate::receipts::Receipt;
 use crate::shared::Shared;
 use std::sync::Wait;
 use std::sync::ledger::{Ledger, Share};
@@ -22,11 +21,10 @@ pub struct Ran {
 impl<B: Ledger> Shared<B> {
     /// Fires active pairs in turn, at most so many, and takes the lock of the bench once for all of them. The chooser chooses
     /// each by the bench as the one before left it, and hears each answer; no other call comes in between. The pass is given
-    /// a receipt for each line that this adds. The run ends where so many were fired, where nothing is chosen, and where a
+    /// the number of each line that this adds. The run ends where so many were fired, where nothing is chosen, and where a
     /// limit is met or memory is wanting, and nowhere else.
     ///
-    /// Where there is no memory for so many receipts the chooser isn't asked. A pair of which no event can be made for its
-    /// receipt is answered by `Memory`, and isn't fired.
+    /// Where there is no memory for so many numbers the chooser isn't asked.
     pub fn fire_run<R: Wait, C: Chooser>(
         &self,
         rt: &R,
@@ -40,14 +38,14 @@ impl<B: Ledger> Shared<B> {
         ensures ends { Ends C.chooses most result.calls result.refused chooser.new }
         ensures most { result.calls ≤ most }
     {
-        let Pass { share, receipts } = pass;
-        let Ok(()) = receipts.reserve(most) else {
+        let Pass { share, ran, .. } = pass;
+        let Ok(()) = ran.reserve(most) else {
             return Ran {
                 calls: 0,
                 refused: true,
             };
         };
-        self.locked.lock(rt).run(share, receipts, chooser, most)
+        self.locked.lock(rt).run(share, ran, chooser, most)
     }
 }
 
@@ -56,19 +54,19 @@ impl<B: Ledger> Locked<B> {
     fn run<C: Chooser>(
         &mut self,
         share: &mut Share<B>,
-        receipts: &mut Vec<Receipt>,
+        ran: &mut Vec<u32>,
         chooser: &mut C,
         most: usize,
     ) -> Ran
         requires part { 0 < share.old.parts }
-        requires room { vec_len receipts.old + most ≤ vec_capacity receipts.old }
+        requires room { vec_len ran.old + most ≤ vec_capacity ran.old }
         requires holds { C.holds chooser.old }
         ensures kept { C.holds chooser.new }
-        ensures run { Runs C.chooses C.hears self.old.bench chooser.old receipts.old.items self.new.bench chooser.new receipts.new.items result.calls result.refused }
+        ensures run { Runs C.chooses C.hears self.old.bench chooser.old ran.old.items self.new.bench chooser.new ran.new.items result.calls result.refused }
         ensures ends { Ends C.chooses most result.calls result.refused chooser.new }
         ensures most { result.calls ≤ most }
         ensures parts { share.new.parts ≡ share.old.parts }
-        ensures amount { share.new.amount + length receipts.old.items ≡ share.old.amount + length receipts.new.items }
+        ensures amount { share.new.amount + length ran.old.items ≡ share.old.amount + length ran.new.items }
     {
         for calls in 0..most {
             let Some(pair) = chooser.choose(&self.bench) else {
@@ -77,7 +75,7 @@ impl<B: Ledger> Locked<B> {
                     refused: false,
                 };
             };
-            let answer = self.fire_pair(share, receipts, pair);
+            let answer = self.fire_pair(share, ran, pair);
             chooser.hear(&answer);
             if answer.is_err() {
                 return Ran {

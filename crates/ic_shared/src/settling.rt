@@ -1,6 +1,6 @@
 // What is compared once all threads are done.
 ghost use Rattle.std.specs.Prelude.{◌≡◌, ◌≢◌, ◌+◌, ◌^◌, ◌++◌, ◌<◌, ◌≤◌, length, drop, slice_get, IfOk, IfErr, IfSome, IfNone};
-ghost use Rattle.ic_shared.specs.Settles.{lengths};
+ghost use Rattle.ic_shared.specs.Passes.{added_by_all};
 ghost use Rattle.ic_shared.specs.Agrees.{Agrees};
 ghost use Rattle.ic_shared.specs.Faults.{FaultIs};
 
@@ -15,11 +15,11 @@ use ic_name::Line;
 use std::sync::ledger::{Book, Ledger, Share};
 
 /// Lends the part of each pass to `all` in turn, and reads the book once every part is there. It shows that the callers
-/// have as many receipts together as lines were added, and changes nothing.
+/// have as many receipts and numbers together as lines were added, and changes nothing.
 fn audit<B: Ledger>(book: &mut Book<B>, all: &mut Share<B>, passes: &mut [Pass<B>])
     requires parts { all.old.parts + length passes.old ≡ B.parts }
     requires some { 0 < all.old.parts }
-    ensures total { book.old.total ≡ all.old.amount + lengths passes.old }
+    ensures total { book.old.total ≡ all.old.amount + added_by_all passes.old }
     ensures book { book.new.total ≡ book.old.total }
     ensures all { (all.new.parts ≡ all.old.parts) × (all.new.amount ≡ all.old.amount) }
     ensures passes { passes.new ≡ passes.old }
@@ -27,8 +27,12 @@ fn audit<B: Ledger>(book: &mut Book<B>, all: &mut Share<B>, passes: &mut [Pass<B
     match passes.split_first_mut() {
         None => book.audit(all),
         Some((pass, rest)) => {
-            let Pass { share, receipts } = pass;
-            let count = receipts.len() as u64;
+            let Pass {
+                share,
+                receipts,
+                ran,
+            } = pass;
+            let count = (receipts.len() + ran.len()) as u64;
             share.give(all, 1, count);
             audit(book, all, rest);
             all.give(share, 1, count);
@@ -52,14 +56,14 @@ fn first_other(bench: &Bench<Store>, lines: &[Line]) -> Option<u32>
     None
 }
 
-/// Compares the opening and the receipts of all passes with the history, once nobody shares the bench any more. It takes no
-/// memory.
+/// Compares the opening and all passes with the history, once nobody shares the bench any more. It takes no memory.
 ///
-/// For an answer of `Ok` the bench has the start of the opening, its history is the opening's lines and then exactly the
-/// receipts of the passes, each under its number, and the lines that were added are counted. It is `Missing` exactly where
-/// there are not as many passes as were given out. It is `Mismatch` only where all passes are there, and then what the
-/// opening and the passes say is false at its number: the history's length where the start is another or the receipts are
-/// too few or too many, before any line or receipt is looked at; else the number of a line or a receipt.
+/// For an answer of `Ok` the bench has the start of the opening, its history is the opening's lines and then exactly those of
+/// the passes, each told by one receipt under its number, or a call to fire whose number one run noted; and the lines that
+/// were added are counted. It is `Missing` exactly where there are not as many passes as were given out. It is `Mismatch`
+/// only where all passes are there, and then what the opening and the passes say is false at its number: the history's
+/// length where the start is another or the passes have too few or too many lines, before any line is looked at; else the
+/// number of a line.
 pub fn settle<B: Ledger>(
     opening: Opening<B>,
     mut passes: Vec<Pass<B>>,

@@ -1,8 +1,9 @@
-ghost use Rattle.std.specs.Prelude.{◌≡◌, ◌+◌, ◌<◌, ◌≤◌, [], replicate, vec_len, vec_capacity, IfSome, IfOk, IfErr};
+ghost use Rattle.std.specs.Prelude.{◌≡◌, ◌+◌, ◌<◌, ◌≤◌, replicate, vec_len, vec_capacity, IfSome, IfOk, IfErr};
 ghost use Rattle.std.specs.Fn.{FnOnceReturnsAt};
 ghost use Rattle.ic_journal.specs.Views.{BenchView};
 ghost use Rattle.ic_journal.specs.Benches.{IsBench};
 ghost use Rattle.ic_shared.specs.Openings.{opened};
+ghost use Rattle.ic_shared.specs.Passes.{empty_pass};
 ghost use Rattle.ic_shared.specs.CallsForPass.{FiresForPass, UndoesForPass};
 
 use crate::limits::MAX_PASSES;
@@ -22,7 +23,7 @@ pub struct Shared<B: Ledger> {
     pub(crate) locked: Mutex<Locked<B>>,
 }
 
-/// Shares a bench among so many passes, from 1 to `MAX_PASSES` of them, which have no receipts yet. The opening keeps the start and
+/// Shares a bench among so many passes, from 1 to `MAX_PASSES` of them, which have no lines yet. The opening keeps the start and
 /// the history up to here. Where memory is wanting the bench comes back as it was.
 pub fn share<B: Ledger>(
     alloc: Global,
@@ -34,7 +35,7 @@ pub fn share<B: Ledger>(
     requires parts { (blank.parts ≡ B.parts) × (blank.parts ≡ passes + 1) }
     requires some { (0 < passes) × (passes ≤ MAX_PASSES) }
     ensures opening { IfOk result (λ r. r.1 ≡ opened bench.start bench.lines passes) }
-    ensures passes { IfOk result (λ r. r.2.items ≡ replicate passes []) }
+    ensures passes { IfOk result (λ r. r.2.items ≡ replicate passes empty_pass) }
     ensures err { IfErr result (λ b. b ≡ bench) }
 {
     let Ok(start) = bench.start().copy() else {
@@ -51,6 +52,7 @@ pub fn share<B: Ledger>(
         all.push_reserved(Pass {
             share: share.split_off(1, 0),
             receipts: Vec::new(alloc),
+            ran: Vec::new(alloc),
         });
     }
     let opening = Opening {
@@ -76,7 +78,11 @@ impl<B: Ledger> Shared<B> {
     ) -> Result<EventId, FireFault>
         ensures { FiresForPass proposal result pass.old pass.new }
     {
-        let Pass { share, receipts } = pass;
+        let Pass {
+            share,
+            receipts,
+            ..
+        } = pass;
         let Some(event) = event_with_room(receipts, &proposal) else {
             return Err(FireFault::Memory(proposal));
         };
@@ -90,7 +96,11 @@ impl<B: Ledger> Shared<B> {
     pub fn undo<R: Wait>(&self, rt: &R, pass: &mut Pass<B>, id: EventId) -> Result<(), UndoFault>
         ensures { UndoesForPass id result pass.old pass.new }
     {
-        let Pass { share, receipts } = pass;
+        let Pass {
+            share,
+            receipts,
+            ..
+        } = pass;
         let Ok(()) = receipts.reserve(1) else {
             return Err(UndoFault::Memory);
         };

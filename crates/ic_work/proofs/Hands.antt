@@ -1,7 +1,7 @@
 -- What a run leaves in a worker's hand.
 use Rattle.std.proofs.Common.{ℕ, Bool, List, refl, sym, ◌∙◌, subst}
 use Rattle.ic_journal.specs.Views.{BenchView}
-use Rattle.ic_shared.specs.declared.receipts.Receipt.{Receipt}
+use Rattle.ic_shared.specs.Passes.{PassView}
 use Rattle.ic_shared.specs.Runs.{Runs, begins, fires, chooses_none, RunsForPass, ran, lacked_memory}
 use Rattle.ic_work.specs.declared.hand.Hand.{Hand}
 use Rattle.ic_work.specs.Hands.{Stays}
@@ -25,13 +25,13 @@ then_stays a b = record {
 }
 
 -- a run whose every step leaves it
-run_stays : {first : BenchView} {began : Hand} {had : List Receipt} {after : BenchView} {left : Hand} {pass : List Receipt} {calls : ℕ} {refused : Bool}
-    → Runs (λ h bench pair k. Stays h k) (λ h answer k. Stays h k) first began had after left pass calls refused → Stays began left
+run_stays : {first : BenchView} {began : Hand} {had : List ℕ} {after : BenchView} {left : Hand} {numbers : List ℕ} {calls : ℕ} {refused : Bool}
+    → Runs (λ h bench pair k. Stays h k) (λ h answer k. Stays h k) first began had after left numbers calls refused → Stays began left
 run_stays {began = began} begins = stays_so began
 run_stays (fires run chosen fired heard) = then_stays (then_stays (run_stays run) chosen) heard
 run_stays (chooses_none run chosen) = then_stays (run_stays run) chosen
 
-pub stays : {began left : Hand} {old new : List Receipt} {calls : ℕ} {refused : Bool}
+pub stays : {began left : Hand} {old new : PassView} {calls : ℕ} {refused : Bool}
     → RunsForPass (λ h bench pair k. Stays h k) (λ h answer k. Stays h k) began old left new calls refused → Stays began left
-stays (ran bench after run) = run_stays run
-stays {began = began} (lacked_memory same receipts count end) = subst (Stays began) (sym same) (stays_so began)
+stays (ran bench after run same) = run_stays run
+stays {began = began} (lacked_memory same pass count end) = subst (Stays began) (sym same) (stays_so began)

@@ -1,4 +1,4 @@
-pub mod ReceiptLines
+pub mod RunLines
 pub mod SameStates
 pub mod HistoryParts
 pub mod FiringRuns
@@ -9,4 +9,3 @@ pub mod WholeSweeps
 pub mod Passes
 pub mod Hands
 pub mod Crews
-pub mod Unused

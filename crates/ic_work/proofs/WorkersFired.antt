@@ -1,4 +1,4 @@
--- What the workers did to a bench, by their receipts.
+-- What the workers did to a bench, by their passes.
 use Rattle.std.proofs.Common.{◌≡◌, ℕ, ◌+◌, ◌-◌, ◌≤◌, List, [], ◌∷◌, ◌++◌, length, drop, sym, subst, arith, length-append, ap, ◌∙◌}
 use Rattle.std.specs.Prelude.{All}
 use Rattle.std.proofs.lemmas.List.Elements.{All-push}
@@ -12,10 +12,9 @@ use Rattle.ic_claim.specs.Seats.{SeatValue}
 use Rattle.ic_journal.specs.Views.{BenchView}
 use Rattle.ic_journal.specs.Benches.{IsAt, IsBench}
 use Rattle.ic_reduce.specs.Continuing.{IsFire}
-use Rattle.ic_shared.specs.declared.receipts.Receipt.{Receipt}
 use Rattle.ic_shared.specs.Agrees.{Agrees}
 use Rattle.ic_shared.specs.Openings.{OpeningView, opened}
-use Rattle.ic_shared.specs.Settles.{lengths}
+use Rattle.ic_shared.specs.Passes.{PassView, added_by_all}
 use Rattle.ic_work.proofs.FiredByWorkers.{FiredByWorkers}
 use Rattle.ic_work.specs.Firings.{AreFirings}
 use Rattle.ic_work.specs.Sweeps.{Extends}
@@ -23,7 +22,8 @@ use Rattle.ic_work.specs.Workers.{AreFires, IsFirst}
 use Rattle.ic_work.proofs.Extending.{extends, extends_count}
 use Rattle.ic_work.proofs.FiringRuns.{firings_add, few_fired, count_fired, are_firings}
 use Rattle.ic_work.proofs.HistoryParts.{same_history, history_parts, history_on, carried, one_state}
-use Rattle.ic_work.proofs.ReceiptLines.{lines_fire}
+use Rattle.ic_work.proofs.Passes.{added_by_all-append}
+use Rattle.ic_work.proofs.RunLines.{lines_fire}
 use Rattle.ic_work.proofs.SameStates.{AreSame}
 
 -- the lines are firings from a state on, and lead to one that the bench is at
@@ -52,9 +52,9 @@ fires_from old new added bench bench' start lines fires st at =
       at = record { history = same_history (sym start) (sym lines) (history_on old.start old.lines at.history again.1); standing = alike_then run.at.standing again.2.standing };
     }
 
--- where the history agrees with the passes, and all their calls are to fire events, so many events more stand as were fired
-pub workers_fired : (old new : BenchView) (budget n lines : ℕ) (passes : List (List Receipt)) → IsBench old → IsBench new
-    → Agrees (opened old.start old.lines n) passes new lines → All AreFires passes → lengths passes ≤ budget
+-- where the history agrees with the passes, to which only runs of firings added, so many events more stand as were fired
+pub workers_fired : (old new : BenchView) (budget n lines : ℕ) (passes : List PassView) → IsBench old → IsBench new
+    → Agrees (opened old.start old.lines n) passes new lines → All AreFires passes → added_by_all passes ≤ budget
     → FiredByWorkers old budget (length new.events - length old.events) new
 workers_fired old new budget n lines passes bench bench' agrees all few = record {
   start = agrees.start;
@@ -92,16 +92,11 @@ workers_fired old new budget n lines passes bench bench' agrees all few = record
     counted : (st : State) → (at : IsAt old st) → (from st at).fired ≡ length new.events - length old.events
     counted st at = let c = extends_count old new _ (extends_from st at) in omega arith
 
--- the receipts of one pass more
-lengths-snoc : (home : List (List Receipt)) (pass : List Receipt) → lengths (home ++ pass ∷ []) ≡ lengths home + length pass
-lengths-snoc [] pass = omega arith
-lengths-snoc (p ∷ home) pass = let ih = lengths-snoc home pass in omega arith
-
 -- once the first worker is home, with no more tickets than the budget
-pub all_home : (old new : BenchView) (budget : ℕ) {table : TableId} {given n lines : ℕ} {opening : OpeningView} {seat : SeatValue} {pass : List Receipt} {home passes : List (List Receipt)}
+pub all_home : (old new : BenchView) (budget : ℕ) {table : TableId} {given n lines : ℕ} {opening : OpeningView} {seat : SeatValue} {pass : PassView} {home passes : List PassView}
     → IsBench old → IsBench new → opening ≡ opened old.start old.lines n → Agrees opening passes new lines → given ≡ budget → IsFirst table given seat pass home
     → length seat.view.tickets ≤ seat.view.budget → passes ≡ home ++ pass ∷ [] → FiredByWorkers old budget (length new.events - length old.events) new
 all_home old new budget {n = n} {lines = lines} {pass = pass} {home = home} {passes = passes} bench bench' is agrees whole first few same =
     workers_fired old new budget n lines passes bench bench' (subst (λ o. Agrees o passes new lines) is agrees)
     (subst (λ ps. All AreFires ps) (sym same) (All-push AreFires home pass first.all_fire first.fires))
-    (let l = ap lengths same ∙ lengths-snoc home pass in let a = first.spent in let b = first.tickets in omega (arith, l, a, b, few, whole))
+    (let l = ap added_by_all same ∙ added_by_all-append home pass in let a = first.spent in let b = first.tickets in omega (arith, l, a, b, few, whole))

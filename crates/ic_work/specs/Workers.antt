@@ -1,15 +1,13 @@
 -- Workers with their seats and passes.
-use Rattle.std.specs.Prelude.{◌≡◌, ◌≢◌, ◌+◌, ◌≤◌, ℕ, List, length, Option, Some, None, All}
+use Rattle.std.specs.Prelude.{◌≡◌, ◌≢◌, ◌+◌, ◌≤◌, ℕ, List, [], length, Option, Some, None, All}
 use Rattle.atomic_table.specs.Seated.{TableId}
 use Rattle.ic_claim.specs.Seats.{SeatValue}
-use Rattle.ic_reduce.specs.Continuing.{IsFire}
-use Rattle.ic_shared.specs.declared.receipts.Receipt.{Receipt}
-use Rattle.ic_shared.specs.Settles.{lengths}
+use Rattle.ic_shared.specs.Passes.{PassView, added_by, added_by_all}
 use Rattle.ic_set.specs.declared.pairs.ActivePair.{ActivePair}
 
--- all calls of a pass are to fire events
-abbrev pub AreFires : List Receipt → Type 0
-AreFires receipts = All (λ r. IsFire r.call) receipts
+-- all that the caller of a pass added it added by runs of firings
+abbrev pub AreFires : PassView → Type 0
+AreFires pass = pass.receipts ≡ []
 
 -- the seat is of the table, and holds no word
 pub record IsFree (table : TableId) (seat : SeatValue) : Type 0 where
@@ -28,9 +26,9 @@ abbrev pub Grips : Option ActivePair → Option ℕ → Type 0
 Grips None held = held ≡ None
 Grips (Some hint) held = held ≢ None
 
--- at most so many calls were made, each to fire an event
-pub record MayFire (most : ℕ) (old new : List Receipt) : Type 0 where
-  pub few : length new ≤ length old + most
+-- at most so many lines were added, each by a run of firings
+pub record MayFire (most : ℕ) (old new : PassView) : Type 0 where
+  pub few : added_by new ≤ added_by old + most
   pub fires : AreFires old → AreFires new
 
 -- the seat draws tickets, each of which is unused
@@ -41,36 +39,36 @@ pub record DrawsMore (old : SeatValue) (unused : ℕ) (new : SeatValue) (unused'
   pub held : new.view.held ≡ old.view.held
   pub drawn : length new.view.tickets + unused ≡ length old.view.tickets + unused'
 
--- a worker has drawn a ticket for each call that it made, and all calls are to fire events
-pub record Works (seat : SeatValue) (pass : List Receipt) (seat' : SeatValue) (pass' : List Receipt) : Type 0 where
+-- a worker has drawn a ticket for each line that it added, each by a run of firings
+pub record Works (seat : SeatValue) (pass : PassView) (seat' : SeatValue) (pass' : PassView) : Type 0 where
   pub table : seat'.table ≡ seat.table
   pub number : seat'.view.number ≡ seat.view.number
   pub budget : seat'.view.budget ≡ seat.view.budget
   pub free : seat'.view.held ≡ None
-  pub spent : length pass' + length seat.view.tickets ≤ length pass + length seat'.view.tickets
+  pub spent : added_by pass' + length seat.view.tickets ≤ added_by pass + length seat'.view.tickets
   pub fires : AreFires pass → AreFires pass'
 
 -- the same from one turn to another, where the worker has so many tickets that it hasn't used
-pub record WorksOn (unused : ℕ) (seat : SeatValue) (pass : List Receipt) (unused' : ℕ) (seat' : SeatValue) (pass' : List Receipt) : Type 0 where
+pub record WorksOn (unused : ℕ) (seat : SeatValue) (pass : PassView) (unused' : ℕ) (seat' : SeatValue) (pass' : PassView) : Type 0 where
   pub table : seat'.table ≡ seat.table
   pub number : seat'.view.number ≡ seat.view.number
   pub budget : seat'.view.budget ≡ seat.view.budget
   pub free : seat'.view.held ≡ None
-  pub spent : length pass' + length seat.view.tickets + unused' ≤ length pass + length seat'.view.tickets + unused
+  pub spent : added_by pass' + length seat.view.tickets + unused' ≤ added_by pass + length seat'.view.tickets + unused
   pub fires : AreFires pass → AreFires pass'
 
--- a worker but the first one: it holds no word, and has a ticket for each of its calls, all of which are to fire events
-pub record IsGuest (table : TableId) (seat : SeatValue) (pass : List Receipt) : Type 0 where
+-- a worker but the first one: it holds no word, and has a ticket for each line that it added, each by a run of firings
+pub record IsGuest (table : TableId) (seat : SeatValue) (pass : PassView) : Type 0 where
   pub seated : IsFree table seat
   pub later : seat.view.number ≢ 0
-  pub spent : length pass ≤ length seat.view.tickets
+  pub spent : added_by pass ≤ length seat.view.tickets
   pub fires : AreFires pass
 
--- the first worker, with what it has taken in: it has a ticket for each call of its own and of those whose passes are home,
--- and all are to fire events
-pub record IsFirst (table : TableId) (budget : ℕ) (seat : SeatValue) (pass : List Receipt) (home : List (List Receipt)) : Type 0 where
+-- the first worker, with what it has taken in: it has a ticket for each line of its own and of those whose passes are home,
+-- and all were added by runs of firings
+pub record IsFirst (table : TableId) (budget : ℕ) (seat : SeatValue) (pass : PassView) (home : List PassView) : Type 0 where
   pub seated : IsFree table seat
   pub tickets : seat.view.budget ≡ budget
-  pub spent : lengths home + length pass ≤ length seat.view.tickets
+  pub spent : added_by_all home + added_by pass ≤ length seat.view.tickets
   pub fires : AreFires pass
   pub all_fire : All AreFires home

@@ -1,6 +1,7 @@
 ghost use Rattle.std.specs.Prelude.{◌≡◌, ◌+◌, ◌<◌, ◌≤◌, ℕ, [], All, IfErr, IfOk, replicate, vec_len, vec_capacity};
 ghost use Rattle.ic_claim.specs.Views.{new_view};
 ghost use Rattle.ic_reduce.specs.Reduced.{Reduces};
+ghost use Rattle.ic_shared.specs.Passes.{empty_pass};
 ghost use Rattle.ic_work.specs.Sweeps.{IsGivenBack, Sweeps};
 ghost use Rattle.ic_work.specs.Workers.{IsFirst, IsGuest};
 
@@ -31,7 +32,7 @@ use std::thread::Threads;
 /// `Budget` where as many were fired as the budget says, `Limit` where the firing of the active pair with the least
 /// lead meets a limit, and `Memory` where fewer were fired and memory was wanting.
 ///
-/// `SweepFault::Memory` comes only before anything is fired, and `SweepFault::Settle` where the workers' receipts
+/// `SweepFault::Memory` comes only before anything is fired, and `SweepFault::Settle` where the workers' passes
 /// aren't what the history says; each hands the bench back. The gate sees each commit; no lock is held then. It may be
 /// asked of tickets that aren't used in the end.
 pub fn sweep<G: Gate, R: Threads + Wait + Sync>(
@@ -165,7 +166,7 @@ fn split_off_others<B: Ledger>(
     requires new { seat.old.view ≡ new_view claims.now.budget 0 }
     requires hints { vec_len hints ≡ vec_len passes }
     requires some { (0 < vec_len passes) × (vec_len passes ≤ MAX_WORKERS) }
-    requires unused { passes.items ≡ replicate (vec_len passes) [] }
+    requires unused { passes.items ≡ replicate (vec_len passes) empty_pass }
     requires room { (vec_len others.old ≡ 0) × (vec_len passes ≤ vec_capacity others.old) }
     ensures first { IsFirst claims.now.table claims.now.budget seat.new result.1 [] }
     ensures guests { All (λ w. IsGuest claims.now.table w.seat w.pass) others.new.items }

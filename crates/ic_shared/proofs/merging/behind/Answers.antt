@@ -1,13 +1,19 @@
-use Rattle.std.proofs.Common.{arith, below_more}
+use Rattle.std.proofs.Common.{◌/◌, arith, below_more}
+use Rattle.ic_shared.specs.Passes.{column, columns}
 use Rattle.ic_shared.proofs.Owned.{get_at, next_of}
 use Rattle.ic_shared.proofs.merging.behind.Goals as goal
 
-pub loop-p-preserved : goal.loop-p-preserved
-loop-p-preserved g c = below_more _ _ c.loop-p.invariant
-    (λ n h. c.in-None.ensures n (next_of c.args.passes.now c.args.cursors.now c.loop-p.p n c.index-passes-p.result (get_at c.args.passes.now c.loop-p.p _ _ c.loop-p-test.true c.index-passes-p.is) h))
+pub loop-c-preserved : goal.loop-c-preserved
+loop-c-preserved g c =
+    let pass = get_at c.args.passes.now (c.loop-c.c / 2) _ _ (omega arith) c.index-passes-c.is in
+    let there = c.column_of.ensures c.args.passes.now c.index-passes-c.result pass in
+    below_more _ _ c.loop-c.invariant (λ n h. c.in-None.ensures n (next_of (columns c.args.passes.now) c.args.cursors.now c.loop-c.c n _ there h))
 
 pub returns-in-Some-clause-some : goal.returns-in-Some-clause-some
-returns-in-Some-clause-some g c = (c.in-Some.ensures.0, (c.loop-p.p, (c.index-passes-p.result, get_at c.args.passes.now c.loop-p.p _ _ c.loop-p-test.true c.index-passes-p.is, c.in-Some.ensures.1)))
+returns-in-Some-clause-some g c =
+    let pass = get_at c.args.passes.now (c.loop-c.c / 2) _ _ (omega arith) c.index-passes-c.is in
+    let there = c.column_of.ensures c.args.passes.now c.index-passes-c.result pass in
+    (c.in-Some.ensures.0, (c.loop-c.c, (column c.index-passes-c.result c.column_of.result, there, c.in-Some.ensures.1)))
 
 pub returns-clause-none : goal.returns-clause-none
-returns-clause-none g c = λ p lt. c.loop-p.invariant p (omega arith)
+returns-clause-none g c = λ p lt. c.loop-c.invariant p (omega arith)

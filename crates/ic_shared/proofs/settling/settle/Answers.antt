@@ -1,6 +1,6 @@
 use Rattle.std.proofs.Common.{length, refl, sym, ap, ◌∙◌, arith}
 use Rattle.ic_shared.specs.Agrees.{other_start}
-use Rattle.ic_shared.specs.Settles.{lengths}
+use Rattle.ic_shared.specs.Passes.{added_by_all}
 use Rattle.ic_shared.proofs.Agreeing.{agrees, false_at, line_false_at, put_back}
 use Rattle.ic_shared.proofs.settling.settle.Goals as goal
 
@@ -11,7 +11,7 @@ returns-in-Ok-clause-ok g c =
     let items = ap (λ o. o.lines) v in
     let total = c.audit.ensures.total in
     let none = c.opening.invariant.1 in
-    let same = ap lengths c.as_mut_slice.ensures.value in
+    let same = ap added_by_all c.as_mut_slice.ensures.value in
     let kept = c.into_locked-bench.result.counted in
     let number = c.lines-number.ensures in
     agrees c.args.opening c.args.passes.items c.as_slice-2.result.now c.into_locked-bench.result.bench c.as_slice.result.now c.into_locked-bench.result.base c.lines-number.result
@@ -32,7 +32,7 @@ returns-in-Some-clause-err g c =
     let items = ap (λ o. o.lines) v in
     let total = c.audit.ensures.total in
     let none = c.opening.invariant.1 in
-    let same = ap lengths c.as_mut_slice.ensures.value in
+    let same = ap added_by_all c.as_mut_slice.ensures.value in
     let kept = c.into_locked-bench.result.counted in
     line_false_at c.args.opening c.args.passes.items c.into_locked-bench.result.bench c.as_slice.result.now c.into_locked-bench.result.base c.in-Some.other
     (len ∙ sym c.len.ensures ∙ c.if-len-count.false ∙ ap (λ o. o.passes) v)
@@ -49,7 +49,7 @@ returns-clause-err g c =
     let items = ap (λ o. o.lines) v in
     let total = c.audit.ensures.total in
     let none = c.opening.invariant.1 in
-    let same = ap lengths c.as_mut_slice.ensures.value in
+    let same = ap added_by_all c.as_mut_slice.ensures.value in
     let kept = c.into_locked-bench.result.counted in
     false_at c.args.opening c.args.passes.items c.into_locked-bench.result.bench c.as_slice.result.now c.into_locked-bench.result.base c.in-Err.wrong
     (len ∙ sym c.len.ensures ∙ c.if-len-count.false ∙ ap (λ o. o.passes) v)

@@ -1,14 +1,13 @@
-use Rattle.std.proofs.Common.{rules, ◌≡◌, List, [], All, Some, length, ap, sym, subst, ◌∙◌, arith}
+use Rattle.std.proofs.Common.{rules, ◌≡◌, List, All, Some, ap, sym, subst, ◌∙◌, arith}
 use Rattle.std.proofs.lemmas.List.Elements.{All-pop, All-push}
-use Rattle.ic_shared.specs.declared.receipts.Receipt.{Receipt}
+use Rattle.ic_shared.specs.Passes.{PassView, added_by, empty_pass}
 use Rattle.ic_work.specs.Workers.{IsGuest}
 use Rattle.ic_work.specs.declared.worker.Worker.{Worker}
-use Rattle.ic_work.proofs.Unused.{unused_fires}
 use Rattle.ic_work.proofs.sweeping.split_off_others.Goals as goal
 
 pub loop-number-preserved : goal.loop-number-preserved
 loop-number-preserved g c =
-    let P : List Receipt → Type 0 = λ rs. rs ≡ [] in
+    let P : PassView → Type 0 = λ p. p ≡ empty_pass in
     let Q : Worker g.row.B.Denot → Type 0 = λ w. IsGuest c.args.claims.now.table w.seat w.pass in
     let i = c.loop-number.invariant in
     let rest = All-pop P c.loop-number.passes.items c.pop-in-loop-number.new.self.items (Some c.in-Some-pop.pass) c.in-Some-pop.ensures.items i.9 in
@@ -28,8 +27,8 @@ loop-number-preserved g c =
     let guest : IsGuest c.args.claims.now.table c.split.result c.in-Some-pop.pass = record {
       seated = record { placed = c.split.ensures.tables.1 ∙ i.0; free = ap (λ v. v.held) next };
       later = λ e. (let n = sym number ∙ e in absurd (omega (arith, n)));
-      spent = (let none = ap length rest.1 in omega arith);
-      fires = unused_fires c.in-Some-pop.pass rest.1;
+      spent = (let none = ap added_by rest.1 in omega arith);
+      fires = ap (λ p. p.receipts) rest.1;
     } in (
       c.split.ensures.tables.0 ∙ i.0,
       ap (λ v. v.held) counted ∙ i.1,
@@ -46,13 +45,13 @@ loop-number-preserved g c =
 
 pub returns-clause-first : goal.returns-clause-first
 returns-clause-first g c =
-    let P : List Receipt → Type 0 = λ rs. rs ≡ [] in
+    let P : PassView → Type 0 = λ p. p ≡ empty_pass in
     let i = c.loop-number.invariant in
     let rest = All-pop P c.loop-number.passes.items c.pop-3.new.self.items (Some c.in-Some-pop-3.pass) c.in-Some-pop-3.ensures.items i.9 in
     record {
       seated = record { placed = i.0; free = i.1 };
       tickets = i.3;
-      spent = (let none = ap length rest.1 in omega arith);
-      fires = unused_fires c.in-Some-pop-3.pass rest.1;
+      spent = (let none = ap added_by rest.1 in omega arith);
+      fires = ap (λ p. p.receipts) rest.1;
       all_fire = search rules;
     }

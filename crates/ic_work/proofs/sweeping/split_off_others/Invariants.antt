@@ -1,5 +1,5 @@
-use Rattle.std.proofs.Common.{◌≡◌, ◌+◌, ◌≤◌, [], All, None, List, vec_len, vec_capacity}
-use Rattle.ic_shared.specs.declared.receipts.Receipt.{Receipt}
+use Rattle.std.proofs.Common.{◌≡◌, ◌+◌, ◌≤◌, All, None, vec_len, vec_capacity}
+use Rattle.ic_shared.specs.Passes.{empty_pass}
 use Rattle.ic_work.specs.Workers.{IsGuest}
 use Rattle.ic_work.proofs.sweeping.split_off_others.Given as goal
 
@@ -14,5 +14,5 @@ invariant-loop-number g l =
     × (vec_len l.passes + l.number ≡ vec_len l.initial.passes + 1)
     × (vec_len l.others + 1 ≡ l.number)
     × (vec_len l.initial.passes ≤ vec_capacity l.others)
-    × All (λ (rs : List Receipt). rs ≡ []) l.passes.items
+    × All (λ p. p ≡ empty_pass) l.passes.items
     × All (λ w. IsGuest l.claims.table w.seat w.pass) l.others.items

@@ -13,7 +13,7 @@ returns-in_default-clause-ends g c = chose_none c.loop-calls.self.bench c.loop-c
 
 pub returns-then-is_err-clause-run : goal.returns-then-is_err-clause-run
 returns-then-is_err-clause-run g c =
-    subst (λ (b : Bool). Runs g.C.Chooser.chooses g.C.Chooser.hears c.args.self.now.bench c.args.chooser.now c.args.receipts.now.items c.fire_pair-answer.new.self.bench c.hear.new.self c.fire_pair-answer.new.receipts.items (c.loop-calls.calls + 1) b)
+    subst (λ (b : Bool). Runs g.C.Chooser.chooses g.C.Chooser.hears c.args.self.now.bench c.args.chooser.now c.args.ran.now.items c.fire_pair-answer.new.self.bench c.hear.new.self c.fire_pair-answer.new.ran.items (c.loop-calls.calls + 1) b)
     (sym c.is_err.ensures.value ∙ c.if-is_err.true)
     (fires c.loop-calls.invariant.run c.in-Some.ensures.chosen c.fire_pair-answer.ensures.fires c.hear.ensures.heard)
 
@@ -27,7 +27,7 @@ loop-calls-preserved g c =
     let more = c.fire_pair-answer.ensures.amount in record {
       holds = c.hear.ensures.kept;
       run =
-          subst (λ (b : Bool). Runs g.C.Chooser.chooses g.C.Chooser.hears c.args.self.now.bench c.args.chooser.now c.args.receipts.now.items c.fire_pair-answer.new.self.bench c.hear.new.self c.fire_pair-answer.new.receipts.items (c.loop-calls.calls + 1) b)
+          subst (λ (b : Bool). Runs g.C.Chooser.chooses g.C.Chooser.hears c.args.self.now.bench c.args.chooser.now c.args.ran.now.items c.fire_pair-answer.new.self.bench c.hear.new.self c.fire_pair-answer.new.ran.items (c.loop-calls.calls + 1) b)
           (sym c.is_err.ensures.value ∙ c.if-is_err.false)
           (fires i.run c.in-Some.ensures.chosen c.fire_pair-answer.ensures.fires c.hear.ensures.heard);
       parts = c.fire_pair-answer.ensures.parts ∙ i.parts;

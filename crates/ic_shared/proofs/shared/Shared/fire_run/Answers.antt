@@ -1,10 +1,13 @@
-use Rattle.std.proofs.Common.{List, ◌∙◌, subst}
-use Rattle.ic_shared.specs.declared.receipts.Receipt.{Receipt}
-use Rattle.ic_shared.specs.Runs.{RunsForPass, ran}
+use Rattle.std.proofs.Common.{ℕ, List, ap, ◌∙◌, subst}
+use Rattle.ic_shared.specs.Passes.{PassView}
+use Rattle.ic_shared.specs.Runs.{Runs, ran}
 use Rattle.ic_shared.proofs.shared.Shared.fire_run.Goals as goal
 
 pub returns-clause-run : goal.returns-clause-run
 returns-clause-run g c =
-    subst (λ (had : List Receipt). RunsForPass g.C.Chooser.chooses g.C.Chooser.hears c.args.chooser.now had c.run.new.chooser c.run.new.receipts.items c.run.result.calls c.run.result.refused)
-    (c.in-Ok.ensures.items ∙ c.pass.view_is)
-    (ran c.deref_mut.result.now.bench c.run.new.self.bench c.run.ensures.run)
+    let bench = c.deref_mut.result.now.bench in
+    let after = c.run.new.self.bench in
+    ran bench after
+    (subst (λ (had : List ℕ). Runs g.C.Chooser.chooses g.C.Chooser.hears bench c.args.chooser.now had after c.run.new.chooser c.run.new.ran.items c.run.result.calls c.run.result.refused)
+    (◌∙◌ {A = List ℕ} c.in-Ok.ensures.items (ap (λ (p : PassView). p.ran) c.pass.view_is)) c.run.ensures.run)
+    (ap (λ (p : PassView). p.receipts) c.pass.view_is)
