@@ -87,7 +87,7 @@ impl Desk<Store> {
     /// the desk comes back with the answer.
     ///
     /// `DeskFault::Memory` where the history has grown and there is no memory for the answer, and `DeskFault::Settle` where
-    /// the workers' receipts aren't what the history says, which takes a `reduce` and two workers or more; the desk is gone then.
+    /// the workers' passes aren't what the history says, which takes a `reduce` and two workers or more; the desk is gone then.
     pub fn carry_out_with<T: Threads + Wait + Sync, G: Gate>(
         mut self,
         threads: &T,
@@ -116,7 +116,7 @@ impl Desk<Store> {
     /// stay. Where there is no memory for a sweep, the answer says so, and nothing has changed. The gate sees each commit.
     ///
     /// `DeskFault::Memory` where the history has grown and there is no memory to tell how many events were fired, and
-    /// `DeskFault::Settle` where the workers' receipts aren't what the history says.
+    /// `DeskFault::Settle` where the workers' passes aren't what the history says.
     pub fn sweep<T: Threads + Wait + Sync, G: Gate>(
         self,
         threads: &T,
