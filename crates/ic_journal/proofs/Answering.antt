@@ -1,5 +1,5 @@
 -- What a bench keeps through a call.
-use Rattle.std.proofs.Common.{◌≡◌, ◌≢◌, ℕ, ◌+◌, ◌≤◌, ◌<◌, map, Err, List, [], ◌∷◌, ◌++◌, ◌∙◌, length, ◌⊎◌, inl, inr, refl, sym, ap, subst, arith, length-append}
+use Rattle.std.proofs.Common.{◌≡◌, ◌≢◌, ℕ, ◌+◌, ◌≤◌, ◌<◌, map, List, [], ◌∷◌, ◌++◌, ◌∙◌, length, ◌⊎◌, inl, inr, refl, sym, ap, subst, arith, length-append}
 use Rattle.std.proofs.lemmas.List.{length-map}
 use Rattle.ic_name.specs.Names.{Name, child_name}
 use Rattle.ic_name.specs.Events.{Event}
@@ -8,7 +8,6 @@ use Rattle.ic_name.specs.declared.ids.AgentId.{AgentId}
 use Rattle.ic_name.specs.declared.ids.EventId.{EventId}
 use Rattle.ic_name.specs.declared.limits.TheConstants.{MAX_LINES}
 use Rattle.ic_name.specs.declared.lines.Call.{Call}
-use Rattle.ic_name.specs.declared.lines.Call.TheVariants.{Fire}
 use Rattle.ic_name.specs.declared.lines.Reply.{Reply}
 use Rattle.ic_name.specs.declared.lines.Line.{Line}
 use Rattle.ic_path.specs.Orders.{IsIn, none}
@@ -25,10 +24,7 @@ use Rattle.ic_set.specs.Views.{SetView, agent_of, AreChildren}
 use Rattle.ic_set.specs.Changes.{IsSame, Admits, TakesOut}
 use Rattle.ic_journal.specs.Views.{BenchView, set_of}
 use Rattle.ic_journal.specs.Benches.{fired_in, IsAt, HaveOwnSerials, IsRunning, Opens}
-use Rattle.ic_journal.specs.Calls.{Steps, Refuses, Fires}
-use Rattle.ic_journal.specs.declared.verdict.Refusal.{Refusal}
-use Rattle.ic_journal.specs.declared.verdict.Refusal.TheVariants.{NotActive, Deep, Full}
-use Rattle.ic_journal.specs.Verdicts.{reply_of, fault_of}
+use Rattle.ic_journal.specs.Calls.{Steps, Refuses}
 use Rattle.ic_journal.proofs.MachineSteps.{noted_step}
 
 -- a line more
@@ -111,12 +107,6 @@ refused_running old new call answer r same lines short answers =
       short = short;
       serials = same_serials old new r.serials (rw same (same_set (set_of old)));
     }
-
--- the answer of a refusal
-pub fires_refused : (old new : BenchView) (e : Event) (why : Refusal) → Refuses old (Fire e) (reply_of why) new → Fires old e (Err (fault_of why)) new
-fires_refused old new e NotActive h = h
-fires_refused old new e Deep h = h
-fires_refused old new e Full h = h
 
 -- each standing event was fired in a line that has been
 pub lines_below : (old : BenchView) → IsProper old.start → IsRunning old → (x : Stander) → IsIn x old.events → x.id.line < length old.lines

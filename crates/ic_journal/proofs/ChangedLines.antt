@@ -1,7 +1,7 @@
 -- What a line of a history changed.
-use Rattle.std.proofs.Common.{◌≡◌, ◌≢◌, ◌↔◌, ℕ, ◌+◌, ◌<◌, ◌≤◌, List, [], ◌∷◌, ◌++◌, length, slice_get, Option, Some, None, inl, inr, refl, sym, ap, subst, arith, ◌∙◌}
+use Rattle.std.proofs.Common.{◌≡◌, ◌≢◌, ◌↔◌, ℕ, ◌+◌, ◌<◌, ◌≤◌, List, [], ◌∷◌, ◌++◌, length, map, option_map, slice_get, Option, Some, None, inl, inr, refl, sym, ap, subst, arith, ◌∙◌}
 use Rattle.std.proofs.lemmas.Bool.{cases_lt}
-use Rattle.std.proofs.lemmas.Option.{slice_get_within, slice_get-get_or}
+use Rattle.std.proofs.lemmas.Option.{slice_get-map, slice_get_within, slice_get-get_or}
 use Rattle.ic_name.specs.Names.{Name, start_name}
 use Rattle.ic_name.specs.Events.{Event}
 use Rattle.ic_name.specs.declared.lines.Call.TheVariants.{Fire, Undo}
@@ -11,18 +11,17 @@ use Rattle.ic_path.specs.Orders.{IsIn}
 use Rattle.ic_path.proofs.Picks.{none_in, in_first, in-cons_cases, pick_before}
 use Rattle.ic_shown.proofs.Elements.{in_behind, in-append_cases}
 use Rattle.ic_roster.specs.declared.interaction.Interaction.{Interaction}
-use Rattle.ic_roster.specs.Rosters.{event_in, IsNamed}
+use Rattle.ic_roster.specs.Rosters.{event_in}
 use Rattle.ic_journal.specs.declared.kept.KeptLine.{KeptLine}
 use Rattle.ic_journal.specs.declared.kept.KeptLine.TheVariants as kept
-use Rattle.ic_journal.specs.declared.kept.Kinds.{Kinds}
-use Rattle.ic_journal.specs.declared.kept.Places.{Places}
-use Rattle.ic_journal.specs.declared.kept.RefusedProposal.{RefusedProposal}
-use Rattle.ic_journal.specs.declared.verdict.Refusal.{Refusal}
-use Rattle.ic_journal.specs.declared.verdict.Refusal.TheVariants as refusal
+use Rattle.ic_journal.specs.declared.verdict.Limit.{Limit}
+use Rattle.ic_journal.specs.declared.verdict.Limit.TheVariants.{Deep, Full}
 use Rattle.ic_journal.specs.Kept.{line_of}
-use Rattle.ic_journal.specs.Noted.{line_in}
-use Rattle.ic_journal.specs.Verdicts.{reply_of, refusal_of}
+use Rattle.ic_journal.specs.Noted as seen
+use Rattle.ic_journal.specs.Noted.{NotedLine, line_in, AreLinesNamed}
+use Rattle.ic_journal.specs.Verdicts.{reply_of}
 use Rattle.ic_journal.specs.Changed.{IsFiredIn, IsChangedIn, IsChanged, IsLeadFiredIn, IsLeadChangedIn}
+use Rattle.ic_journal.proofs.NotedLines.{image_at, noted_named}
 
 -- one value is held
 some_one : {x y : Name} → Some x ≡ Some y → x ≡ y
@@ -33,19 +32,19 @@ one_line : (lines : List Line) (k : ℕ) (x y : Line) → slice_get lines k ≡ 
 one_line lines k x y a b = cc
 
 -- a line that undid a firing is kept as one that did
-kept_undone : (names : List Name) (refused : List RefusedProposal) (l : KeptLine) (n : ℕ) → line_in names (line_of refused l) ≡ record { call = Undo n; reply = Undone } → l ≡ kept.Undone n
-kept_undone names refused (kept.Fired kinds places) n same = (let call = ap (λ (x : Line). x.call) same in absurd cc)
-kept_undone names refused (kept.Limited limit kinds places) n same = (let call = ap (λ (x : Line). x.call) same in absurd cc)
-kept_undone names refused (kept.Refused place) n same = (let call = ap (λ (x : Line). x.call) same in absurd cc)
-kept_undone names refused (kept.Undone m) n same = (let call = ap (λ (x : Line). x.call) same in cc)
-kept_undone names refused (kept.NotStanding m) n same = (let reply = ap (λ (x : Line). x.reply) same in absurd cc)
-kept_undone names refused (kept.Held m by) n same = (let reply = ap (λ (x : Line). x.reply) same in absurd cc)
+kept_undone : (names : List Name) (inactive : List Event) (l : KeptLine) (n : ℕ) → line_in names (line_of inactive l) ≡ record { call = Undo n; reply = Undone } → l ≡ kept.Undone n
+kept_undone names inactive (kept.Fired kinds places) n same = (let call = ap (λ (x : Line). x.call) same in absurd cc)
+kept_undone names inactive (kept.Limited limit kinds places) n same = (let call = ap (λ (x : Line). x.call) same in absurd cc)
+kept_undone names inactive (kept.NotActive place) n same = (let call = ap (λ (x : Line). x.call) same in absurd cc)
+kept_undone names inactive (kept.Undone m) n same = (let call = ap (λ (x : Line). x.call) same in cc)
+kept_undone names inactive (kept.NotStanding m) n same = (let reply = ap (λ (x : Line). x.reply) same in absurd cc)
+kept_undone names inactive (kept.Held m by) n same = (let reply = ap (λ (x : Line). x.reply) same in absurd cc)
 
 -- a line that undid nothing has changed what it fired
-pub only_fired : (names : List Name) (refused : List RefusedProposal) (lines : List Line) (k : ℕ) (l : KeptLine) (P : Name → Type 0) → slice_get lines k ≡ Some (line_in names (line_of refused l)) → ((n : ℕ) → l ≢ kept.Undone n) → ((n : Name) → P n ↔ IsLeadFiredIn lines k n) → (n : Name) → P n ↔ IsLeadChangedIn lines k n
-only_fired names refused lines k l P at other each n = (
+pub only_fired : (names : List Name) (inactive : List Event) (lines : List Line) (k : ℕ) (l : KeptLine) (P : Name → Type 0) → slice_get lines k ≡ Some (line_in names (line_of inactive l)) → ((n : ℕ) → l ≢ kept.Undone n) → ((n : Name) → P n ↔ IsLeadFiredIn lines k n) → (n : Name) → P n ↔ IsLeadChangedIn lines k n
+only_fired names inactive lines k l P at other each n = (
   λ p. let f = (each n).0 p in (f.0, inl f.1, f.2),
-  λ h. elim h.1 [ inl f ↦ (each n).1 (h.0, f, h.2) | inr u ↦ absurd (other u.0 (kept_undone names refused l u.0 (one_line lines k _ _ at u.1))) ],
+  λ h. elim h.1 [ inl f ↦ (each n).1 (h.0, f, h.2) | inr u ↦ absurd (other u.0 (kept_undone names inactive l u.0 (one_line lines k _ _ at u.1))) ],
 )
 
 -- the line of an undo that was done has changed what the line fired that it names
@@ -61,38 +60,45 @@ only_undone lines k l P at each n = (
   ],
 )
 
--- a refused call has another reply than a firing
-never_fired : (r : Refusal) → reply_of r ≡ Fired → ⊥
-never_fired refusal.NotActive q = cc
-never_fired refusal.Deep q = cc
-never_fired refusal.Full q = cc
+-- a limit has another reply than a firing
+never_fired : (limit : Limit) → reply_of limit ≡ Fired → ⊥
+never_fired Deep q = cc
+never_fired Full q = cc
 
--- a line that fired an event is kept as one that did
-kept_fired : (names : List Name) (refused : List RefusedProposal) (l : KeptLine) (e : Event) → line_in names (line_of refused l) ≡ record { call = Fire e; reply = Fired } → (kinds : Kinds) × (places : Places) × (l ≡ kept.Fired kinds places)
-kept_fired names refused (kept.Fired kinds places) e same = (kinds, places, refl)
-kept_fired names refused (kept.Limited limit kinds places) e same = absurd (never_fired (refusal_of limit) (ap (λ (x : Line). x.reply) same))
-kept_fired names refused (kept.Refused place) e same = absurd (never_fired _ (ap (λ (x : Line). x.reply) same))
-kept_fired names refused (kept.Undone m) e same = (let call = ap (λ (x : Line). x.call) same in absurd cc)
-kept_fired names refused (kept.NotStanding m) e same = (let call = ap (λ (x : Line). x.call) same in absurd cc)
-kept_fired names refused (kept.Held m by) e same = (let call = ap (λ (x : Line). x.call) same in absurd cc)
+-- a line that fired an event is seen as one that did
+firing_seen : (names : List Name) (l : NotedLine) (e : Event) → line_in names l ≡ record { call = Fire e; reply = Fired } → (i : Interaction) × (l ≡ seen.Fired i) × (event_in names i ≡ e)
+firing_seen names (seen.Fired i) e same = (i, refl, let call : Fire (event_in names i) ≡ Fire e = ap (λ (x : Line). x.call) same in cc)
+firing_seen names (seen.Limited limit i) e same = absurd (never_fired limit (ap (λ (x : Line). x.reply) same))
+firing_seen names (seen.NotActive f) e same = (let reply = ap (λ (x : Line). x.reply) same in absurd cc)
+firing_seen names (seen.Undone m) e same = (let call = ap (λ (x : Line). x.call) same in absurd cc)
+firing_seen names (seen.NotStanding m) e same = (let call = ap (λ (x : Line). x.call) same in absurd cc)
+firing_seen names (seen.Held m by) e same = (let call = ap (λ (x : Line). x.call) same in absurd cc)
 
--- a line that fired nothing has no lead
-pub none_fired : (names : List Name) (refused : List RefusedProposal) (lines : List Line) (k : ℕ) (l : KeptLine) → slice_get lines k ≡ Some (line_in names (line_of refused l)) → ((kinds : Kinds) (places : Places) → l ≢ kept.Fired kinds places) → (n : Name) → (◌≡◌ {A = Option Name} None (Some n)) ↔ IsLeadFiredIn lines k n
-none_fired names refused lines k l at other n = (λ q. absurd cc, λ h. (let f = kept_fired names refused l h.0 (one_line lines k _ _ at h.1) in absurd (other f.0 f.1 f.2)))
+module _ (names : List Name) (ls : List NotedLine) (k : ℕ) where
+  -- so is the one at a place
+  pub firing_at : (e : Event) → IsFiredIn (map (line_in names) ls) k e → (i : Interaction) × (slice_get ls k ≡ Some (seen.Fired i)) × (event_in names i ≡ e)
+  firing_at e at = let l = image_at (line_in names) ls k _ at in let f = firing_seen names l.0 e l.2 in (f.0, l.1 ∙ ap Some f.1, f.2)
 
--- the name at the place of a firing's lead is that of the agent that leads what the line fired
-pub lead_read : (names : List Name) (lines : List Line) (k : ℕ) (i : Interaction) (r : Option Name) → IsNamed names i → IsFiredIn lines k (event_in names i) → r ≡ slice_get names i.lead.place → (n : Name) → (r ≡ Some n) ↔ IsLeadFiredIn lines k n
-lead_read names lines k i r named at read n = (
-  λ q. (event_in names i, at, some_one (sym here ∙ q)),
-  λ h. (
-      let same : Fire (event_in names i) ≡ Fire h.0 = ap (λ (x : Line). x.call) (one_line lines k _ _ at h.1) in
-      let one : event_in names i ≡ h.0 = cc in
-      here ∙ ap Some (ap (λ (e : Event). e.lead) one ∙ h.2)
-      ),
-)
-  where
-    here : r ≡ Some (event_in names i).lead
-    here = read ∙ slice_get-get_or names i.lead.place (start_name 0) named.lead
+  -- a line that fired nothing has no lead
+  pub none_fired : ((i : Interaction) → slice_get ls k ≢ Some (seen.Fired i)) → (n : Name) → (◌≡◌ {A = Option Name} None (Some n)) ↔ IsLeadFiredIn (map (line_in names) ls) k n
+  none_fired none n = (λ q. absurd cc, λ h. (let f = firing_at h.0 h.1 in absurd (none f.0 f.1)))
+
+  -- the name at the place of a firing's lead is that of the agent that leads what the line fired
+  pub lead_read : AreLinesNamed names ls → (i : Interaction) → slice_get ls k ≡ Some (seen.Fired i) → (r : Option Name) → r ≡ slice_get names i.lead.place → (n : Name) → (r ≡ Some n) ↔ IsLeadFiredIn (map (line_in names) ls) k n
+  lead_read all i at r read n = (
+    λ q. (event_in names i, fired, some_one (sym here ∙ q)),
+    λ h. (
+        let same : Fire (event_in names i) ≡ Fire h.0 = ap (λ (x : Line). x.call) (one_line (map (line_in names) ls) k _ _ fired h.1) in
+        let one : event_in names i ≡ h.0 = cc in
+        here ∙ ap Some (ap (λ (e : Event). e.lead) one ∙ h.2)
+        ),
+  )
+    where
+      fired : IsFiredIn (map (line_in names) ls) k (event_in names i)
+      fired = slice_get-map (line_in names) ls k ∙ ap (option_map (line_in names)) at
+
+      here : r ≡ Some (event_in names i).lead
+      here = read ∙ slice_get-get_or names i.lead.place (start_name 0) (noted_named names ls k _ at all).lead
 
 -- a line between these two fired or undid an event that the agent leads
 abbrev pub IsLeadChangedBetween : List Line → ℕ → ℕ → Name → Type 0

@@ -9,8 +9,8 @@ use Rattle.ic_name.specs.declared.lines.Reply.TheVariants as reply
 use Rattle.ic_roster.specs.declared.interaction.Interaction.{Interaction}
 use Rattle.ic_roster.specs.Rosters.{IsNamed}
 use Rattle.ic_set.proofs.GrownNames.{Keeps, kept_name, kept_event}
-use Rattle.ic_journal.specs.Noted.{NotedLine, Fired, Limited, Refused, Undone, NotStanding, Held, line_in, IsLineNamed, AreLinesNamed}
-use Rattle.ic_journal.specs.Verdicts.{reply_of, refusal_of}
+use Rattle.ic_journal.specs.Noted.{NotedLine, Fired, Limited, NotActive, Undone, NotStanding, Held, line_in, IsLineNamed, AreLinesNamed}
+use Rattle.ic_journal.specs.Verdicts.{reply_of}
 
 -- a firing still has its places among the names
 pub still_named : (old new : List Name) → Keeps old new → (i : Interaction) → IsNamed old i → IsNamed new i
@@ -22,8 +22,8 @@ still_named old new keeps i named =
 -- a line is the one that it was
 kept_line : (old new : List Name) → Keeps old new → (l : NotedLine) → IsLineNamed old l → (line_in new l ≡ line_in old l) × IsLineNamed new l
 kept_line old new keeps (Fired i) named = (λ u. record { call = Fire (kept_event old new keeps i named u); reply = reply.Fired }, still_named old new keeps i named)
-kept_line old new keeps (Limited limit i) named = (λ u. record { call = Fire (kept_event old new keeps i named u); reply = reply_of (refusal_of limit) }, still_named old new keeps i named)
-kept_line old new keeps (Refused p) named = (refl, tt)
+kept_line old new keeps (Limited limit i) named = (λ u. record { call = Fire (kept_event old new keeps i named u); reply = reply_of limit }, still_named old new keeps i named)
+kept_line old new keeps (NotActive e) named = (refl, tt)
 kept_line old new keeps (Undone line) named = (refl, tt)
 kept_line old new keeps (NotStanding line) named = (refl, tt)
 kept_line old new keeps (Held line by) named = (refl, tt)

@@ -1,5 +1,5 @@
 -- One step of the machine, on what a bench shows.
-use Rattle.std.proofs.Common.{◌≡◌, ◌≢◌, ℕ, ◌+◌, ◌≤◌, List, [], ◌∷◌, ◌++◌, length, map, Result, Err, refl, sym, ap, subst, ◌∙◌}
+use Rattle.std.proofs.Common.{◌≡◌, ◌≢◌, ℕ, ◌+◌, ◌≤◌, List, [], ◌∷◌, ◌++◌, length, map, refl, sym, ap, subst, ◌∙◌}
 use Rattle.ic_name.specs.Events.{Event}
 use Rattle.ic_name.specs.declared.ids.EventId.{EventId}
 use Rattle.ic_name.specs.declared.lines.Call.{Call}
@@ -10,18 +10,14 @@ use Rattle.ic_path.specs.Orders.{Pick, here, IsIn, Alike}
 use Rattle.ic_path.proofs.Picks.{pick-map}
 use Rattle.ic_path.proofs.Alikes.{alike_back, alike_pick, alike_then, alike-cons, alike-map, alike-in}
 use Rattle.ic_shown.proofs.Elements.{map_cases}
-use Rattle.ic_theory.specs.Machine.{Standing, State, events, noted, IsDeep, IsFull, MachineStep, not_active, deep, full, fired, not_standing, held, undone, goes_on}
+use Rattle.ic_theory.specs.Machine.{Standing, State, events, noted, IsDeep, IsFull, MachineStep, not_active, fired, not_standing, held, undone, goes_on}
 use Rattle.ic_theory.specs.Active.{IsActive}
 use Rattle.ic_theory.proofs.Machines.{history_length}
 use Rattle.ic_theory.proofs.Normal.{active-alike}
 use Rattle.ic_roster.specs.Rosters.{Stander}
-use Rattle.ic_set.specs.Views.{NamedView, events_of, standing}
-use Rattle.ic_set.specs.declared.pairs.ActivePair.{ActivePair}
+use Rattle.ic_set.specs.Views.{events_of, standing}
 use Rattle.ic_set.specs.Changes.{Admits, TakesOut}
 use Rattle.ic_set.specs.Removal.{IsFree, IsLeast}
-use Rattle.ic_journal.specs.declared.verdict.Refusal.{Refusal}
-use Rattle.ic_journal.specs.declared.verdict.Refusal.TheVariants.{NotActive, Deep, Full}
-use Rattle.ic_journal.specs.Verdicts.{Judges, reply_of}
 use Rattle.ic_journal.specs.Views.{BenchView, set_of}
 use Rattle.ic_journal.specs.Benches.{fired_in, IsAt}
 use Rattle.ic_journal.specs.Calls.{Steps}
@@ -53,15 +49,9 @@ noted_step old new call answer same lines room answers = record {
   );
 }
 
--- what is judged of an event over a set is judged of the same event over the same set
-pub judged_same : {v w : NamedView} {e f : Event} (verdict : Result ActivePair Refusal) → v ≡ w → e ≡ f → Judges v.set e verdict → Judges w.set f verdict
-judged_same {v} {w} {e} {f} verdict same its j = subst (λ (x : NamedView). Judges x.set f verdict) same (subst (λ g. Judges v.set g verdict) its j)
-
--- why an event is refused is why the machine refuses it
-pub refusal_answer : (old : BenchView) (e : Event) (why : Refusal) → Judges (set_of old) e (Err why) → (st : State) → IsAt old st → MachineStep old.start st (Fire e) (reply_of why) (noted st)
-refusal_answer old e NotActive j st at = not_active (λ a. j (active-alike old.start (alike_back (events_at old at)) a))
-refusal_answer old e Deep j st at = deep (active-alike old.start (events_at old at) j.0) j.1
-refusal_answer old e Full j st at = full (active-alike old.start (events_at old at) j.0) j.1 (full-alike old.start e (events_at old at) j.2)
+-- an event that isn't active is refused as one
+pub inactive_answer : (old : BenchView) (e : Event) → ¬ (IsActive old.start (standing (set_of old)) e) → (st : State) → IsAt old st → MachineStep old.start st (Fire e) reply.NotActive (noted st)
+inactive_answer old e none st at = not_active (λ a. none (active-alike old.start (alike_back (events_at old at)) a))
 
 -- an active event within the limits is fired
 pub fired_step : (old new : BenchView) (e : Event) (id : EventId) → Admits (set_of old) e (length old.lines) id (set_of new)

@@ -1,5 +1,6 @@
 pub mod Views
 pub mod Noted
+pub mod Notes
 pub mod Kept
 pub mod Changed
 pub mod Histories

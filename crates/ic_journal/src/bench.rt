@@ -1,16 +1,18 @@
-ghost use Rattle.std.specs.Prelude.{◌≡◌, ◌≤◌, [], length, IfOk};
+ghost use Rattle.std.specs.Prelude.{◌≡◌, ◌<◌, ◌≤◌, [], length, Err, IfOk};
+ghost use Rattle.ic_name.specs.declared.limits.TheConstants.{MAX_LINES};
+ghost use Rattle.ic_theory.specs.Active.{IsActive};
 ghost use Rattle.ic_journal.specs.Benches.{IsBench, Opens};
 ghost use Rattle.ic_set.specs.Pairs.{Awakes};
 ghost use Rattle.ic_set.specs.Cleared.{AreAll};
+ghost use Rattle.ic_set.specs.Views.{standing};
 ghost use Rattle.ic_journal.specs.Views.{set_of};
 ghost use Rattle.ic_journal.specs.Calls.{id_answer, Fires, Undoes, Reserves};
 ghost use Rattle.ic_journal.specs.Undone.{AreIdsOfFree, AreUndoneFrom};
 
-use crate::faults::{FireFault, ReserveFault, UndoFault};
+use crate::faults::{FireFault, PairFault, ReserveFault, UndoFault};
 use crate::history::History;
-use crate::kept::{KeptLine, RefusedProposal};
+use crate::kept::KeptLine;
 use crate::proposal::Proposal;
-use crate::verdict::judge;
 use ic_link::LinkStore;
 use ic_name::EventId;
 use ic_name::limits::MAX_LINES;
@@ -113,22 +115,31 @@ impl<L: LinkStore> Bench<L> {
         if line == MAX_LINES {
             return Err(FireFault::HistoryFull(proposal));
         }
-        let Ok(()) = self.history.reserve(1) else {
-            return Err(FireFault::Memory(proposal));
+        let Some(pair) = self.set.bare().active_pair(proposal.event()) else {
+            return Err(self.note_not_active(proposal));
         };
-        let pair = match judge(self.set.bare(), proposal.event()) {
-            Ok(pair) => pair,
-            Err(refusal) => {
-                let refused = RefusedProposal { proposal, refusal };
-                if let Err(back) = self.history.note_refused(refused) {
-                    return Err(FireFault::Memory(back.proposal));
-                }
-                return Err(refusal.fault());
-            }
-        };
-        match self.admit_noted(pair) {
+        match self.fire_pair(pair) {
             Ok(fired) => Ok(fired),
-            Err(_) => Err(FireFault::Memory(proposal)),
+            Err(PairFault::HistoryFull) => Err(FireFault::HistoryFull(proposal)),
+            Err(PairFault::Deep) => Err(FireFault::Deep),
+            Err(PairFault::Full) => Err(FireFault::Full),
+            Err(PairFault::Memory) => Err(FireFault::Memory(proposal)),
+        }
+    }
+
+    /// Notes that the event of a proposal isn't active, and answers so: one step of the machine. `Memory` adds no line and
+    /// hands the proposal back.
+    fn note_not_active(&mut self, proposal: Proposal) -> FireFault
+        requires short { length self.old.lines < MAX_LINES }
+        requires inactive { ¬ (IsActive self.old.start (standing (set_of self.old)) proposal) }
+        ensures { Fires self.old proposal (Err result) self.new }
+    {
+        let Ok(()) = self.history.reserve(1) else {
+            return FireFault::Memory(proposal);
+        };
+        match self.history.note_not_active(proposal) {
+            Ok(()) => FireFault::NotActive,
+            Err(proposal) => FireFault::Memory(proposal),
         }
     }
 
@@ -148,12 +159,11 @@ impl<L: LinkStore> Bench<L> {
         let Ok(()) = self.history.reserve(1) else {
             return Err(UndoFault::Memory);
         };
-        let set = self.set.bare();
-        let Some(standing) = set.roster().at_line(id.line) else {
+        let Some(standing) = self.standing_of(id.line) else {
             self.history.note(KeptLine::NotStanding(id.line));
             return Err(UndoFault::NotStanding);
         };
-        match set.least_dependent(standing) {
+        match self.set.bare().least_dependent(standing) {
             Some(holder) => {
                 self.history.note(KeptLine::Held {
                     line: id.line,

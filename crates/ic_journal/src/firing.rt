@@ -47,7 +47,7 @@ impl<L: LinkStore> Bench<L> {
 
     /// Admits an active pair that meets no limit, and notes the line of its firing, for which there is room. At an error
     /// memory ran out, no line was added, and nothing that stands changed.
-    pub(crate) fn admit_noted(&mut self, pair: ActivePair) -> Result<Fired, AllocError>
+    fn admit_noted(&mut self, pair: ActivePair) -> Result<Fired, AllocError>
         requires room { 1 ≤ self.old.room }
         requires active { (e : AnEvent) × IsPairOf (set_of self.old) e pair × Meets (set_of self.old) e None }
         ensures fired { IfOk result (λ fired. (e : AnEvent) → IsPairOf (set_of self.old) e pair → FiresPair self.old e (Ok fired) self.new) }

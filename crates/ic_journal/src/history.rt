@@ -1,24 +1,28 @@
-ghost use Rattle.std.specs.Prelude.{◌≡◌, ◌+◌, ◌<◌, ◌≤◌, ◌++◌, ◌∷◌, ◌↔◌, [], length, map, reverse, slice_get, IsTrue, Some, IfOk, IfErr, OnOk, OnErr};
+ghost use Rattle.std.specs.Prelude.{◌≡◌, ◌≢◌, ◌+◌, ◌<◌, ◌≤◌, ◌++◌, ◌∷◌, ◌↔◌, [], length, map, reverse, slice_get, IsTrue, Some, IfSome, IfNone, IfOk, IfErr, OnOk, OnErr};
 ghost use Rattle.ic_name.specs.declared.limits.TheConstants.{MAX_LINES};
 ghost use Rattle.ic_name.specs.Names.{Name};
+ghost use Rattle.ic_roster.specs.declared.interaction.Interaction.{Interaction as AnInteraction};
 ghost use Rattle.ic_journal.specs.Changed.{IsLeadChangedIn, IsLeadFiredIn};
 ghost use Rattle.ic_journal.specs.Kept.{line_of, IsPlaced};
-ghost use Rattle.ic_journal.specs.Noted.{NotedLine as ANotedLine, IsCallToFire, Refused, Undone, line_in, AreLinesNamed};
+ghost use Rattle.ic_journal.specs.Noted.{NotedLine as ANotedLine, Fired, NotActive, Undone, line_in, AreLinesNamed};
+ghost use Rattle.ic_journal.specs.Notes.{noted_of, IsOfAPair};
 
-use crate::kept::{KeptLine, RefusedProposal, interaction};
+use crate::kept::KeptLine;
+use crate::notes::PairNote;
+use crate::proposal::Proposal;
 use ic_name::limits::MAX_LINES;
 use ic_name::{AgentName, Call, EventId, Line, Reply};
-use ic_names::NameTable;
+use ic_names::{NameId, NameTable};
 use ic_roster::Roster;
 use std::alloc::{AllocError, Global};
 use std::marker::Model;
 
-/// The lines of a history, and room for further ones; never more than `MAX_LINES` together. The proposals that were refused
-/// are kept apart from their lines.
+/// The lines of a history, and room for further ones; never more than `MAX_LINES` together. The proposals of events that
+/// weren't active are kept apart from their lines.
 #[derive(Drop)]
 pub(crate) struct History {
     lines: Vec<KeptLine>,
-    refused: Vec<RefusedProposal>,
+    inactive: Vec<Proposal>,
 }
 
 impl Model for History {
@@ -29,9 +33,9 @@ impl Model for History {
 
     ghost Value = { HistoryView };
 
-    ghost view = { λ h. record { lines = map (line_of h.refused.items) h.lines.items; room = min MAX_LINES (vec_capacity h.lines) - length h.lines.items } };
+    ghost view = { λ h. record { lines = map (line_of h.inactive.items) h.lines.items; room = min MAX_LINES (vec_capacity h.lines) - length h.lines.items } };
 
-    ghost invariant = { λ h. IsWhole h.refused.items h.lines.items };
+    ghost invariant = { λ h. IsWhole h.inactive.items h.lines.items };
 }
 
 impl History {
@@ -42,7 +46,7 @@ impl History {
     {
         History {
             lines: Vec::new(alloc),
-            refused: Vec::new(alloc),
+            inactive: Vec::new(alloc),
         }
     }
 
@@ -67,21 +71,17 @@ impl History {
         ensures { IsTrue result ↔ (slice_get (map (line_in names.now) self.now.lines) number ≡ Some (record { call = call.now; reply = reply })) }
     {
         match self.lines.get(number) {
-            Some(line) => {
-                line.has_call(&self.refused, names, call) && line.reply(&self.refused) == reply
-            }
+            Some(line) => { line.has_call(&self.inactive, names, call) && line.reply() == reply }
             None => false,
         }
     }
 
-    /// Whether there is a line with this number, and it is a call to fire an event.
-    pub fn fires(&self, number: usize) -> bool
-        ensures { IsTrue result ↔ ((l : ANotedLine) × (slice_get self.now.lines number ≡ Some l) × IsCallToFire l) }
+    /// The note of the line with this number; `None` where there is none, or it isn't a call to fire an active pair.
+    pub fn note_of(&self, number: usize) -> Option<PairNote>
+        ensures noted { IfSome result (λ note. slice_get self.now.lines number ≡ Some (noted_of note)) }
+        ensures none { IfNone result ((l : ANotedLine) → slice_get self.now.lines number ≡ Some l → ¬ (IsOfAPair l)) }
     {
-        match self.lines.get(number) {
-            Some(line) => line.fires(),
-            None => false,
-        }
+        self.lines.get(number)?.note()
     }
 
     /// The lines for which there is room.
@@ -105,7 +105,7 @@ impl History {
         Ok(())
     }
 
-    /// Notes a line that tells no refused proposal, where there is room. It takes no memory.
+    /// Notes a line that tells no such proposal, where there is room. It takes no memory.
     pub fn note(&mut self, line: KeptLine)
         requires room { 1 ≤ self.old.room }
         requires placed { IsPlaced [] line }
@@ -130,20 +130,20 @@ impl History {
         }
     }
 
-    /// Notes that a proposal was refused, where there is room for a line. At an error memory ran out; the proposal is
-    /// handed back, and nothing changes.
-    pub fn note_refused(&mut self, refused: RefusedProposal) -> Result<(), RefusedProposal>
+    /// Notes that the event of a proposal wasn't active, where there is room for a line. At an error memory ran out; the
+    /// proposal is handed back, and nothing changes.
+    pub fn note_not_active(&mut self, proposal: Proposal) -> Result<(), Proposal>
         requires { 1 ≤ self.old.room }
-        ensures lines { OnOk result (self.new.lines ≡ self.old.lines ++ Refused refused ∷ []) }
+        ensures lines { OnOk result (self.new.lines ≡ self.old.lines ++ NotActive proposal ∷ []) }
         ensures room { OnOk result (self.old.room ≡ self.new.room + 1) }
         ensures few { OnOk result (length self.new.lines + self.new.room ≤ MAX_LINES) }
         ensures error { OnErr result (self.new ≡ self.old) }
-        ensures back { IfErr result (λ back. back ≡ refused) }
+        ensures back { IfErr result (λ back. back ≡ proposal) }
     {
-        let place = self.refused.len() as u32;
-        match self.refused.push(refused) {
+        let place = self.inactive.len() as u32;
+        match self.inactive.push(proposal) {
             Ok(()) => {
-                self.lines.push_reserved(KeptLine::Refused(place));
+                self.lines.push_reserved(KeptLine::NotActive(place));
                 Ok(())
             }
             Err(failed) => Err(failed.value),
@@ -157,7 +157,7 @@ impl History {
     {
         let mut lines = Vec::with_capacity(alloc, self.lines.len())?;
         for line in &self.lines {
-            lines.push(line.read(&self.refused, roster)?)?;
+            lines.push(line.read(&self.inactive, roster)?)?;
         }
         Ok(lines)
     }
@@ -187,12 +187,21 @@ impl History {
         requires { AreLinesNamed names.now self.now.lines }
         ensures { IfOk result (λ lead. (n : Name) → (lead ≡ Some n) ↔ IsLeadFiredIn (map (line_in names.now) self.now.lines) number n) }
     {
-        let Some(line) = self.lines.get(number) else {
-            return Ok(None);
-        };
-        match line {
-            KeptLine::Fired(_, places) => names.name(places.lead),
-            _ => Ok(None),
+        match self.lead_fired_in(number) {
+            Some(lead) => names.name(lead),
+            None => Ok(None),
+        }
+    }
+
+    /// The place of the name of the agent that leads the event that the line with this number fired; `None` where there is
+    /// none. It takes no memory.
+    pub fn lead_fired_in(&self, number: usize) -> Option<NameId>
+        ensures found { IfSome result (λ lead. (i : AnInteraction) × (slice_get self.now.lines number ≡ Some (Fired i)) × (i.lead ≡ lead)) }
+        ensures none { IfNone result ((i : AnInteraction) → slice_get self.now.lines number ≢ Some (Fired i)) }
+    {
+        match self.lines.get(number)? {
+            KeptLine::Fired(_, places) => Some(places.lead),
+            _ => None,
         }
     }
 }

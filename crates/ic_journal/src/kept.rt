@@ -1,12 +1,14 @@
-ghost use Rattle.std.specs.Prelude.{◌≡◌, ◌↔◌, List, [], IsTrue, IfOk};
+ghost use Rattle.std.specs.Prelude.{◌≡◌, ◌↔◌, List, [], IsTrue, IfOk, IfSome, IfNone};
+ghost use Rattle.ic_name.specs.Events.{Event as AnEvent};
 ghost use Rattle.ic_name.specs.Names.{Name};
 ghost use Rattle.ic_roster.specs.Rosters.{event_in, IsNamed};
 ghost use Rattle.ic_journal.specs.Kept.{event_kept, line_of, IsPlaced};
-ghost use Rattle.ic_journal.specs.declared.kept.RefusedProposal.{RefusedProposal as ARefusedProposal};
-ghost use Rattle.ic_journal.specs.Noted.{Fired, Limited, line_in, IsCallToFire, IsLineNamed};
+ghost use Rattle.ic_journal.specs.Noted.{Fired, Limited, line_in, IsLineNamed};
+ghost use Rattle.ic_journal.specs.Notes.{noted_of, IsOfAPair};
 
+use crate::notes::PairNote;
 use crate::proposal::Proposal;
-use crate::verdict::{Limit, Refusal};
+use crate::verdict::Limit;
 use ic_name::{Call, Event, Kind, Line, Reply};
 use ic_names::{NameId, NameTable};
 use ic_roster::{Interaction, Roster};
@@ -21,8 +23,8 @@ pub(crate) enum KeptLine {
     Fired(Kinds, Places),
     /// Firing the event of an active pair met a limit.
     Limited(Limit, Kinds, Places),
-    /// A proposal was refused: its place in the history's list of these.
-    Refused(u32),
+    /// The event of a proposal wasn't active: the proposal's place in the history's list of these.
+    NotActive(u32),
     /// The firing in this line was undone.
     Undone(u32),
     /// No event stood that was fired in this line.
@@ -35,24 +37,17 @@ pub(crate) enum KeptLine {
 const _: () = prove!(size_of::<KeptLine>() == 12);
 
 /// The kinds of an event's lead and of its other agent.
-#[derive(Clone, Copy)]
+#[derive(Clone, Copy, Debug, PartialEq, Eq)]
 pub(crate) struct Kinds {
     lead: Kind,
     other: Kind,
 }
 
 /// The places of their names.
-#[derive(Clone, Copy)]
+#[derive(Clone, Copy, Debug, PartialEq, Eq)]
 pub(crate) struct Places {
     pub lead: NameId,
     pub other: NameId,
-}
-
-/// A proposal, and why it was refused.
-#[derive(Drop)]
-pub(crate) struct RefusedProposal {
-    pub proposal: Proposal,
-    pub refusal: Refusal,
 }
 
 impl KeptLine {
@@ -73,43 +68,52 @@ impl KeptLine {
     }
 
     /// The reply.
-    pub fn reply(&self, refused: &[RefusedProposal]) -> Reply
-        requires { IsPlaced refused.now self.now }
-        ensures { (ns : List Name) → result ≡ (line_in ns (line_of refused.now self.now)).reply }
+    pub fn reply(&self) -> Reply
+        ensures { (ns : List Name) (inactive : List AnEvent) → result ≡ (line_in ns (line_of inactive self.now)).reply }
     {
         match self {
             KeptLine::Fired(..) => Reply::Fired,
-            KeptLine::Limited(limit, ..) => limit.refusal().reply(),
-            KeptLine::Refused(place) => refused[*place as usize].refusal.reply(),
+            KeptLine::Limited(limit, ..) => limit.reply(),
+            KeptLine::NotActive(_) => Reply::NotActive,
             KeptLine::Undone(_) => Reply::Undone,
             KeptLine::NotStanding(_) => Reply::NotStanding,
             KeptLine::Held { by, .. } => Reply::Held(*by),
         }
     }
 
-    /// Whether it is a call to fire an event.
-    pub fn fires(&self) -> bool
-        ensures { (refused : List ARefusedProposal) → IsTrue result ↔ IsCallToFire (line_of refused self.now) }
+    /// The note of it; `None` where it isn't a call to fire an active pair.
+    pub fn note(&self) -> Option<PairNote>
+        ensures noted { IfSome result (λ note. (inactive : List AnEvent) → noted_of note ≡ line_of inactive self.now) }
+        ensures none { IfNone result ((inactive : List AnEvent) → ¬ (IsOfAPair (line_of inactive self.now))) }
     {
         match self {
-            KeptLine::Fired(..) | KeptLine::Limited(..) | KeptLine::Refused(_) => true,
-            KeptLine::Undone(_) | KeptLine::NotStanding(_) | KeptLine::Held { .. } => false,
+            KeptLine::Fired(kinds, places) => Some(PairNote {
+                limit: None,
+                kinds: *kinds,
+                places: *places,
+            }),
+            KeptLine::Limited(limit, kinds, places) => Some(PairNote {
+                limit: Some(*limit),
+                kinds: *kinds,
+                places: *places,
+            }),
+            _ => None,
         }
     }
 
     /// Whether its call is this one, by a table with the names. It takes no memory.
-    pub fn has_call(&self, refused: &[RefusedProposal], names: &NameTable, call: &Call) -> bool
-        requires placed { IsPlaced refused.now self.now }
-        requires named { IsLineNamed names.now (line_of refused.now self.now) }
-        ensures { IsTrue result ↔ ((line_in names.now (line_of refused.now self.now)).call ≡ call.now) }
+    pub fn has_call(&self, inactive: &[Proposal], names: &NameTable, call: &Call) -> bool
+        requires placed { IsPlaced inactive.now self.now }
+        requires named { IsLineNamed names.now (line_of inactive.now self.now) }
+        ensures { IsTrue result ↔ ((line_in names.now (line_of inactive.now self.now)).call ≡ call.now) }
     {
         match (self, call) {
             (
                 KeptLine::Fired(kinds, places) | KeptLine::Limited(_, kinds, places),
                 Call::Fire(event),
             ) => is_event(names, interaction(*kinds, *places), event),
-            (KeptLine::Refused(place), Call::Fire(event)) => {
-                refused[*place as usize].proposal.event().is(event)
+            (KeptLine::NotActive(place), Call::Fire(event)) => {
+                inactive[*place as usize].event().is(event)
             }
             (
                 KeptLine::Undone(line) | KeptLine::NotStanding(line) | KeptLine::Held { line, .. },
@@ -120,18 +124,17 @@ impl KeptLine {
     }
 
     /// The call with the names of a roster. At an error memory ran out.
-    fn call(&self, refused: &[RefusedProposal], roster: &Roster) -> Result<Call, AllocError>
-        requires placed { IsPlaced refused.now self.now }
-        requires named { IsLineNamed roster.now.names (line_of refused.now self.now) }
-        ensures { IfOk result (λ call. call ≡ (line_in roster.now.names (line_of refused.now self.now)).call) }
+    fn call(&self, inactive: &[Proposal], roster: &Roster) -> Result<Call, AllocError>
+        requires placed { IsPlaced inactive.now self.now }
+        requires named { IsLineNamed roster.now.names (line_of inactive.now self.now) }
+        ensures { IfOk result (λ call. call ≡ (line_in roster.now.names (line_of inactive.now self.now)).call) }
     {
         match self {
             KeptLine::Fired(kinds, places) | KeptLine::Limited(_, kinds, places) => {
                 Ok(Call::Fire(roster.read(interaction(*kinds, *places))?))
             }
-            KeptLine::Refused(place) => {
-                let proposal = &refused[*place as usize].proposal;
-                Ok(Call::Fire(proposal.event().copy()?))
+            KeptLine::NotActive(place) => {
+                Ok(Call::Fire(inactive[*place as usize].event().copy()?))
             }
             KeptLine::Undone(line) | KeptLine::NotStanding(line) | KeptLine::Held { line, .. } => {
                 Ok(Call::Undo(*line))
@@ -140,14 +143,14 @@ impl KeptLine {
     }
 
     /// The line with the names of a roster. At an error memory ran out.
-    pub fn read(&self, refused: &[RefusedProposal], roster: &Roster) -> Result<Line, AllocError>
-        requires placed { IsPlaced refused.now self.now }
-        requires named { IsLineNamed roster.now.names (line_of refused.now self.now) }
-        ensures { IfOk result (λ line. line ≡ line_in roster.now.names (line_of refused.now self.now)) }
+    pub fn read(&self, inactive: &[Proposal], roster: &Roster) -> Result<Line, AllocError>
+        requires placed { IsPlaced inactive.now self.now }
+        requires named { IsLineNamed roster.now.names (line_of inactive.now self.now) }
+        ensures { IfOk result (λ line. line ≡ line_in roster.now.names (line_of inactive.now self.now)) }
     {
         Ok(Line {
-            call: self.call(refused, roster)?,
-            reply: self.reply(refused),
+            call: self.call(inactive, roster)?,
+            reply: self.reply(),
         })
     }
 }

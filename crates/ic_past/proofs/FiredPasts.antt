@@ -49,6 +49,10 @@ one_event v set p e f a b =
 pub same_past : (p : PastView) → IsSamePast p p
 same_past p = record { start = refl; events = alike_self p.events }
 
+-- a set is the same as it was
+pub same_set : (v : SetView) → IsSame v v
+same_set v = record { start = refl; agents = alike_self v.agents; events = alike_self v.events }
+
 -- so it is where its set is the same
 pub same_set_past : (v v' : SetView) (ds : List DeepEvent) → IsSame v v' → IsSamePast (past_of v ds) (past_of v' ds)
 same_set_past v v' ds same = record { start = same.start; events = alike_more (deep_events ds) (alike-map (λ (x : Stander). x.event) same.events) }

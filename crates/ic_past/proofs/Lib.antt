@@ -3,6 +3,7 @@ pub mod WithoutDeep
 pub mod EmptyPasts
 pub mod SeenSoFar
 pub mod DeepKinds
+pub mod Flags
 pub mod FiredPasts
 pub mod UndonePasts
 pub mod NamedCauses

@@ -1,2 +1,3 @@
 pub mod Pasts
 pub mod DeepEvents
+pub mod Taken

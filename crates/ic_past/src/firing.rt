@@ -1,4 +1,4 @@
-ghost use Rattle.std.specs.Prelude.{◌≡◌, ◌≢◌, ◌<◌, ℕ, ◌++◌, ◌∷◌, [], length, OnOk, OnErr};
+ghost use Rattle.std.specs.Prelude.{◌≡◌, ◌≢◌, ◌<◌, ℕ, ◌++◌, ◌∷◌, [], false, length, slice_index_or, OnOk, OnErr};
 ghost use Rattle.ic_name.specs.Events.{Event as AnEvent};
 ghost use Rattle.ic_name.specs.declared.ids.EventId.{EventId as AnEventId};
 ghost use Rattle.ic_name.specs.declared.limits.TheConstants.{MAX_LINES};
@@ -9,6 +9,7 @@ ghost use Rattle.ic_set.specs.Admission.{AreCausesOf};
 ghost use Rattle.ic_set.specs.Changes.{Admits, IsSame};
 ghost use Rattle.ic_set.specs.Pairs.{IsActivePair, IsPairOf};
 ghost use Rattle.ic_past.specs.declared.deep.DeepEvent.{DeepEvent as ADeepEvent};
+ghost use Rattle.ic_past.specs.Taken.{AreTaken};
 
 use crate::deep::DeepEvent;
 use ic_link::LinkRows;
@@ -17,16 +18,24 @@ use ic_roster::Roster;
 use ic_set::{ActivePair, BareSet};
 use std::alloc::AllocError;
 
-/// The event of an active pair comes to the set, under any line. At an error nothing changes.
-pub(crate) fn fire_in_set(set: &mut BareSet<LinkRows>, pair: ActivePair) -> Result<(), AllocError>
+/// The event of an active pair comes to the set, under a line that no standing event has. At an error nothing changes.
+pub(crate) fn fire_in_set(
+    set: &mut BareSet<LinkRows>,
+    taken: &mut Vec<bool>,
+    pair: ActivePair,
+) -> Result<(), AllocError>
+    requires taken { AreTaken set.old.set.events taken.old.items }
     requires active { IsActivePair set.old.set pair }
     requires shallow { (e : AnEvent) → IsPairOf set.old.set e pair → ¬ (IsDeep e) }
     requires few { length set.old.set.events < MAX_LINES }
+    ensures taken { AreTaken set.new.set.events taken.new.items }
     ensures admitted { OnOk result ((e : AnEvent) → IsPairOf set.old.set e pair → (line : ℕ) × (id : AnEventId) × Admits set.old.set e line id set.new.set) }
     ensures unchanged { OnErr result (IsSame set.old.set set.new.set) }
 {
-    let line = free_line(set.roster());
+    let line = free_line(set.roster(), taken);
+    make_room(taken, line)?;
     let _ = set.admit(pair, line)?;
+    taken[line as usize] = true;
     Ok(())
 }
 
@@ -49,17 +58,30 @@ pub(crate) fn fire_beside(
     Ok(())
 }
 
+/// Room for the flag of a line. Each flag is what it was, and false where it was none.
+fn make_room(taken: &mut Vec<bool>, line: u32) -> Result<(), AllocError>
+    ensures room { OnOk result (line < length taken.new.items) }
+    ensures same { (n : ℕ) → slice_index_or taken.new.items n false ≡ slice_index_or taken.old.items n false }
+{
+    let room = line as usize + 1;
+    if taken.len() < room {
+        taken.resize(room, false)?;
+    }
+    Ok(())
+}
+
 /// A line that no standing event has.
-fn free_line(roster: &Roster) -> u32
-    requires { length roster.now.events < MAX_LINES }
+fn free_line(roster: &Roster, taken: &[bool]) -> u32
+    requires taken { AreTaken roster.now.events taken.now }
+    requires few { length roster.now.events < MAX_LINES }
     ensures unused { (x : Stander) → IsIn x roster.now.events → x.id.line ≢ result }
     ensures few { result < MAX_LINES }
 {
     let count = roster.event_count();
-    for taken in 0..count {
-        let line = (count - taken) as u32;
-        if roster.at_line(line).is_none() {
-            return line;
+    for tried in 0..count {
+        let line = count - tried;
+        if !taken.get(line).copied().unwrap_or(false) {
+            return line as u32;
         }
     }
     0

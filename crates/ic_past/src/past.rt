@@ -24,6 +24,8 @@ use std::marker::Model;
 pub struct Past {
     pub(crate) set: BareSet<LinkRows>,
     pub(crate) deep: Vec<DeepEvent>,
+    /// Whether an event of the set is of a line.
+    taken: Vec<bool>,
     pub(crate) alloc: Global,
 }
 
@@ -37,7 +39,9 @@ impl Model for Past {
 
     ghost view = { λ p. record { start = p.set.set.start; events = deep_events p.deep.items ++ standing p.set.set } };
 
-    ghost invariant = { λ p. KeepsDeep p.set.set p.deep.items };
+    ghost use Rattle.ic_past.specs.Taken.{AreTaken};
+
+    ghost invariant = { λ p. KeepsDeep p.set.set p.deep.items × AreTaken p.set.set.events p.taken.items };
 }
 
 impl Past {
@@ -51,6 +55,7 @@ impl Past {
         Ok(Past {
             set,
             deep: Vec::new(alloc),
+            taken: Vec::new(alloc),
             alloc,
         })
     }
@@ -91,7 +96,7 @@ impl Past {
         if is_deep(event, self.set.start().profile()) {
             fire_beside(&self.set, &mut self.deep, event, pair)?;
         } else {
-            fire_in_set(&mut self.set, pair)?;
+            fire_in_set(&mut self.set, &mut self.taken, pair)?;
         }
         Ok(true)
     }
@@ -113,6 +118,7 @@ impl Past {
             return false;
         }
         let _ = self.set.take_out(id);
+        self.taken[id.line as usize] = false;
         true
     }
 

@@ -1,4 +1,4 @@
--- Events that all go, with their entries in the indexes and the agents that are their children.
+-- Events that all go, with their entries in the index and the agents that are their children.
 use Rattle.std.proofs.Common.{◌≡◌, ◌↔◌, ℕ, Bool, true, false, cond, List, [], ◌∷◌, map, Option, Some, None, inl, inr, refl, sym, ap, subst, ◌∙◌}
 use Rattle.std.specs.Prelude.{◌==◌}
 use Rattle.std.proofs.lemmas.Bool.{eq-eqb}

@@ -1,4 +1,4 @@
--- What the records of standing events and their indexes tell of the events.
+-- What the records of standing events and their index tell of the events.
 use Rattle.std.proofs.Common.{◌≡◌, ◌≢◌, ℕ, List, [], ◌∷◌, map, Option, Some, None, refl, sym, ap, subst, ◌∙◌}
 use Rattle.std.specs.Prelude.{IsSome}
 use Rattle.slab.specs.Slab.{entries_from}
@@ -11,7 +11,8 @@ use Rattle.ic_roster.specs.Placed.{PlacedEvent, HaveOwnKeys, IsNewKey}
 use Rattle.ic_roster.specs.Slots.{slot_at, HoldsOneMore}
 use Rattle.ic_roster.specs.EventSlots.{event_at, events_in, event_line, event_lead, AreIndexed}
 use Rattle.ic_roster.proofs.Slots.{ShowsAt, slot_from_shown, shown_from_slot, shown_apart, shown_emptied}
-use Rattle.ic_roster.proofs.Indexes.{holder, held_number, none_numbered, lacks_number, one_slot, index_entered, index_taken}
+use Rattle.ic_roster.proofs.Indexes.{held_number, none_numbered, lacks_number, one_slot, index_entered, index_taken}
+use Rattle.ic_roster.proofs.OwnNumbers.{one_owner, own_entered, own_taken}
 
 -- the slot of an event is that of its id
 key_shown : (slots : List (Option EventRecord)) (x : PlacedEvent) (s : ShowsAt event_at slots x) → s.key ≡ x.id.slot
@@ -26,33 +27,18 @@ lead_shown : (slots : List (Option EventRecord)) (x : PlacedEvent) (s : ShowsAt 
 lead_shown slots x s = ap (λ (y : PlacedEvent). y.interaction.lead.place) (sym s.shows)
 
 -- each event has a slot, a line and a place of the lead of its own
-pub own_keys : (slots : List (Option EventRecord)) (lines leads : List (Option ℕ)) → AreIndexed slots lines leads → HaveOwnKeys (events_in slots)
-own_keys slots lines leads t = record {
+pub own_keys : (slots : List (Option EventRecord)) (leads : List (Option ℕ)) → AreIndexed slots leads → HaveOwnKeys (events_in slots)
+own_keys slots leads t = record {
   slots = λ x y rest k i same.
       let a = shown_apart event_at slots x y rest k i in
       a.apart (key_shown slots y a.second ∙ same ∙ sym (key_shown slots x a.first));
   lines = λ x y rest k i same.
       let a = shown_apart event_at slots x y rest k i in
-      a.apart (one_slot event_line slots lines t.lined a.second.key a.first.key a.second.value a.first.value a.second.holds a.first.holds (line_shown slots y a.second ∙ same ∙ sym (line_shown slots x a.first)));
+      a.apart (one_owner event_line slots t.lined a.second.key a.first.key a.second.value a.first.value a.second.holds a.first.holds (line_shown slots y a.second ∙ same ∙ sym (line_shown slots x a.first)));
   leads = λ x y rest k i same.
       let a = shown_apart event_at slots x y rest k i in
       a.apart (one_slot event_lead slots leads t.led a.second.key a.first.key a.second.value a.first.value a.second.holds a.first.holds (lead_shown slots y a.second ∙ same ∙ sym (lead_shown slots x a.first)));
 }
-
--- the slot of a line holds an event of that line
-pub line_found : (slots : List (Option EventRecord)) (lines leads : List (Option ℕ)) → AreIndexed slots lines leads → (line k : ℕ) → slot_of lines line ≡ Some k
-    → (x : PlacedEvent) × IsIn x (events_in slots) × (x.id ≡ record { slot = k; line = line })
-line_found slots lines leads t line k found =
-    let d = holder event_line slots lines t.lined line k found in
-    let n : d.0.line ≡ line = d.2 in
-    (event_at (k, d.0), shown_from_slot event_at slots k d.0 d.1, λ i. record { slot = k; line = n i })
-
--- no event has a line that the index lacks
-pub line_absent : (slots : List (Option EventRecord)) (lines leads : List (Option ℕ)) → AreIndexed slots lines leads → (line : ℕ) → slot_of lines line ≡ None
-    → (x : PlacedEvent) → IsIn x (events_in slots) → x.id.line ≢ line
-line_absent slots lines leads t line lacks x i e =
-    let s = slot_from_shown event_at slots x i in
-    none_numbered event_line slots lines t.lined line lacks s.key s.value s.holds (line_shown slots x s ∙ e)
 
 -- the record of an event under its id
 record RecordOf (slots : List (Option EventRecord)) (id : EventId) (x : PlacedEvent) : Type 0 where
@@ -105,34 +91,30 @@ event_of_id slots id r h e =
     subst (λ l. IsIn (record { id = record { slot = id.slot; line = l }; interaction = r.interaction; rank = r.rank; born = r.born.items; causes = r.causes.items }) (events_in slots)) e (shown_from_slot event_at slots id.slot r h)
 
 -- the record in the slot of a place is the event that is led there
-pub lead_found : (slots : List (Option EventRecord)) (lines leads : List (Option ℕ)) → AreIndexed slots lines leads → (lead : NameId) (k : ℕ) (r : EventRecord) → slot_of leads lead.place ≡ Some k → slot_at slots k ≡ Some r
+pub lead_found : (slots : List (Option EventRecord)) (leads : List (Option ℕ)) → AreIndexed slots leads → (lead : NameId) (k : ℕ) (r : EventRecord) → slot_of leads lead.place ≡ Some k → slot_at slots k ≡ Some r
     → (x : PlacedEvent) × IsIn x (events_in slots) × (x.id ≡ record { slot = k; line = r.line }) × (x.interaction.lead ≡ lead)
-lead_found slots lines leads t lead k r found h =
+lead_found slots leads t lead k r found h =
     let p : r.interaction.lead.place ≡ lead.place = held_number event_lead slots leads t.led lead.place k r found h in
     (event_at (k, r), shown_from_slot event_at slots k r h, refl, λ i. record { place = p i })
 
 -- no event is led from a place that the index lacks
-pub lead_absent : (slots : List (Option EventRecord)) (lines leads : List (Option ℕ)) → AreIndexed slots lines leads → (place : ℕ) → slot_of leads place ≡ None
+pub lead_absent : (slots : List (Option EventRecord)) (leads : List (Option ℕ)) → AreIndexed slots leads → (place : ℕ) → slot_of leads place ≡ None
     → (x : PlacedEvent) → IsIn x (events_in slots) → x.interaction.lead.place ≢ place
-lead_absent slots lines leads t place lacks x i e =
+lead_absent slots leads t place lacks x i e =
     let s = slot_from_shown event_at slots x i in
     none_numbered event_lead slots leads t.led place lacks s.key s.value s.holds (lead_shown slots x s ∙ e)
 
 -- an event of a new line and a new lead is entered
-pub keys_entered : (old new : List (Option EventRecord)) (lines lines' leads leads' : List (Option ℕ)) (k : ℕ) (r : EventRecord) → AreIndexed old lines leads → HoldsOneMore old new k r
-    → IsNewKey (events_in old) (event_line r) (event_lead r) → Gives (event_line r) (Some k) lines lines' → Gives (event_lead r) (Some k) leads leads' → AreIndexed new lines' leads'
-keys_entered old new lines lines' leads leads' k r t more fresh lines_give leads_give = record {
-  lined = index_entered event_line old new lines lines' k r t.lined more (lacks_number event_line old lines t.lined (event_line r) (λ j x h e. (fresh (event_at (j, x)) (shown_from_slot event_at old j x h)).0 e)) lines_give;
-  led = index_entered event_lead old new leads leads' k r t.led more (lacks_number event_lead old leads t.led (event_lead r) (λ j x h e. (fresh (event_at (j, x)) (shown_from_slot event_at old j x h)).1 e)) leads_give;
+pub keys_entered : (old new : List (Option EventRecord)) (leads leads' : List (Option ℕ)) (k : ℕ) (r : EventRecord) → AreIndexed old leads → HoldsOneMore old new k r
+    → IsNewKey (events_in old) (event_line r) (event_lead r) → Gives (event_lead r) (Some k) leads leads' → AreIndexed new leads'
+keys_entered old new leads leads' k r t more fresh gives = record {
+  lined = own_entered event_line old new k r t.lined more (λ j x h e. (fresh (event_at (j, x)) (shown_from_slot event_at old j x h)).0 e);
+  led = index_entered event_lead old new leads leads' k r t.led more (lacks_number event_lead old leads t.led (event_lead r) (λ j x h e. (fresh (event_at (j, x)) (shown_from_slot event_at old j x h)).1 e)) gives;
 }
 
 -- an event is taken out with its line and its lead
-pub keys_taken : (old new : List (Option EventRecord)) (lines lines' leads leads' : List (Option ℕ)) (k : ℕ) (r : EventRecord) → AreIndexed old lines leads → HoldsOneMore new old k r
-    → Gives (event_line r) None lines lines' → Gives (event_lead r) None leads leads' → AreIndexed new lines' leads'
-keys_taken old new lines lines' leads leads' k r t more lines_take leads_take = record {
-  lined = index_taken event_line old new lines lines' k r t.lined more lines_take;
-  led = index_taken event_lead old new leads leads' k r t.led more leads_take;
-}
+pub keys_taken : (old new : List (Option EventRecord)) (leads leads' : List (Option ℕ)) (k : ℕ) (r : EventRecord) → AreIndexed old leads → HoldsOneMore new old k r → Gives (event_lead r) None leads leads' → AreIndexed new leads'
+keys_taken old new leads leads' k r t more takes = record { lined = own_taken event_line old new k r t.lined more; led = index_taken event_lead old new leads leads' k r t.led more takes }
 
 -- where the slot of an id is emptied, the event of that id goes
 pub event_gone : (old new : List (Option EventRecord)) (id : EventId) (r : EventRecord) → HoldsOneMore new old id.slot r

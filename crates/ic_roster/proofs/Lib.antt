@@ -3,6 +3,7 @@ pub mod Images
 pub mod Slots
 pub mod Inverses
 pub mod Indexes
+pub mod OwnNumbers
 pub mod Entries
 pub mod AgentFacts
 pub mod GoneAgents

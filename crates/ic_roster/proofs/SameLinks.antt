@@ -10,6 +10,7 @@ use Rattle.ic_roster.specs.Records.{has, AreLinked}
 use Rattle.ic_roster.specs.RecordChanges.{ShowsSame, SameRecords}
 use Rattle.ic_roster.proofs.RecordFacts.{same_causes, same_events, same_numbers}
 use Rattle.ic_roster.proofs.Indexes.{index_kept}
+use Rattle.ic_roster.proofs.OwnNumbers.{own_same}
 
 -- lists that are the same are linked the same
 pub same_linked : (m n : List (Option EventRecord)) → SameRecords m n → AreLinked m → AreLinked n
@@ -26,17 +27,17 @@ index_shown f g tells m n index shows both q k =
     (λ h. same ∙ (both q k).0 h, λ h. (both q k).1 (sym same ∙ h))
 
 -- events that are the same are indexed the same
-pub same_indexed : (m n : List (Option EventRecord)) (lines leads : List (Option ℕ)) → ShowsSame m n → AreIndexed m lines leads → AreIndexed n lines leads
-same_indexed m n lines leads shows t = record {
-  lined = index_shown event_line (λ x. x.id.line) (λ k r. refl) m n lines shows t.lined;
+pub same_indexed : (m n : List (Option EventRecord)) (leads : List (Option ℕ)) → ShowsSame m n → AreIndexed m leads → AreIndexed n leads
+same_indexed m n leads shows t = record {
+  lined = own_same event_line m n (same_numbers event_line (λ x. x.id.line) (λ k r. refl) m n shows) t.lined;
   led = index_shown event_lead (λ x. x.interaction.lead.place) (λ k r. refl) m n leads shows t.led;
 }
 
--- more room, for records and in the indexes, makes no difference
-pub still_kept : (m more slots : List (Option EventRecord)) (lines lines' leads leads' : List (Option ℕ)) → SameRecords m more → slots ≡ more → Keeps lines lines' → Keeps leads leads' → AreIndexed m lines leads × AreLinked m → AreIndexed slots lines' leads' × AreLinked slots
-still_kept m more slots lines lines' leads leads' same is lines_keep leads_keep (t, linked) =
-    let u = same_indexed m more lines leads same.shows t in
-    rw is (record { lined = index_kept event_line more lines lines' u.lined lines_keep; led = index_kept event_lead more leads leads' u.led leads_keep }, same_linked m more same linked)
+-- more room, for records and in the index, makes no difference
+pub still_kept : (m more slots : List (Option EventRecord)) (leads leads' : List (Option ℕ)) → SameRecords m more → slots ≡ more → Keeps leads leads' → AreIndexed m leads × AreLinked m → AreIndexed slots leads' × AreLinked slots
+still_kept m more slots leads leads' same is keep (t, linked) =
+    let u = same_indexed m more leads same.shows t in
+    rw is (record { lined = u.lined; led = index_kept event_lead more leads leads' u.led keep }, same_linked m more same linked)
 
 -- the same events are seen with more room
 pub still_seen : (m more slots : List (Option EventRecord)) (xs : List PlacedEvent) → SameRecords m more → slots ≡ more → events_in m ≡ xs → events_in slots ≡ xs

@@ -1,8 +1,8 @@
--- How standing events are kept: records under slots, and indexes of the slots by line and by the place of the lead.
+-- How standing events are kept: records under slots, and an index of the slots by the place of the lead.
 use Rattle.std.specs.Prelude.{ℕ, List, Option}
 use Rattle.ic_roster.specs.declared.event_record.EventRecord.{EventRecord}
 use Rattle.ic_roster.specs.Placed.{PlacedEvent}
-use Rattle.ic_roster.specs.Slots.{shown, IsIndexOf}
+use Rattle.ic_roster.specs.Slots.{shown, HaveOwnNumbers, IsIndexOf}
 
 -- the event of the record under a slot
 abbrev pub event_at : ℕ × EventRecord → PlacedEvent
@@ -20,7 +20,7 @@ event_line e = e.line
 abbrev pub event_lead : EventRecord → ℕ
 event_lead e = e.interaction.lead.place
 
--- the indexes have each event's slot under its line and under the place of its lead, and nothing else
-pub record AreIndexed (slots : List (Option EventRecord)) (lines leads : List (Option ℕ)) : Type 0 where
-  pub lined : IsIndexOf event_line slots lines
+-- each event has a line of its own, and the index has each event's slot under the place of its lead, and nothing else
+pub record AreIndexed (slots : List (Option EventRecord)) (leads : List (Option ℕ)) : Type 0 where
+  pub lined : HaveOwnNumbers event_line slots
   pub led : IsIndexOf event_lead slots leads

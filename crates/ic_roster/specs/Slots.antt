@@ -22,6 +22,10 @@ pub record HoldsOneMore {T : Type 0} (few more : List (Option T)) (key : ℕ) (x
 abbrev pub number_at : {T : Type 0} → (T → ℕ) → List (Option T) → ℕ → Option ℕ
 number_at f xs k = option_map f (slot_at xs k)
 
+-- no two slots hold values of one number
+abbrev pub HaveOwnNumbers : {T : Type 0} → (T → ℕ) → List (Option T) → Type 0
+HaveOwnNumbers f xs = (j k n : ℕ) → number_at f xs j ≡ Some n → number_at f xs k ≡ Some n → j ≡ k
+
 -- the index has each value's slot under its number, and nothing else
 abbrev pub IsIndexOf : {T : Type 0} → (T → ℕ) → List (Option T) → List (Option ℕ) → Type 0
 IsIndexOf f xs index = IsInverse (slot_of index) (number_at f xs)

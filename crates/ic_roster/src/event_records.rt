@@ -18,12 +18,11 @@ use smallvec::SmallVec;
 use std::alloc::{AllocError, Global};
 use std::marker::Model;
 
-/// The standing events of a bench, each under its id, and found by its line and by the place of its lead's name. Direct causes
-/// are kept both ways.
+/// The standing events of a bench, each under its id, and found by the place of its lead's name. No two are of one line. Direct
+/// causes are kept both ways.
 #[derive(Drop)]
 pub(crate) struct EventRecords {
     records: Slab<EventRecord>,
-    lines: SlotIndex,
     leads: SlotIndex,
     alloc: Global,
 }
@@ -39,7 +38,7 @@ impl Model for EventRecords {
 
     ghost view = { λ e. events_in e.records.slots };
 
-    ghost invariant = { λ e. AreIndexed e.records.slots e.lines e.leads × AreLinked e.records.slots };
+    ghost invariant = { λ e. AreIndexed e.records.slots e.leads × AreLinked e.records.slots };
 }
 
 impl EventRecords {
@@ -49,7 +48,6 @@ impl EventRecords {
     {
         EventRecords {
             records: Slab::new(alloc),
-            lines: SlotIndex::new(alloc),
             leads: SlotIndex::new(alloc),
             alloc,
         }
@@ -68,15 +66,6 @@ impl EventRecords {
         ensures { result ≡ length self.now }
     {
         self.records.len()
-    }
-
-    /// The id of the event that was fired in this line, if it stands, in constant time. It takes no memory.
-    pub fn at_line(&self, line: u32) -> Option<EventId>
-        ensures found { IfSome result (λ id. (x : PlacedEvent) × IsIn x self.now × (x.id ≡ id) × (id.line ≡ line)) }
-        ensures absent { IfNone result ((x : PlacedEvent) → IsIn x self.now → x.id.line ≢ line) }
-    {
-        let slot = self.lines.get(line)?;
-        Some(EventId { slot, line })
     }
 
     /// The event under an id, slot and line both; `None` for an id that holds no more. It takes no memory.
@@ -113,7 +102,7 @@ impl EventRecords {
     {
         let mut ids = Vec::with_capacity(alloc, self.records.len())?;
         for (_, event) in self.records.iter() {
-            let Some(slot) = self.lines.get(event.line) else {
+            let Some(slot) = self.leads.get(event.interaction.lead.place) else {
                 unreachable!()
             };
             ids.push(EventId {
@@ -159,9 +148,7 @@ impl EventRecords {
         let its_causes = SmallVec::from_slice(self.alloc, causes)?;
         reserve_places(&mut self.records, causes)?;
         let slot = reserve_slot(&mut self.records)?;
-        self.lines.reserve(line)?;
         self.leads.reserve(interaction.lead.place)?;
-        self.lines.put(line, slot);
         self.leads.put(interaction.lead.place, slot);
         self.records.insert_reserved(EventRecord {
             interaction,
@@ -190,7 +177,6 @@ impl EventRecords {
         let event = self.records.remove(id.slot as usize);
         take_at_each(&mut self.records, event.causes.as_slice(), id);
         let lead = event.interaction.lead;
-        self.lines.take(id.line);
         self.leads.take(lead.place);
         Some(GoneEvent {
             lead,
@@ -206,7 +192,6 @@ impl EventRecords {
     {
         for (_, event) in self.records.iter() {
             agents.remove_each(event.born.as_slice());
-            self.lines.take(event.line);
             self.leads.take(event.interaction.lead.place);
         }
         self.records.clear();

@@ -36,14 +36,6 @@ impl Roster {
         self.events.len()
     }
 
-    /// The id of the event that was fired in this line, if it stands, in constant time. It takes no memory.
-    pub fn at_line(&self, line: u32) -> Option<EventId>
-        ensures found { IfSome result (λ id. (x : Stander) × IsIn x self.now.events × (x.id ≡ id) × (id.line ≡ line)) }
-        ensures absent { IfNone result ((x : Stander) → IsIn x self.now.events → x.id.line ≢ line) }
-    {
-        self.events.at_line(line)
-    }
-
     /// The event under an id, slot and line both; `None` for an id that holds no more. It takes no memory.
     pub fn event(&self, id: EventId) -> Option<StandingEntry<'_>>
         ensures found { IfSome result (λ entry. IsIn (record { id = id; event = event_in self.now.names entry.interaction; rank = entry.rank; born = entry.born.now; causes = entry.causes.now }) self.now.events) }

@@ -13,8 +13,8 @@ use ic_names::{NameId, NameTable};
 use std::alloc::{AllocError, Global};
 use std::marker::Model;
 
-/// The agents of a bench and its standing events, each under its id and found in one look by its name, an event also by
-/// its line. Names lie in one table, which never forgets one.
+/// The agents of a bench and its standing events, each under its id and found in one look by its name. Names lie in one table,
+/// which never forgets one.
 #[derive(Drop)]
 pub struct Roster {
     pub(crate) names: NameTable,

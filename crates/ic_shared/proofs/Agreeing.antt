@@ -12,7 +12,7 @@ use Rattle.ic_shared.specs.Agrees.{Agrees, IsFalseAt, other_line, other_receipts
 pub agrees : (opening : OpeningView) (passes seen : List PassView) (bench : BenchView) (lines : List Line) (base number : ℕ)
     → seen ≡ passes → length passes ≡ opening.passes → bench.start ≡ opening.start → lines ≡ opening.lines → base ≡ length lines
     → bench.lines ≡ lines ++ drop (length lines) bench.lines → number ≡ length bench.lines → number ≡ base + added_by_all passes
-    → Settles base (drop base bench.lines) (columns seen) → Agrees opening passes bench (number - base)
+    → Settles base (drop base bench.lines) (columns bench.names seen) → Agrees opening passes bench (number - base)
 agrees opening passes seen bench lines base number same count start is based parts all sum h =
     let base_is : base ≡ length opening.lines = based ∙ ap length is in
     let whole : length bench.lines ≡ length lines + length (drop (length lines) bench.lines) = ap length parts ∙ length-append lines (drop (length lines) bench.lines) in
@@ -22,7 +22,7 @@ agrees opening passes seen bench lines base number same count start is based par
       opened = parts ∙ ap (λ (xs : List Line). xs ++ drop (length xs) bench.lines) is;
       added = omega arith;
       counted = omega arith;
-      settled = subst (λ (z : ℕ × List PassView). Settles z.0 (drop z.0 bench.lines) (columns z.1)) (λ i. (base_is i, same i)) h;
+      settled = subst (λ (z : ℕ × List PassView). Settles z.0 (drop z.0 bench.lines) (columns bench.names z.1)) (λ i. (base_is i, same i)) h;
     }
 
 -- where start and count agree, a number is false by what the passes say, or by a line of the opening
@@ -33,10 +33,10 @@ module _ (opening : OpeningView) (passes : List PassView) (bench : BenchView) (l
   whole = let long = ap length is in omega (arith, sum, based, long)
 
   -- a number at which the passes are wrong is false
-  pub false_at : (seen : List PassView) → seen ≡ passes → WrongAt base bench.lines (columns seen) number → (length passes ≡ opening.passes) × IsFalseAt opening passes bench number
+  pub false_at : (seen : List PassView) → seen ≡ passes → WrongAt base bench.lines (columns bench.names seen) number → (length passes ≡ opening.passes) × IsFalseAt opening passes bench number
   false_at seen same wrong =
       let base_is : base ≡ length opening.lines = based ∙ ap length is in
-      (count, other_receipts start whole (subst (λ (z : ℕ × List PassView). WrongAt z.0 bench.lines (columns z.1) number) (λ i. (base_is i, same i)) wrong))
+      (count, other_receipts start whole (subst (λ (z : ℕ × List PassView). WrongAt z.0 bench.lines (columns bench.names z.1) number) (λ i. (base_is i, same i)) wrong))
 
   -- and so is that of a line of the opening that isn't the history's
   pub line_false_at : (number < length lines) × (slice_get bench.lines number ≢ slice_get lines number) → (length passes ≡ opening.passes) × IsFalseAt opening passes bench number

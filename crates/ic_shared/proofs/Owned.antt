@@ -1,10 +1,10 @@
--- The entries for the lines so far.
+-- The receipts for the lines so far.
 use Rattle.std.proofs.Common.{◌≡◌, ◌≢◌, ℕ, zero, suc, ◌+◌, ◌<◌, ◌≤◌, Bool, true, false, List, [], ◌∷◌, ◌++◌, length, take, drop, Some, cond, sym, refl, ap, ◌∙◌, subst, arith, add-one, length-append, get_or-set_same, get_or-set_other, get_or, length-drop, ◌-◌, append-nil, ne_eqb, eq-eqb}
 use Rattle.std.specs.Prelude.{slice_get, slice_index, slice_set, nat_eq, replicate}
 use mathlib.Core.Logic.{dite}
 use native.Mathlib.Decide.{ℕ_discrete, dec_lt}
 use Rattle.ic_name.specs.declared.lines.Line.{Line}
-use Rattle.ic_shared.specs.Passes.{Entry, Told, Ran, number_of, IsFor}
+use Rattle.ic_shared.specs.Passes.{Told, IsFor}
 use Rattle.ic_shared.specs.Settles.{owned, AreFor, Settles, SettlesTo, NumberAt, IsNext, WrongAt, differs, early, twice, unclaimed}
 
 module _ {A : Type 0} where
@@ -46,31 +46,30 @@ take_length zero xs h = refl
 take_length (suc j) [] h = absurd (omega arith)
 take_length (suc j) (x ∷ xs) h = ap suc (take_length j xs (omega arith))
 
--- an entry for a line has the line's number
-pub number_for : (number : ℕ) (l : Line) (x : Entry) → IsFor number l x → number_of x ≡ number
-number_for number l (Told r) is = ap (λ z. z.number) is
-number_for number l (Ran n) is = is.0
+-- a receipt for a line has the line's number
+pub number_for : (number : ℕ) (l : Line) (x : Told) → IsFor number l x → x.number ≡ number
+number_for number l x is = ap (λ (z : Told). z.number) is
 
--- an entry more is for a line more
-for_snoc : (ls : List (ℕ × Line)) (xs : List Entry) (l : ℕ × Line) (x : Entry) → AreFor ls xs → IsFor l.0 l.1 x → AreFor (ls ++ l ∷ []) (xs ++ x ∷ [])
+-- a receipt more is for a line more
+for_snoc : (ls : List (ℕ × Line)) (xs : List Told) (l : ℕ × Line) (x : Told) → AreFor ls xs → IsFor l.0 l.1 x → AreFor (ls ++ l ∷ []) (xs ++ x ∷ [])
 for_snoc [] [] l x old new = (new, tt)
 for_snoc [] (y ∷ xs) l x old new = absurd old
 for_snoc (m ∷ ls) [] l x old new = absurd old
 for_snoc (m ∷ ls) (y ∷ xs) l x old new = (old.0, for_snoc ls xs l x old.1 new)
 
--- each entry is for a line
-line_for : (ls : List (ℕ × Line)) (xs : List Entry) (i : ℕ) (x : Entry) → AreFor ls xs → slice_get xs i ≡ Some x → (l : ℕ × Line) × (slice_get ls i ≡ Some l) × IsFor l.0 l.1 x
+-- each receipt is for a line
+line_for : (ls : List (ℕ × Line)) (xs : List Told) (i : ℕ) (x : Told) → AreFor ls xs → slice_get xs i ≡ Some x → (l : ℕ × Line) × (slice_get ls i ≡ Some l) × IsFor l.0 l.1 x
 line_for ls [] i x h at = absurd (cc (at))
 line_for [] (y ∷ xs) i x h at = absurd h
 line_for (l ∷ ls) (y ∷ xs) zero x h at = let same : y ≡ x = cc in (l, refl, subst (IsFor l.0 l.1) same h.0)
 line_for (l ∷ ls) (y ∷ xs) (suc i) x h at = line_for ls xs i x h.1 at
 
--- each line has an entry
-entry_for : (ls : List (ℕ × Line)) (xs : List Entry) (i : ℕ) (l : ℕ × Line) → AreFor ls xs → slice_get ls i ≡ Some l → (x : Entry) × (slice_get xs i ≡ Some x) × IsFor l.0 l.1 x
-entry_for [] xs i l h at = absurd (cc (at))
-entry_for (m ∷ ls) [] i l h at = absurd h
-entry_for (m ∷ ls) (x ∷ xs) zero l h at = let same : m ≡ l = cc in (x, refl, subst (λ (z : ℕ × Line). IsFor z.0 z.1 x) same h.0)
-entry_for (m ∷ ls) (x ∷ xs) (suc i) l h at = entry_for ls xs i l h.1 at
+-- each line has a receipt
+receipt_for : (ls : List (ℕ × Line)) (xs : List Told) (i : ℕ) (l : ℕ × Line) → AreFor ls xs → slice_get ls i ≡ Some l → (x : Told) × (slice_get xs i ≡ Some x) × IsFor l.0 l.1 x
+receipt_for [] xs i l h at = absurd (cc (at))
+receipt_for (m ∷ ls) [] i l h at = absurd h
+receipt_for (m ∷ ls) (x ∷ xs) zero l h at = let same : m ≡ l = cc in (x, refl, subst (λ (z : ℕ × Line). IsFor z.0 z.1 x) same h.0)
+receipt_for (m ∷ ls) (x ∷ xs) (suc i) l h at = receipt_for ls xs i l h.1 at
 
 -- the lines of a column with a line more
 owned_snoc : (b n : ℕ) (os : List ℕ) (ls : List Line) (o : ℕ) (l : Line) → length os ≡ length ls → owned b n (os ++ o ∷ []) (ls ++ l ∷ []) ≡ owned b n os ls ++ cond (nat_eq o b) ((n + length ls, l) ∷ []) []
@@ -84,13 +83,13 @@ owned_snoc b n (p ∷ os) (m ∷ ls) o l e =
     elim (nat_eq p b) as (λ v. cond v ((n, m) ∷ owned b (n + 1) (os ++ o ∷ []) (ls ++ l ∷ [])) (owned b (n + 1) (os ++ o ∷ []) (ls ++ l ∷ [])) ≡ cond v ((n, m) ∷ owned b (n + 1) os ls) (owned b (n + 1) os ls) ++ cond (nat_eq o b) ((n + suc (length ls), l) ∷ []) [])
     [ true ↦ (λ u. (n, m) ∷ tail u) | false ↦ tail ]
 
--- before the first line no column has had an entry
-pub settles_start : (base : ℕ) (added : List Line) (columns : List (List Entry)) (cursors : List ℕ) → ((b : ℕ) → slice_index cursors b ≡ 0) → SettlesTo base added columns cursors 0
+-- before the first line no column has had a receipt
+pub settles_start : (base : ℕ) (added : List Line) (columns : List (List Told)) (cursors : List ℕ) → ((b : ℕ) → slice_index cursors b ≡ 0) → SettlesTo base added columns cursors 0
 settles_start base added columns cursors zeros =
     ([], refl, (λ b xs there. (let z = zeros b in omega arith, subst (λ (n : ℕ). AreFor [] (take n xs)) (sym (zeros b)) tt)), (λ k h. absurd (omega arith)))
 
--- the next line is for the next entry of a column
-pub settles_step : (base : ℕ) (added : List Line) (columns : List (List Entry)) (cursors : List ℕ) (j p : ℕ) (xs : List Entry) (l : Line) (x : Entry)
+-- the next line has the next receipt of a column
+pub settles_step : (base : ℕ) (added : List Line) (columns : List (List Told)) (cursors : List ℕ) (j p : ℕ) (xs : List Told) (l : Line) (x : Told)
     → SettlesTo base added columns cursors j → p < length cursors → p < length columns → slice_get columns p ≡ Some xs → slice_get added j ≡ Some l
     → slice_get xs (slice_index cursors p) ≡ Some x → IsFor (base + j) l x
     → SettlesTo base added columns (slice_set cursors p (slice_index cursors p + 1)) (j + 1)
@@ -114,10 +113,10 @@ settles_step base added columns cursors j p xs l x h in_cursors in_columns there
           let old = h.2 p xs there in
           let lt = get_length xs c x mine in
           let lines : owned p base h.0 (take j added) ++ (base + j, l) ∷ [] ≡ owned p base owners (take (j + 1) added) = ap (λ (v : Bool). owned p base h.0 (take j added) ++ cond v ((base + j, l) ∷ []) []) (sym (eq-eqb p p refl)) ∙ sym (each p) in
-          let entries : take c xs ++ x ∷ [] ≡ take (slice_index now p) xs = sym (take_next xs c x mine) ∙ ap (λ n. take n xs) (sym here) in
+          let receipts : take c xs ++ x ∷ [] ≡ take (slice_index now p) xs = sym (take_next xs c x mine) ∙ ap (λ n. take n xs) (sym here) in
           let more = for_snoc (owned p base h.0 (take j added)) (take c xs) (base + j, l) x old.1 is in
-          subst (λ (z : ℕ × List Entry). (slice_index now z.0 ≤ length z.1) × AreFor (owned z.0 base owners (take (j + 1) added)) (take (slice_index now z.0) z.1)) (λ i. (sym e i, both i))
-          (omega arith, subst (λ (z : List (ℕ × Line) × List Entry). AreFor z.0 z.1) (λ i. (lines i, entries i)) more))
+          subst (λ (z : ℕ × List Told). (slice_index now z.0 ≤ length z.1) × AreFor (owned z.0 base owners (take (j + 1) added)) (take (slice_index now z.0) z.1)) (λ i. (sym e i, both i))
+          (omega arith, subst (λ (z : List (ℕ × Line) × List Told). AreFor z.0 z.1) (λ i. (lines i, receipts i)) more))
           (λ (ne : q ≢ p).
           let old = h.2 q ys there' in
           let kept : slice_index now q ≡ slice_index cursors q = get_or-set_other cursors p q (c + 1) 0 ne in
@@ -132,18 +131,18 @@ settles_step base added columns cursors j p xs l x h in_cursors in_columns there
     at_owner (o ∷ os) p zero n old new lt = old 0 (omega arith)
     at_owner (o ∷ os) p (suc k) n old new lt = at_owner os p k n (λ i h. old (suc i) (omega arith)) new (omega arith)
 
--- after the last line no column has an entry left
-pub settles_end : (base : ℕ) (added : List Line) (columns : List (List Entry)) (cursors : List ℕ) (j : ℕ)
+-- after the last line no column has a receipt left
+pub settles_end : (base : ℕ) (added : List Line) (columns : List (List Told)) (cursors : List ℕ) (j : ℕ)
     → SettlesTo base added columns cursors j → j ≡ length added
-    → ((b : ℕ) (xs : List Entry) → slice_get columns b ≡ Some xs → length xs ≤ slice_index cursors b)
+    → ((b : ℕ) (xs : List Told) → slice_get columns b ≡ Some xs → length xs ≤ slice_index cursors b)
     → Settles base added columns
 settles_end base added columns cursors j h all ends = (
   h.0,
   h.1 ∙ all,
   (λ b xs there.
       let lines = take_whole added j (omega arith) in
-      let entries = take_whole xs (slice_index cursors b) (ends b xs there) in
-      subst (λ (z : List Line × List Entry). AreFor (owned b base h.0 z.0) z.1) (λ i. (lines i, entries i)) (h.2 b xs there).1),
+      let receipts = take_whole xs (slice_index cursors b) (ends b xs there) in
+      subst (λ (z : List Line × List Told). AreFor (owned b base h.0 z.0) z.1) (λ i. (lines i, receipts i)) (h.2 b xs there).1),
   h.3,
 )
 
@@ -165,26 +164,26 @@ bounded_step cursors j p lt old q = dite (ℕ_discrete q p)
     let o = old q in
     omega arith)
 
--- cursors that stand at the first entries
+-- cursors that stand at the first receipts
 pub zeros : (n q : ℕ) → slice_index (replicate n 0) q ≡ 0
 zeros zero q = refl
 zeros (suc n) zero = refl
 zeros (suc n) (suc q) = zeros n q
 
--- the number of the column's next entry
-pub next_of : (columns : List (List Entry)) (cursors : List ℕ) (b number : ℕ) (xs : List Entry) → slice_get columns b ≡ Some xs → IsNext columns cursors b number → NumberAt xs (slice_index cursors b) number
+-- the number of the column's next receipt
+pub next_of : (columns : List (List Told)) (cursors : List ℕ) (b number : ℕ) (xs : List Told) → slice_get columns b ≡ Some xs → IsNext columns cursors b number → NumberAt xs (slice_index cursors b) number
 next_of columns cursors b number xs there h =
     let same : h.0 ≡ xs = (let e : Some h.0 ≡ Some xs = sym h.1 ∙ there in cc) in
-    subst (λ (z : List Entry). NumberAt z (slice_index cursors b) number) same h.2
+    subst (λ (z : List Told). NumberAt z (slice_index cursors b) number) same h.2
 
--- one column more has no entry left
-pub ends_more : (columns : List (List Entry)) (cursors : List ℕ) (b : ℕ) (xs : List Entry) → ((q : ℕ) (ys : List Entry) → q < b → slice_get columns q ≡ Some ys → length ys ≤ slice_index cursors q)
+-- one column more has no receipt left
+pub ends_more : (columns : List (List Told)) (cursors : List ℕ) (b : ℕ) (xs : List Told) → ((q : ℕ) (ys : List Told) → q < b → slice_get columns q ≡ Some ys → length ys ≤ slice_index cursors q)
     → slice_get columns b ≡ Some xs → length xs ≤ slice_index cursors b
-    → (q : ℕ) (ys : List Entry) → q < b + 1 → slice_get columns q ≡ Some ys → length ys ≤ slice_index cursors q
+    → (q : ℕ) (ys : List Told) → q < b + 1 → slice_get columns q ≡ Some ys → length ys ≤ slice_index cursors q
 ends_more columns cursors b xs old there here q ys lt there' = dite (ℕ_discrete q b)
     (λ (e : q ≡ b).
     let same : xs ≡ ys = (let x : Some xs ≡ Some ys = sym there ∙ ap (slice_get columns) (sym e) ∙ there' in cc) in
-    subst (λ (z : ℕ × List Entry). length z.1 ≤ slice_index cursors z.0) (λ i. (sym e i, same i)) here)
+    subst (λ (z : ℕ × List Told). length z.1 ≤ slice_index cursors z.0) (λ i. (sym e i, same i)) here)
     (λ (ne : q ≢ b). old q ys (omega arith) there')
 
 -- two lists with the same first elements and the same next one
@@ -243,8 +242,8 @@ there_is [] i lt = absurd (omega arith)
 there_is (x ∷ xs) zero lt = (x, refl)
 there_is (x ∷ xs) (suc i) lt = there_is xs i (omega arith)
 
--- a next entry with the number of a line before
-pub second : (base : ℕ) (lines : List Line) (columns : List (List Entry)) (cursors : List ℕ) (j p k : ℕ)
+-- a next receipt with the number of a line before
+pub second : (base : ℕ) (lines : List Line) (columns : List (List Told)) (cursors : List ℕ) (j p k : ℕ)
     → SettlesTo base (drop base lines) columns cursors j → j ≤ length (drop base lines) → IsNext columns cursors p k → k < base + j → WrongAt base lines columns k
 second base lines columns cursors j p k h within next lt = dite (dec_lt k base)
     (λ (less : k < base). early p next.0 (slice_index cursors p) next.1 next.2 less)
@@ -257,14 +256,14 @@ second base lines columns cursors j p k h within next lt = dite (dec_lt k base)
     let q : ℕ = slice_index h.0 t in
     let owner = there_is columns q (h.3 t (omega arith)) in
     let mine = h.2 q owner.0 owner.1 in
-    let entry = entry_for (owned q base h.0 (take j added)) (take (slice_index cursors q) owner.0) has.0 has.1 mine.1 has.2 in
-    let part = get_take (slice_index cursors q) owner.0 has.0 entry.0 entry.1 in
-    let its = number_for has.1.0 has.1.1 entry.0 entry.2 in
-    let number : number_of entry.0 ≡ k = (let n = has.3 in omega arith) in
-    twice p next.0 (slice_index cursors p) q owner.0 has.0 next.1 next.2 owner.1 (entry.0, part.1, number) (λ (e : p ≡ q) i. let s = ap (slice_index cursors) e in let l = part.0 in omega arith))
+    let receipt = receipt_for (owned q base h.0 (take j added)) (take (slice_index cursors q) owner.0) has.0 has.1 mine.1 has.2 in
+    let part = get_take (slice_index cursors q) owner.0 has.0 receipt.0 receipt.1 in
+    let its = number_for has.1.0 has.1.1 receipt.0 receipt.2 in
+    let number : receipt.0.number ≡ k = (let n = has.3 in omega arith) in
+    twice p next.0 (slice_index cursors p) q owner.0 has.0 next.1 next.2 owner.1 (receipt.0, part.1, number) (λ (e : p ≡ q) i. let s = ap (slice_index cursors) e in let l = part.0 in omega arith))
 
--- no next entry has the number, and none has a lesser one
-pub none_in_order : (base : ℕ) (lines : List Line) (columns : List (List Entry)) (cursors : List ℕ) (j : ℕ)
+-- no next receipt has the number, and none has a lesser one
+pub none_in_order : (base : ℕ) (lines : List Line) (columns : List (List Told)) (cursors : List ℕ) (j : ℕ)
     → SettlesTo base (drop base lines) columns cursors j → j < length (drop base lines) → base ≤ length lines
     → ((p : ℕ) → p < length columns → ¬ IsNext columns cursors p (base + j))
     → ((p : ℕ) → p < length columns → (n : ℕ) → IsNext columns cursors p n → base + j ≤ n)
@@ -291,19 +290,19 @@ none_in_order base lines columns cursors j h within small none least =
     (λ (e : i ≡ c). absurd (none p pth (xs, there, (at.0, subst (λ (z : ℕ). slice_get xs z ≡ Some at.0) e at.1, at.2))))
     (λ ne.
     let next = there_is xs c (omega arith) in
-    let isnext : IsNext columns cursors p (number_of next.0) = (xs, there, (next.0, next.1, refl)) in
-    let l = least p pth (number_of next.0) isnext in
-    (c, number_of next.0, omega arith, more (base + j) (number_of next.0) l (λ e. none p pth (xs, there, (next.0, next.1, sym e))), (next.0, next.1, refl)))))
+    let isnext : IsNext columns cursors p next.0.number = (xs, there, (next.0, next.1, refl)) in
+    let l = least p pth next.0.number isnext in
+    (c, next.0.number, omega arith, more (base + j) next.0.number l (λ e. none p pth (xs, there, (next.0, next.1, sym e))), (next.0, next.1, refl)))))
   where
     more : (a b : ℕ) → a ≤ b → a ≢ b → a < b
     more a b le ne = omega arith
 
--- an entry past the last line
-past : (base : ℕ) (lines : List Line) (columns : List (List Entry)) (cursors : List ℕ) (p k : ℕ) → IsNext columns cursors p k → length lines ≤ k → WrongAt base lines columns k
+-- a receipt past the last line
+past : (base : ℕ) (lines : List Line) (columns : List (List Told)) (cursors : List ℕ) (p k : ℕ) → IsNext columns cursors p k → length lines ≤ k → WrongAt base lines columns k
 past base lines columns cursors p k next far = differs p next.0 (slice_index cursors p) next.1 next.2 (λ c. let l = get_length lines k c.0 c.2 in absurd (omega arith))
 
--- an entry that is left over
-pub left_over : (base : ℕ) (lines : List Line) (columns : List (List Entry)) (cursors : List ℕ) (j p k : ℕ)
+-- a receipt that is left over
+pub left_over : (base : ℕ) (lines : List Line) (columns : List (List Told)) (cursors : List ℕ) (j p k : ℕ)
     → SettlesTo base (drop base lines) columns cursors j → j ≡ length (drop base lines) → IsNext columns cursors p k → base ≤ length lines → WrongAt base lines columns k
 left_over base lines columns cursors j p k h all next within = dite (dec_lt k (length lines))
     (λ (lt : k < length lines). second base lines columns cursors j p k h (omega arith) next (let d = length-drop base lines in omega arith))

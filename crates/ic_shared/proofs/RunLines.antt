@@ -1,17 +1,47 @@
--- The lines of runs.
-use Rattle.std.proofs.Common.{◌≡◌, ◌++◌, ℕ, List, [], ◌∷◌, true, false, Option, Some, None, sym, ap, ◌∙◌, append-nil}
-use Rattle.std.specs.Prelude.{is_some}
+-- The receipts of runs.
+use Rattle.std.proofs.Common.{◌≡◌, ◌++◌, ℕ, List, [], ◌∷◌, true, false, Option, Some, None, Result, Ok, Err, length, map, refl, ap, ◌∙◌}
+use Rattle.std.specs.Prelude.{is_some, slice_get}
+use Rattle.ic_name.specs.Names.{Name}
+use Rattle.ic_name.specs.Events.{Event}
 use Rattle.ic_name.specs.declared.lines.Call.{Call}
+use Rattle.ic_name.specs.declared.lines.Call.TheVariants.{Fire}
 use Rattle.ic_name.specs.declared.lines.Reply.{Reply}
-use Rattle.ic_shared.specs.CallLines.{lines_of}
-use Rattle.ic_shared.specs.Receipts.{numbers_of}
+use Rattle.ic_set.specs.declared.pairs.Fired.{Fired}
+use Rattle.ic_journal.specs.Calls.{FiresPair}
+use Rattle.ic_journal.specs.Views.{BenchView}
+use Rattle.ic_journal.specs.declared.faults.PairFault.{PairFault}
+use Rattle.ic_journal.specs.declared.faults.PairFault.TheVariants as pair
+use Rattle.ic_journal.specs.Notes.{line_read}
+use Rattle.ic_shared.specs.declared.receipts.RunReceipt.{RunReceipt}
+use Rattle.ic_shared.specs.CallLines.{lines_of, pair_reply}
+use Rattle.ic_shared.specs.Passes.{told_in}
+use Rattle.ic_shared.specs.Receipts.{told_of}
 
--- where a call has a reply the number of its line is noted
-pub number_noted : (call : Call) (reply : Option Reply) (number at : ℕ) (ran ran' : List ℕ) → true ≡ is_some reply → number ≡ at → ran' ≡ ran ++ number ∷ [] → ran' ≡ ran ++ numbers_of at (lines_of call reply)
-number_noted call None number at ran ran' replied same noted = absurd (cc (replied))
-number_noted call (Some r) number at ran ran' replied same noted = noted ∙ ap (λ n. ran ++ n ∷ []) same
+-- where a call has a reply a receipt with the number and the note of its line tells it
+pub line_told : (ns : List Name) (call : Call) (reply : Option Reply) (r : RunReceipt) (at : ℕ) → r.number ≡ at
+    → ((answer : Reply) → reply ≡ Some answer → line_read ns r.note ≡ Some (record { call = call; reply = answer })) → true ≡ is_some reply
+    → map (told_in ns) (r ∷ []) ≡ told_of at (lines_of call reply)
+line_told ns call None r at same reads replied = absurd (cc (replied))
+line_told ns call (Some answer) r at same reads replied = λ u. record { number = same u; line = reads answer refl u } ∷ []
 
--- where it has none no number is
-pub none_noted : (call : Call) (reply : Option Reply) (at : ℕ) (ran : List ℕ) → false ≡ is_some reply → ran ≡ ran ++ numbers_of at (lines_of call reply)
-none_noted call None at ran silent = sym (append-nil ran)
-none_noted call (Some r) at ran silent = absurd (cc (silent))
+-- where it has none nothing is to be told
+pub none_told : (ns : List Name) (call : Call) (reply : Option Reply) (at : ℕ) → false ≡ is_some reply → map (told_in ns) [] ≡ told_of at (lines_of call reply)
+none_told ns call None at silent = refl
+none_told ns call (Some answer) at silent = absurd (cc (silent))
+
+-- one value is held
+replied : {a b : Reply} → Some a ≡ Some b → a ≡ b
+replied q = cc
+
+-- what stands behind a list
+last_at : {A : Type 0} (xs : List A) (x : A) → slice_get (xs ++ x ∷ []) (length xs) ≡ Some x
+last_at [] x = refl
+last_at (y ∷ xs) x = last_at xs x
+
+-- the line that firing an active pair adds, where it has a reply
+pub pair_line : (old new : BenchView) (e : Event) (r : Result Fired PairFault) (answer : Reply) → FiresPair old e r new → pair_reply r ≡ Some answer → slice_get new.lines (length old.lines) ≡ Some (record { call = Fire e; reply = answer })
+pair_line old new e (Ok fired) answer f is = ap (λ ls. slice_get ls (length old.lines)) f.0.0.lines ∙ last_at old.lines _ ∙ (λ u. Some (record { call = Fire e; reply = replied is u }))
+pair_line old new e (Err pair.Deep) answer f is = ap (λ ls. slice_get ls (length old.lines)) f.0.lines ∙ last_at old.lines _ ∙ (λ u. Some (record { call = Fire e; reply = replied is u }))
+pair_line old new e (Err pair.Full) answer f is = ap (λ ls. slice_get ls (length old.lines)) f.0.lines ∙ last_at old.lines _ ∙ (λ u. Some (record { call = Fire e; reply = replied is u }))
+pair_line old new e (Err pair.HistoryFull) answer f is = absurd (cc (is))
+pair_line old new e (Err pair.Memory) answer f is = absurd (cc (is))

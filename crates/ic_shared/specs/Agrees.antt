@@ -5,14 +5,14 @@ use Rattle.ic_shared.specs.Passes.{PassView, added_by_all, columns}
 use Rattle.ic_shared.specs.Openings.{OpeningView}
 use Rattle.ic_shared.specs.Settles.{Settles, WrongAt}
 
--- the history is the opening's lines and then as many lines, which are those of the passes' columns
+-- the history is the opening's lines and then as many lines, each told by one receipt
 pub record Agrees (opening : OpeningView) (passes : List PassView) (bench : BenchView) (lines : ℕ) : Type 0 where
   pub every_pass : length passes ≡ opening.passes
   pub start : bench.start ≡ opening.start
   pub opened : bench.lines ≡ opening.lines ++ drop (length opening.lines) bench.lines
   pub added : length bench.lines ≡ length opening.lines + lines
   pub counted : lines ≡ added_by_all passes
-  pub settled : Settles (length opening.lines) (drop (length opening.lines) bench.lines) (columns passes)
+  pub settled : Settles (length opening.lines) (drop (length opening.lines) bench.lines) (columns bench.names passes)
 
 -- what is false at the number
 pub data IsFalseAt (opening : OpeningView) (passes : List PassView) (bench : BenchView) (number : ℕ) : Type 0 where
@@ -27,4 +27,4 @@ pub data IsFalseAt (opening : OpeningView) (passes : List PassView) (bench : Ben
       → IsFalseAt opening passes bench number
   -- there, too: what the passes say of the lines since the opening
   other_receipts : bench.start ≡ opening.start → length bench.lines ≡ length opening.lines + added_by_all passes
-      → WrongAt (length opening.lines) bench.lines (columns passes) number → IsFalseAt opening passes bench number
+      → WrongAt (length opening.lines) bench.lines (columns bench.names passes) number → IsFalseAt opening passes bench number

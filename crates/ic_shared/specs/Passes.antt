@@ -1,17 +1,17 @@
 -- What a pass is seen as, and its two columns.
-use Rattle.std.specs.Prelude.{◌≡◌, ℕ, ◌+◌, List, [], ◌∷◌, length, map}
-use Rattle.ic_name.specs.Events.{Event}
-use Rattle.ic_name.specs.declared.lines.Call.TheVariants.{Fire}
+use Rattle.std.specs.Prelude.{◌≡◌, ℕ, ◌+◌, List, [], ◌∷◌, Option, Some, length, map}
+use Rattle.ic_name.specs.Names.{Name}
 use Rattle.ic_name.specs.declared.lines.Line.{Line}
+use Rattle.ic_journal.specs.Notes.{line_read}
 use Rattle.ic_shared.specs.declared.receipts.Receipt.{Receipt}
+use Rattle.ic_shared.specs.declared.receipts.RunReceipt.{RunReceipt}
 use Rattle.ic_shared.specs.declared.passes.Column.{Column}
 use Rattle.ic_shared.specs.declared.passes.Column.TheVariants.{Calls, Runs}
-use Rattle.ic_shared.specs.Receipts.{receipt_of}
 
--- the receipts of the caller's calls, and the numbers of the lines that its runs of firings added, each in their order
+-- the receipts of the caller's calls, and those of its runs of firings, each in their order
 pub record PassView : Type 0 where
   pub receipts : List Receipt
-  pub ran : List ℕ
+  pub ran : List RunReceipt
 
 -- the pass of a caller that has added no line
 abbrev pub empty_pass : PassView
@@ -26,31 +26,29 @@ abbrev pub added_by_all : List PassView → ℕ
 added_by_all [] = 0
 added_by_all (pass ∷ passes) = added_by pass + added_by_all passes
 
--- an entry of a column: a receipt, or the number of a line of a run
-pub data Entry : Type 0 where
-  Told : Receipt → Entry
-  Ran : ℕ → Entry
+-- what a receipt tells: a line with its number; no line where it tells an event by places that aren't those of known names
+pub record Told : Type 0 where
+  pub number : ℕ
+  pub line : Option Line
 
--- the number of its line
-abbrev pub number_of : Entry → ℕ
-number_of (Told r) = r.number
-number_of (Ran number) = number
+-- what the receipt of a call tells
+abbrev pub told_by : Receipt → Told
+told_by r = record { number = r.number; line = Some (record { call = r.call; reply = r.reply }) }
 
--- the line is a call to fire an event
-abbrev pub IsFiring : Line → Type 0
-IsFiring line = (e : Event) × (line.call ≡ Fire e)
+-- what that of a run tells, by the names at its places
+abbrev pub told_in : List Name → RunReceipt → Told
+told_in ns r = record { number = r.number; line = line_read ns r.note }
 
--- the entry is for the line with this number: it is the line's receipt, or the line is a firing
-abbrev pub IsFor : ℕ → Line → Entry → Type 0
-IsFor number line (Told r) = r ≡ receipt_of number line
-IsFor number line (Ran n) = (n ≡ number) × IsFiring line
+-- it is for the line with this number
+abbrev pub IsFor : ℕ → Line → Told → Type 0
+IsFor number line told = told ≡ record { number = number; line = Some line }
 
--- the entries of a column
-abbrev pub column : PassView → Column → List Entry
-column pass Calls = map Told pass.receipts
-column pass Runs = map Ran pass.ran
+-- what the receipts of a column tell
+abbrev pub column : List Name → PassView → Column → List Told
+column ns pass Calls = map told_by pass.receipts
+column ns pass Runs = map (told_in ns) pass.ran
 
 -- the columns of all passes, two for each
-abbrev pub columns : List PassView → List (List Entry)
-columns [] = []
-columns (pass ∷ passes) = column pass Calls ∷ column pass Runs ∷ columns passes
+abbrev pub columns : List Name → List PassView → List (List Told)
+columns ns [] = []
+columns ns (pass ∷ passes) = column ns pass Calls ∷ column ns pass Runs ∷ columns ns passes

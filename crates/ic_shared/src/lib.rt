@@ -1,6 +1,6 @@
 //! One bench, many callers: threads share a bench by reference, each with a pass that keeps a receipt for every line that
-//! its calls add to the history, and the number of every line that its runs of firings add. Once the threads are done,
-//! settling compares the receipts and the numbers of all passes with the history.
+//! its calls and its runs of firings add to the history. Once the threads are done, settling compares the receipts of all
+//! passes with the history.
 //!
 //! Each bench that is shared has a ledger type of its own, which its passes and its opening carry. So a pass of another
 //! `Shared` has another type, and a call with it doesn't compile.
@@ -23,7 +23,7 @@ pub use faults::{SettleFault, Settled};
 pub use limits::MAX_PASSES;
 pub use opening::Opening;
 pub use passes::{Column, Pass};
-pub use receipts::Receipt;
+pub use receipts::{Receipt, RunReceipt};
 pub use running::Ran;
 pub use settling::settle;
 pub use shared::{Shared, share};

@@ -9,7 +9,7 @@ ghost use Rattle.ic_shared.specs.CallLines.{fire_reply, pair_reply, undo_reply, 
 ghost use Rattle.ic_shared.specs.Receipts.{receipts_of};
 ghost use Rattle.ic_shared.specs.Runs.{FiresOn};
 
-use crate::receipts::Receipt;
+use crate::receipts::{Receipt, RunReceipt};
 use ic_journal::{ActivePair, Bench, FireFault, Fired, PairFault, Proposal, Store, UndoFault};
 use ic_name::{Call, Event, EventId, Reply};
 use std::sync::ledger::{Book, Ledger, Share};
@@ -56,11 +56,11 @@ impl<B: Ledger> Locked<B> {
         answer
     }
 
-    /// Fires an active pair on the bench, and notes the number of the line.
+    /// Fires an active pair on the bench, and gives a receipt for the line.
     pub fn fire_pair(
         &mut self,
         share: &mut Share<B>,
-        ran: &mut Vec<u32>,
+        ran: &mut Vec<RunReceipt>,
         pair: ActivePair,
     ) -> Result<Fired, PairFault>
         requires part { 0 < share.old.parts }
@@ -76,8 +76,11 @@ impl<B: Ledger> Locked<B> {
         let number = self.bench.lines();
         let answer = self.bench.fire_pair(pair);
         if reply_of_pair(&answer).is_some() {
+            let Some(note) = self.bench.note_of(number) else {
+                unreachable!()
+            };
             self.book.add(share, 1);
-            ran.push_reserved(number);
+            ran.push_reserved(RunReceipt { number, note });
         }
         answer
     }

@@ -1,5 +1,6 @@
 // The lines of a history and the columns of all passes, gone through together.
 ghost use Rattle.std.specs.Prelude.{◌≡◌, ◌+◌, ◌*◌, ◌/◌, ◌<◌, ◌≤◌, ℕ, List, Some, length, drop, slice_get, IfOk, IfErr, IfSome, IfNone};
+ghost use Rattle.ic_name.specs.Names.{Name};
 ghost use Rattle.ic_shared.specs.Passes.{PassView, column, columns};
 ghost use Rattle.ic_shared.specs.Settles.{IsNext, Settles, WrongAt};
 
@@ -14,7 +15,7 @@ const MAX_COLUMNS: usize = 2 * MAX_PASSES;
 /// Which column of its pass the one with this number is, where those of each pass have two numbers in a row: among the columns
 /// of any passes it has this number.
 fn column_of(number: usize) -> Column
-    ensures { (passes : List PassView) (pass : PassView) → slice_get passes (number / 2) ≡ Some pass → slice_get (columns passes) number ≡ Some (column pass result) }
+    ensures { (ns : List Name) (passes : List PassView) (pass : PassView) → slice_get passes (number / 2) ≡ Some pass → slice_get (columns ns passes) number ≡ Some (column ns pass result) }
 {
     if number % 2 == 0 {
         Column::Calls
@@ -23,7 +24,7 @@ fn column_of(number: usize) -> Column
     }
 }
 
-/// The column whose next entry has this number. One column is looked at before the others.
+/// The column whose next receipt has this number. One column is looked at before the others.
 fn find<B: Ledger>(
     passes: &[Pass<B>],
     cursors: &[usize; MAX_COLUMNS],
@@ -31,8 +32,8 @@ fn find<B: Ledger>(
     before_others: usize,
 ) -> Option<usize>
     requires { length passes.now ≤ MAX_PASSES }
-    ensures some { IfSome result (λ c. (c < 2 * length passes.now) × IsNext (columns passes.now) cursors.now c number) }
-    ensures none { IfNone result ((c : ℕ) → c < 2 * length passes.now → ¬ IsNext (columns passes.now) cursors.now c number) }
+    ensures some { (ns : List Name) → IfSome result (λ c. (c < 2 * length passes.now) × IsNext (columns ns passes.now) cursors.now c number) }
+    ensures none { (ns : List Name) → IfNone result ((c : ℕ) → c < 2 * length passes.now → ¬ IsNext (columns ns passes.now) cursors.now c number) }
 {
     if before_others < 2 * passes.len()
         && passes[before_others / 2].has_number(
@@ -51,11 +52,11 @@ fn find<B: Ledger>(
     None
 }
 
-/// The number of a column's next entry that is less than this one.
+/// The number of a column's next receipt that is less than this one.
 fn behind<B: Ledger>(passes: &[Pass<B>], cursors: &[usize; MAX_COLUMNS], number: u32) -> Option<u32>
     requires { length passes.now ≤ MAX_PASSES }
-    ensures some { IfSome result (λ n. (n < number) × ((c : ℕ) × IsNext (columns passes.now) cursors.now c n)) }
-    ensures none { IfNone result ((c : ℕ) → c < 2 * length passes.now → (n : ℕ) → IsNext (columns passes.now) cursors.now c n → number ≤ n) }
+    ensures some { (ns : List Name) → IfSome result (λ n. (n < number) × ((c : ℕ) × IsNext (columns ns passes.now) cursors.now c n)) }
+    ensures none { (ns : List Name) → IfNone result ((c : ℕ) → c < 2 * length passes.now → (n : ℕ) → IsNext (columns ns passes.now) cursors.now c n → number ≤ n) }
 {
     for c in 0..2 * passes.len() {
         match passes[c / 2].less_at(column_of(c), cursors[c], number) {
@@ -66,7 +67,7 @@ fn behind<B: Ledger>(passes: &[Pass<B>], cursors: &[usize; MAX_COLUMNS], number:
     None
 }
 
-/// Goes through the lines from `base` on, each of which is to be for the next entry of a column: often of the one that has
+/// Goes through the lines from `base` on, each of which is to have the next receipt of a column: often of the one that has
 /// the line before, which is looked at first. The error is a number at which what the passes say is false.
 pub(crate) fn merge<B: Ledger>(
     bench: &Bench<Store>,
@@ -75,8 +76,8 @@ pub(crate) fn merge<B: Ledger>(
 ) -> Result<(), u32>
     requires few { length passes.now ≤ MAX_PASSES }
     requires within { base ≤ length bench.now.lines }
-    ensures ok { IfOk result (λ _. Settles base (drop base bench.now.lines) (columns passes.now)) }
-    ensures err { IfErr result (WrongAt base bench.now.lines (columns passes.now)) }
+    ensures ok { IfOk result (λ _. Settles base (drop base bench.now.lines) (columns bench.now.names passes.now)) }
+    ensures err { IfErr result (WrongAt base bench.now.lines (columns bench.now.names passes.now)) }
 {
     let mut cursors = [0usize; MAX_COLUMNS];
     let mut last = 0;

@@ -1,22 +1,22 @@
-ghost use Rattle.std.specs.Prelude.{◌≡◌, ◌+◌, ◌<◌, ◌≤◌, ◌↔◌, ℕ, length, MatchOption, IsTrue};
+ghost use Rattle.std.specs.Prelude.{◌≡◌, ◌+◌, ◌<◌, ◌≤◌, ◌↔◌, ℕ, List, length, MatchOption, IsTrue};
+ghost use Rattle.ic_name.specs.Names.{Name};
 ghost use Rattle.ic_shared.specs.Passes.{added_by, column as the_column};
 ghost use Rattle.ic_shared.specs.Settles.{NumberAt, Confirms};
 
-use crate::receipts::Receipt;
+use crate::receipts::{Receipt, RunReceipt};
 use ic_journal::{Bench, Store};
 use std::marker::Model;
 use std::sync::ledger::{Ledger, Share};
 
-/// The receipts of one caller, in the order of its calls, and the numbers of the lines that its runs of firings added, in
-/// theirs. A line of a run has its number alone, so that no names are copied for it.
+/// The receipts of one caller: those of its calls, and those of its runs of firings, each in their order.
 #[derive(Drop)]
 pub struct Pass<B: Ledger> {
     pub(crate) share: Share<B>,
     pub(crate) receipts: Vec<Receipt>,
-    pub(crate) ran: Vec<u32>,
+    pub(crate) ran: Vec<RunReceipt>,
 }
 
-/// The two columns of a pass: what its caller's calls added to the history, and what its runs did.
+/// The two columns of a pass: the receipts of its caller's calls, and those of its runs.
 #[derive(Clone, Copy, Debug, PartialEq, Eq)]
 pub enum Column {
     Calls,
@@ -49,9 +49,9 @@ impl<B: Ledger> Pass<B> {
         self.receipts.as_slice()
     }
 
-    /// The number of the entry at this place of a column; `None` past the last one.
+    /// The number of the receipt at this place of a column; `None` past the last one.
     pub(crate) fn number_at(&self, column: Column, place: usize) -> Option<u32>
-        ensures { MatchOption result (length (the_column self.now column) ≤ place) (λ n. NumberAt (the_column self.now column) place n) }
+        ensures { (ns : List Name) → MatchOption result (length (the_column ns self.now column) ≤ place) (λ n. NumberAt (the_column ns self.now column) place n) }
     {
         match column {
             Column::Calls => match self.receipts.get(place) {
@@ -59,15 +59,15 @@ impl<B: Ledger> Pass<B> {
                 None => None,
             },
             Column::Runs => match self.ran.get(place) {
-                Some(number) => Some(*number),
+                Some(receipt) => Some(receipt.number),
                 None => None,
             },
         }
     }
 
-    /// The number of the entry at this place of a column, where it is less than the one given.
+    /// The number of the receipt at this place of a column, where it is less than the one given.
     pub(crate) fn less_at(&self, column: Column, place: usize, number: u32) -> Option<u32>
-        ensures { MatchOption result ((n : ℕ) → NumberAt (the_column self.now column) place n → number ≤ n) (λ n. (n < number) × NumberAt (the_column self.now column) place n) }
+        ensures { (ns : List Name) → MatchOption result ((n : ℕ) → NumberAt (the_column ns self.now column) place n → number ≤ n) (λ n. (n < number) × NumberAt (the_column ns self.now column) place n) }
     {
         match self.number_at(column, place) {
             Some(lesser) => { if lesser < number { Some(lesser) } else { None } }
@@ -75,9 +75,9 @@ impl<B: Ledger> Pass<B> {
         }
     }
 
-    /// Whether the entry at this place of a column has the number.
+    /// Whether the receipt at this place of a column has the number.
     pub(crate) fn has_number(&self, column: Column, place: usize, number: u32) -> bool
-        ensures { IsTrue result ↔ NumberAt (the_column self.now column) place number }
+        ensures { (ns : List Name) → IsTrue result ↔ NumberAt (the_column ns self.now column) place number }
     {
         match self.number_at(column, place) {
             Some(found) => found == number,
@@ -85,7 +85,7 @@ impl<B: Ledger> Pass<B> {
         }
     }
 
-    /// Whether the entry at this place of a column is for the line with the number.
+    /// Whether the receipt at this place of a column is for the line with the number.
     pub(crate) fn confirms(
         &self,
         column: Column,
@@ -93,7 +93,7 @@ impl<B: Ledger> Pass<B> {
         bench: &Bench<Store>,
         number: u32,
     ) -> bool
-        ensures { IsTrue result ↔ Confirms bench.now.lines (the_column self.now column) place number }
+        ensures { IsTrue result ↔ Confirms bench.now.lines (the_column bench.now.names self.now column) place number }
     {
         match column {
             Column::Calls => match self.receipts.get(place) {
@@ -103,7 +103,9 @@ impl<B: Ledger> Pass<B> {
                 None => false,
             },
             Column::Runs => match self.ran.get(place) {
-                Some(ran) => *ran == number && bench.line_fires(number),
+                Some(receipt) => {
+                    receipt.number == number && bench.line_is_noted(number, receipt.note)
+                }
                 None => false,
             },
         }

@@ -5,6 +5,7 @@ ghost use Rattle.ic_shared.specs.Runs.{Ends, Runs, RunsForPass};
 use crate::chooser::Chooser;
 use crate::locked::Locked;
 use crate::passes::Pass;
+use crate::receipts::RunReceipt;
 use crate::shared::Shared;
 use std::sync::Wait;
 use std::sync::ledger::{Ledger, Share};
@@ -21,10 +22,10 @@ pub struct Ran {
 impl<B: Ledger> Shared<B> {
     /// Fires active pairs in turn, at most so many, and takes the lock of the bench once for all of them. The chooser chooses
     /// each by the bench as the one before left it, and hears each answer; no other call comes in between. The pass is given
-    /// the number of each line that this adds. The run ends where so many were fired, where nothing is chosen, and where a
+    /// a receipt for each line that this adds. The run ends where so many were fired, where nothing is chosen, and where a
     /// limit is met or memory is wanting, and nowhere else.
     ///
-    /// Where there is no memory for so many numbers the chooser isn't asked.
+    /// Where there is no memory for so many receipts the chooser isn't asked.
     pub fn fire_run<R: Wait, C: Chooser>(
         &self,
         rt: &R,
@@ -54,7 +55,7 @@ impl<B: Ledger> Locked<B> {
     fn run<C: Chooser>(
         &mut self,
         share: &mut Share<B>,
-        ran: &mut Vec<u32>,
+        ran: &mut Vec<RunReceipt>,
         chooser: &mut C,
         most: usize,
     ) -> Ran

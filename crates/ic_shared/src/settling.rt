@@ -15,7 +15,7 @@ use ic_name::Line;
 use std::sync::ledger::{Book, Ledger, Share};
 
 /// Lends the part of each pass to `all` in turn, and reads the book once every part is there. It shows that the callers
-/// have as many receipts and numbers together as lines were added, and changes nothing.
+/// have as many receipts together as lines were added, and changes nothing.
 fn audit<B: Ledger>(book: &mut Book<B>, all: &mut Share<B>, passes: &mut [Pass<B>])
     requires parts { all.old.parts + length passes.old ≡ B.parts }
     requires some { 0 < all.old.parts }
@@ -59,8 +59,8 @@ fn first_other(bench: &Bench<Store>, lines: &[Line]) -> Option<u32>
 /// Compares the opening and all passes with the history, once nobody shares the bench any more. It takes no memory.
 ///
 /// For an answer of `Ok` the bench has the start of the opening, its history is the opening's lines and then exactly those of
-/// the passes, each told by one receipt under its number, or a call to fire whose number one run noted; and the lines that
-/// were added are counted. It is `Missing` exactly where there are not as many passes as were given out. It is `Mismatch`
+/// the passes, each told by one receipt under its number, that of a run by the names of the bench; and the lines that were
+/// added are counted. It is `Missing` exactly where there are not as many passes as were given out. It is `Mismatch`
 /// only where all passes are there, and then what the opening and the passes say is false at its number: the history's
 /// length where the start is another or the passes have too few or too many lines, before any line is looked at; else the
 /// number of a line.

@@ -4,3 +4,4 @@ pub mod PairsAdmitted
 pub mod PairsLeft
 pub mod PairsCleared
 pub mod Fronts
+pub mod QueuedAgents

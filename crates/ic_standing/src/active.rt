@@ -1,13 +1,16 @@
-ghost use Rattle.std.specs.Prelude.{IfSome, IfNone, IfOk};
+ghost use Rattle.std.specs.Prelude.{◌≡◌, ◌⊎◌, IfSome, IfNone, IfOk};
 ghost use Rattle.ic_name.specs.Events.{Event as AnEvent};
 ghost use Rattle.ic_theory.specs.Active.{IsActive};
-ghost use Rattle.ic_set.specs.Pairs.{IsLeastPair, AreActivePairs};
+ghost use Rattle.ic_path.specs.Orders.{IsIn};
+ghost use Rattle.ic_set.specs.declared.pairs.ActivePair.{ActivePair as APair};
+ghost use Rattle.ic_set.specs.Pairs.{IsActivePair, IsPairOf, IsLeastPair, AreActivePairs};
 ghost use Rattle.ic_set.specs.Views.{standing};
 
 use crate::set::StandingSet;
 use ic_link::LinkStore;
+use ic_name::AgentId;
 use ic_set::ActivePair;
-use std::alloc::AllocError;
+use std::alloc::{AllocError, Global};
 
 impl<L: LinkStore> StandingSet<L> {
     /// The active pair with the least lead, in constant time; `None` where no pair is active. It takes no memory.
@@ -16,6 +19,33 @@ impl<L: LinkStore> StandingSet<L> {
         ensures absent { IfNone result ((e : AnEvent) → IsActive self.now.set.start (standing self.now.set) e → ⊥) }
     {
         self.front
+    }
+
+    /// The active pair that this agent is of, if it is of one. It takes no memory, and for the lead of the least one no look at
+    /// the net.
+    pub fn pair_with(&self, agent: AgentId) -> Option<ActivePair>
+        ensures found { IfSome result (λ pair. ((pair.lead ≡ agent) ⊎ (pair.other ≡ agent)) × IsActivePair self.now.set pair) }
+        ensures absent { IfNone result ((e : AnEvent) (pair : APair) → (pair.lead ≡ agent) ⊎ (pair.other ≡ agent) → IsPairOf self.now.set e pair → ⊥) }
+    {
+        match self.front {
+            Some(pair) if pair.lead == agent => Some(pair),
+            _ => self.bare.pair_with(agent),
+        }
+    }
+
+    /// The agents in the queue of leads, among whom is the lead of each active pair, in the order of the queue.
+    pub fn leads(&self, alloc: Global) -> Result<Vec<AgentId>, AllocError>
+        ensures { IfOk result (λ leads. (p : APair) → IsActivePair self.now.set p → IsIn p.lead leads.items) }
+    {
+        let roster = self.bare.roster();
+        roster.lawful();
+        let mut leads = Vec::with_capacity(alloc, self.queue.len())?;
+        for lead in self.queue.leads() {
+            if let Some(agent) = roster.named(lead.name) {
+                leads.push_reserved(agent);
+            }
+        }
+        Ok(leads)
     }
 
     /// All active pairs, by lead. It goes over the queue of leads alone.

@@ -1,3 +1,4 @@
 pub mod Decisions
+pub mod SameImages
 pub mod StartSpots
 pub mod SameStarts

@@ -2,7 +2,7 @@ ghost use Rattle.std.specs.Prelude.{◌≡◌, ◌↔◌, ◌≤◌, ◌<◌, �
 ghost use Rattle.ic_theory.specs.Starts.{IsProper};
 ghost use Rattle.ic_start.specs.Starts.{IsStart, AreStartLinks, start_of, join_of};
 
-use crate::links::same_links;
+use crate::links::{same_links, same_texts};
 use ic_name::limits::MAX_START_AGENTS;
 use ic_name::{Kind, Link, Profile};
 use std::alloc::{AllocError, Global};
@@ -79,7 +79,7 @@ impl Start {
         let (left, right) = (&*self.parts, &*other.parts);
         left.kinds == right.kinds
             && same_links(&left.links, &right.links)
-            && left.names == right.names
+            && same_texts(&left.names, &right.names)
             && left.profile == right.profile
     }
 

@@ -2,7 +2,7 @@ ghost use Rattle.std.specs.Prelude.{◌≡◌, All, IfSome};
 ghost use Rattle.ic_name.specs.declared.ids.EventId.{EventId as AnEventId};
 ghost use Rattle.ic_roster.specs.Rosters.{Stands, IsOnce};
 
-use crate::standing::{interaction, take_out};
+use crate::standing::{interaction, line_is_new, take_out};
 use ic_name::EventId;
 use ic_roster::Roster;
 use std::alloc::Global;
@@ -23,12 +23,13 @@ fn stand_after(
     ensures kept { (d : AnEventId) → Stands roster.old.events d → Stands roster.new.events d }
 {
     let interaction = interaction(alloc, roster, agents.0, agents.1)?;
-    match roster.at_line(line) {
+    let new = line_is_new(alloc, roster, line)?;
+    if !new {
+        return None;
+    }
+    match roster.led_by(interaction.lead) {
         Some(_) => None,
-        None => match roster.led_by(interaction.lead) {
-            Some(_) => None,
-            None => roster.insert_event(interaction, line, 0, &[], causes).ok(),
-        },
+        None => roster.insert_event(interaction, line, 0, &[], causes).ok(),
     }
 }
 

@@ -1,5 +1,7 @@
-ghost use Rattle.std.specs.Prelude.{◌≡◌, IfSome};
-ghost use Rattle.ic_roster.specs.Rosters.{IsNamed};
+ghost use Rattle.std.specs.Prelude.{◌≡◌, ◌≢◌, All, IsTrue, IfSome};
+ghost use Rattle.ic_path.specs.Orders.{IsIn};
+ghost use Rattle.ic_name.specs.declared.ids.EventId.{EventId as AnEventId};
+ghost use Rattle.ic_roster.specs.Rosters.{Stander, IsNamed};
 
 use crate::events::event_name;
 use ic_name::{AgentId, AgentName, EventId, Kind};
@@ -36,6 +38,23 @@ pub(crate) fn interaction(
     }
 }
 
+/// Whether no event stands that was fired in this line.
+pub(crate) fn line_is_new(alloc: Global, roster: &Roster, line: u32) -> Option<bool>
+    ensures { IfSome result (λ new. IsTrue new → (x : Stander) → IsIn x roster.now.events → x.id.line ≢ line) }
+{
+    match roster.event_ids(alloc) {
+        Ok(ids) => Some(are_elsewhere(&ids, line)),
+        Err(_) => None,
+    }
+}
+
+/// Whether these events were all fired in other lines than this.
+fn are_elsewhere(ids: &[EventId], line: u32) -> bool
+    ensures { IsTrue result → All (λ (id : AnEventId). id.line ≢ line) ids.now }
+{
+    ids.iter().all(|id| id.line != line)
+}
+
 /// Enters the event of two start agents, without causes, with rank 7. It is `None` where one of this line or this lead stands.
 fn stand(
     alloc: Global,
@@ -45,12 +64,13 @@ fn stand(
     born: &[AgentId],
 ) -> Option<EventId> {
     let interaction = interaction(alloc, roster, agents.0, agents.1)?;
-    match roster.at_line(line) {
+    let new = line_is_new(alloc, roster, line)?;
+    if !new {
+        return None;
+    }
+    match roster.led_by(interaction.lead) {
         Some(_) => None,
-        None => match roster.led_by(interaction.lead) {
-            Some(_) => None,
-            None => roster.insert_event(interaction, line, 7, born, &[]).ok(),
-        },
+        None => roster.insert_event(interaction, line, 7, born, &[]).ok(),
     }
 }
 
@@ -73,19 +93,22 @@ fn is_led(alloc: Global, roster: &Roster, lead: u16, id: Option<EventId>) -> Opt
 fn no_events_at_first(rt: HostRuntime) {
     let roster = Roster::new(rt.alloc());
     assert_eq!(rt; roster.event_count(), 0);
-    assert_eq!(rt; roster.at_line(0), None);
+    assert!(rt; roster.event(EventId { slot: 0, line: 0 }).is_none());
     assert!(rt; finds(rt.alloc(), &roster, 9, 3, None));
+    assert_eq!(rt; line_is_new(rt.alloc(), &roster, 0), Some(true));
 }
 
 #[test]
-fn an_event_is_found_by_its_line(rt: HostRuntime) -> Result<(), Fail> {
+fn an_event_has_its_line(rt: HostRuntime) -> Result<(), Fail> {
     let mut roster = Roster::new(rt.alloc());
     let id = stand(rt.alloc(), &mut roster, (3, 9), 4, &[]).ok_or("an event")?;
     roster.lawful();
     assert_eq!(rt; roster.event_count(), 1);
     assert_eq!(rt; id.line, 4);
-    assert_eq!(rt; roster.at_line(4), Some(id));
-    assert_eq!(rt; roster.at_line(5), None);
+    assert!(rt; finds(rt.alloc(), &roster, 3, 9, Some(id)));
+    assert!(rt; roster.event(id).is_some());
+    assert_eq!(rt; line_is_new(rt.alloc(), &roster, 4), Some(false));
+    assert_eq!(rt; line_is_new(rt.alloc(), &roster, 5), Some(true));
     Ok(())
 }
 
@@ -222,7 +245,8 @@ fn an_event_that_goes_is_found_no_more(rt: HostRuntime) -> Result<(), Fail> {
     let mut roster = Roster::new(rt.alloc());
     let (first, _) = stand_two(rt.alloc(), &mut roster).ok_or("two events")?;
     assert!(rt; hands_out(rt.alloc(), &mut roster, first, 3, &[]));
-    assert_eq!(rt; roster.at_line(4), None);
+    assert!(rt; roster.event(first).is_none());
+    assert_eq!(rt; line_is_new(rt.alloc(), &roster, 4), Some(true));
     assert!(rt; finds(rt.alloc(), &roster, 3, 9, None));
     assert_eq!(rt; is_led(rt.alloc(), &roster, 3, None), Some(true));
     let again = stand(rt.alloc(), &mut roster, (3, 8), 7, &[]).ok_or("an event")?;

@@ -7,7 +7,7 @@ use Rattle.ic_name.specs.declared.lines.Line.{Line}
 use Rattle.ic_name.specs.declared.lines.Reply.{Reply}
 use Rattle.ic_path.specs.Orders.{IsIn}
 use Rattle.ic_path.proofs.Alikes.{alike_back, alike-in, alike-map}
-use Rattle.ic_path.proofs.Picks.{none_in, in_more, in_others, in_picked, in-cons_cases, pick-map}
+use Rattle.ic_path.proofs.Picks.{in_more, in_others, in_picked, in-cons_cases, pick-map}
 use Rattle.ic_theory.specs.Starts.{Start, IsProper}
 use Rattle.ic_theory.specs.Machine.{Standing, State, events, MachineStep, not_active, deep, full, fired, not_standing, held, undone, IsHistory, begins, goes_on}
 use Rattle.ic_theory.proofs.Machines.{history_length}
@@ -15,17 +15,13 @@ use Rattle.ic_roster.specs.Rosters.{Stander}
 use Rattle.ic_journal.specs.Benches.{IsBench}
 use Rattle.ic_journal.specs.Changed.{IsFiredIn, IsChanged}
 use Rattle.ic_journal.specs.Views.{BenchView}
+use Rattle.ic_journal.proofs.FiredLines.{line_behind, AreFiredIn, fired_lines}
 use Rattle.ic_journal.proofs.MachineSteps.{events_at}
 use Rattle.ic_undo.specs.GoingBack.{IsOutside, IsMissing}
 use Rattle.ic_undo.specs.Marks.{MarkView}
 use Rattle.ic_undo.specs.Stood.{StoodAt}
 use Rattle.ic_shown.proofs.Elements.{in-map}
 use Rattle.ic_undo.proofs.SameHistories.{same_history}
-
--- the line behind others
-line_behind : (lines : List Line) (line : Line) (others : List Line) → slice_get (lines ++ line ∷ others) (length lines) ≡ Some line
-line_behind [] line others = refl
-line_behind (x ∷ lines) line others = line_behind lines line others
 
 -- a list that isn't empty has a last element
 last_of : (x : Line) (xs : List Line) → (init : List Line) × (last : Line) × (x ∷ xs ≡ init ++ last ∷ [])
@@ -36,29 +32,6 @@ last_of x (y ∷ ys) = let r = last_of y ys in (x ∷ r.0, r.1, ap (λ zs. x ∷
 not_empty : (front : List Line) (x : Line) (xs : List Line) → [] ≡ front ++ x ∷ xs → ⊥
 not_empty [] x xs e = cc
 not_empty (y ∷ front) x xs e = cc
-
--- in all lines, each event that stands after some of them was fired in the line that is noted with it
-abbrev AreFiredIn : List Line → State → Type 0
-AreFiredIn all st = (x : Standing) → IsIn x st.standing → IsFiredIn all x.line x.event
-
--- one answer more
-fired_answer : {s : Start} {st next : State} {call : Call} {reply : Reply} (all : List Line) → slice_get all st.lines ≡ Some (record { call = call; reply = reply }) → MachineStep s st call reply next → AreFiredIn all st → AreFiredIn all next
-fired_answer all at (not_active n) h = h
-fired_answer all at (deep a d) h = h
-fired_answer all at (full a d f) h = h
-fired_answer {st = st} all at (fired {e = e} a d f) h = λ x i. elim (in-cons_cases i) [ inl q ↦ subst (λ (y : Standing). IsFiredIn all y.line y.event) (sym q) at | inr j ↦ h x j ]
-fired_answer all at (not_standing n) h = h
-fired_answer all at (held i e j l) h = h
-fired_answer all at (undone k e n) h = λ x i. h x (in_picked k i)
-
--- so it is after the first lines of a history
-fired_lines : {s : Start} (all others : List Line) {lines : List Line} {st : State} → IsHistory s lines st → all ≡ lines ++ others → AreFiredIn all st
-fired_lines all others begins e = λ x i. absurd (none_in i)
-fired_lines all others (goes_on {lines = lines} {st = st} {call = call} {reply = reply} h a) e =
-    let line : Line = record { call = call; reply = reply } in
-    let parts : all ≡ lines ++ line ∷ others = e ∙ append_assoc lines (line ∷ []) others in
-    let at : slice_get all st.lines ≡ Some line = ap (slice_get all) (history_length h) ∙ ap (λ xs. slice_get xs (length lines)) parts ∙ line_behind lines line others in
-    fired_answer all at a (fired_lines all (line ∷ others) h parts)
 
 -- between two states an event that no line from one on changed stands in both or in none
 record IsStill (all : List Line) (n : ℕ) (then now : State) : Type 0 where

@@ -1,6 +1,7 @@
 -- What a run leaves in a worker's hand.
 use Rattle.std.proofs.Common.{ℕ, Bool, List, refl, sym, ◌∙◌, subst}
 use Rattle.ic_journal.specs.Views.{BenchView}
+use Rattle.ic_shared.specs.declared.receipts.RunReceipt.{RunReceipt}
 use Rattle.ic_shared.specs.Passes.{PassView}
 use Rattle.ic_shared.specs.Runs.{Runs, begins, fires, chooses_none, RunsForPass, ran, lacked_memory}
 use Rattle.ic_work.specs.declared.hand.Hand.{Hand}
@@ -25,8 +26,8 @@ then_stays a b = record {
 }
 
 -- a run whose every step leaves it
-run_stays : {first : BenchView} {began : Hand} {had : List ℕ} {after : BenchView} {left : Hand} {numbers : List ℕ} {calls : ℕ} {refused : Bool}
-    → Runs (λ h bench pair k. Stays h k) (λ h answer k. Stays h k) first began had after left numbers calls refused → Stays began left
+run_stays : {first : BenchView} {began : Hand} {had : List RunReceipt} {after : BenchView} {left : Hand} {receipts : List RunReceipt} {calls : ℕ} {refused : Bool}
+    → Runs (λ h bench pair k. Stays h k) (λ h answer k. Stays h k) first began had after left receipts calls refused → Stays began left
 run_stays {began = began} begins = stays_so began
 run_stays (fires run chosen fired heard) = then_stays (then_stays (run_stays run) chosen) heard
 run_stays (chooses_none run chosen) = then_stays (run_stays run) chosen

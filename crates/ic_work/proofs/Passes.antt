@@ -1,5 +1,6 @@
 -- What runs add to a pass.
 use Rattle.std.proofs.Common.{◌≡◌, ℕ, ◌+◌, ◌≤◌, Bool, List, [], ◌∷◌, ◌++◌, length, Option, Some, None, Result, sym, ap, ◌∙◌, subst, arith, length-append}
+use Rattle.std.proofs.lemmas.List.{length-map}
 use Rattle.ic_name.specs.declared.lines.Call.{Call}
 use Rattle.ic_name.specs.declared.lines.Call.TheVariants.{Fire}
 use Rattle.ic_name.specs.declared.lines.Reply.{Reply}
@@ -8,29 +9,29 @@ use Rattle.ic_set.specs.declared.pairs.Fired.{Fired}
 use Rattle.ic_journal.specs.Views.{BenchView}
 use Rattle.ic_journal.specs.declared.faults.PairFault.{PairFault}
 use Rattle.ic_shared.specs.CallLines.{pair_reply, lines_of}
-use Rattle.ic_shared.specs.Passes.{PassView, added_by, added_by_all}
-use Rattle.ic_shared.specs.Receipts.{numbers_of}
+use Rattle.ic_shared.specs.declared.receipts.RunReceipt.{RunReceipt}
+use Rattle.ic_shared.specs.Passes.{PassView, added_by, added_by_all, told_in}
+use Rattle.ic_shared.specs.Receipts.{told_of}
 use Rattle.ic_shared.specs.Runs.{FiresOn, Runs, begins, fires, chooses_none, RunsForPass, ran, lacked_memory}
 use Rattle.ic_work.specs.Workers.{MayFire}
 
--- the number of a line, if there is one
-few : (number : ℕ) (call : Call) (reply : Option Reply) → length (numbers_of number (lines_of call reply)) ≤ 1
+-- what is told of a line, if there is one
+few : (number : ℕ) (call : Call) (reply : Option Reply) → length (told_of number (lines_of call reply)) ≤ 1
 few number call None = omega arith
 few number call (Some reply) = omega arith
 
 -- an active pair that is fired
-fires_on : {old new : BenchView} {pair : ActivePair} {r : Result Fired PairFault} {had left : List ℕ} → FiresOn old pair r had new left → length left ≤ length had + 1
-fires_on {old} {r = r} {had = had} one =
-    let call = Fire one.event in
-    let reply = pair_reply r in
-    let whole = ap length one.noted in
-    let parts = length-append had (numbers_of (length old.lines) (lines_of call reply)) in
-    let bound = few (length old.lines) call reply in
+fires_on : {old new : BenchView} {pair : ActivePair} {r : Result Fired PairFault} {had left : List RunReceipt} → FiresOn old pair r had new left → length left ≤ length had + 1
+fires_on {old} {new} {r = r} {had = had} one =
+    let whole = ap length one.receipts in
+    let parts = length-append had one.added in
+    let told = sym (length-map one.added (told_in new.names)) ∙ ap length one.told in
+    let bound = few (length old.lines) (Fire one.event) (pair_reply r) in
     omega arith
 
 -- the active pairs of a run
-run_fires : {C : Type 0} {chooses : C → BenchView → Option ActivePair → C → Type 0} {hears : C → Result Fired PairFault → C → Type 0} {first : BenchView} {began : C} {had : List ℕ} {after : BenchView} {left : C} {numbers : List ℕ} {calls : ℕ} {refused : Bool}
-    → Runs chooses hears first began had after left numbers calls refused → length numbers ≤ length had + calls
+run_fires : {C : Type 0} {chooses : C → BenchView → Option ActivePair → C → Type 0} {hears : C → Result Fired PairFault → C → Type 0} {first : BenchView} {began : C} {had : List RunReceipt} {after : BenchView} {left : C} {receipts : List RunReceipt} {calls : ℕ} {refused : Bool}
+    → Runs chooses hears first began had after left receipts calls refused → length receipts ≤ length had + calls
 run_fires begins = omega arith
 run_fires (fires run chosen one heard) = let before = run_fires run in let last = fires_on one in omega arith
 run_fires (chooses_none run chosen) = run_fires run

@@ -81,7 +81,7 @@ workers_fired old new budget n lines passes bench bench' agrees all few = record
     added = drop (length old.lines) new.lines
 
     fires : (l : Line) → IsIn l added → IsFire l.call
-    fires = lines_fire (length old.lines) added passes agrees.settled all
+    fires = lines_fire new.names (length old.lines) added passes agrees.settled all
 
     from : (st : State) → IsAt old st → FiresFrom old new added st
     from = fires_from old new added bench bench' agrees.start agrees.opened fires

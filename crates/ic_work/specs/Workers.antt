@@ -3,7 +3,7 @@ use Rattle.std.specs.Prelude.{◌≡◌, ◌≢◌, ◌+◌, ◌≤◌, ℕ, Lis
 use Rattle.atomic_table.specs.Seated.{TableId}
 use Rattle.ic_claim.specs.Seats.{SeatValue}
 use Rattle.ic_shared.specs.Passes.{PassView, added_by, added_by_all}
-use Rattle.ic_set.specs.declared.pairs.ActivePair.{ActivePair}
+use Rattle.ic_name.specs.declared.ids.AgentId.{AgentId}
 
 -- all that the caller of a pass added it added by runs of firings
 abbrev pub AreFires : PassView → Type 0
@@ -22,7 +22,7 @@ pub record Keeps (old new : SeatValue) : Type 0 where
   pub tickets : new.view.tickets ≡ old.view.tickets
 
 -- a word is held for the hint in hand, and none without a hint
-abbrev pub Grips : Option ActivePair → Option ℕ → Type 0
+abbrev pub Grips : Option AgentId → Option ℕ → Type 0
 Grips None held = held ≡ None
 Grips (Some hint) held = held ≢ None
 

@@ -1,6 +1,6 @@
 use crossbeam_deque::Stealer;
 use ic_claim::Claims;
-use ic_journal::ActivePair;
+use ic_name::AgentId;
 use ic_reduce::Gate;
 use ic_shared::Shared;
 use std::sync::ledger::Ledger;
@@ -12,7 +12,7 @@ pub(crate) struct Floor<'a, B: Ledger, G: Gate> {
     pub claims: &'a Claims,
     pub gate: &'a G,
     /// The hints of all workers, each of whom steals from the others.
-    pub hints: &'a [Stealer<ActivePair>],
+    pub hints: &'a [Stealer<AgentId>],
     /// How many events a worker fires under one lock, at most.
     pub most: usize,
 }

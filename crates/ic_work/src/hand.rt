@@ -3,9 +3,11 @@ ghost use Rattle.ic_work.specs.Workers.{Grips, Keeps};
 ghost use Rattle.ic_work.specs.Hands.{Stays};
 
 use crate::hints::put_out;
+use crate::limits::MOST;
 use crossbeam_deque::Worker as Deque;
 use ic_claim::{CLAIM_WORDS, Claims, Seat};
 use ic_journal::{ActivePair, Bench, Fired, PairFault, Store};
+use ic_name::AgentId;
 use ic_shared::Chooser;
 
 /// What a worker chooses by: its hints, of which it has one in hand, or none; its seat holds the word of that one, and else
@@ -14,23 +16,23 @@ use ic_shared::Chooser;
 pub(crate) struct Hand<'a> {
     pub claims: &'a Claims,
     pub seat: &'a mut Seat,
-    pub hints: &'a mut Deque<ActivePair>,
-    pub hint: Option<ActivePair>,
+    pub hints: &'a mut Deque<AgentId>,
+    pub hint: Option<AgentId>,
 }
 
 /// Claims the word of a hint. Where another worker holds it, the hint goes back among the worker's own.
 pub(crate) fn claim(
     claims: &Claims,
     seat: &mut Seat,
-    hints: &mut Deque<ActivePair>,
-    hint: ActivePair,
-) -> Option<ActivePair>
+    hints: &mut Deque<AgentId>,
+    hint: AgentId,
+) -> Option<AgentId>
     requires table { seat.old.table ≡ claims.now.table }
     requires free { seat.old.view.held ≡ None }
     ensures seat { Keeps seat.old seat.new }
     ensures grips { Grips result seat.new.view.held }
 {
-    let word = u64::from(hint.lead.slot) % CLAIM_WORDS;
+    let word = u64::from(hint.slot) % CLAIM_WORDS;
     match claims.take(seat, word) {
         Ok(()) => Some(hint),
         Err(_) => {
@@ -77,21 +79,23 @@ impl Chooser for Hand<'_> {
 
     ghost hears = { λ h answer k. Stays h k };
 
-    /// The hint in hand, or else the next one of the worker's own. None comes where its word is busy or its pair isn't active
-    /// any more.
+    /// The pair of the hint in hand, or else of the next of the worker's own that is of one. None comes where the word of a hint
+    /// is busy, where there is none, and where so many were of no active pair.
     fn choose(&mut self, bench: &Bench<Store>) -> Option<ActivePair> {
-        if self.hint.is_none() {
-            self.reach();
+        for _tried in 0..MOST {
+            if self.hint.is_none() {
+                self.reach();
+            }
+            let pair = bench.pair_with(self.hint?);
+            if pair.is_some() {
+                return pair;
+            }
+            self.let_go();
         }
-        let hint = self.hint?;
-        let pair = bench.pair_with(hint.lead)?;
-        if pair != hint {
-            return None;
-        }
-        Some(pair)
+        None
     }
 
-    /// Leaves the word of what was fired, and puts the pairs that became active by it out as hints.
+    /// Leaves the word of what was fired, and puts the leads of the pairs that became active by it out as hints.
     fn hear(&mut self, answer: &Result<Fired, PairFault>) {
         self.let_go();
         if let Ok(fired) = answer {

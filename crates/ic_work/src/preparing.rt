@@ -4,13 +4,13 @@ ghost use Rattle.ic_claim.specs.Views.{new_view};
 use crate::worker::Worker;
 use crossbeam_deque::{Stealer, Worker as Deque};
 use ic_claim::{Claims, MAX_BUDGET, MAX_WORKERS, Seat};
-use ic_journal::ActivePair;
+use ic_name::AgentId;
 use ic_shared::Pass;
 use std::alloc::{AllocError, Global};
 use std::sync::atomic::AtomicBool;
 use std::sync::ledger::Ledger;
 
-/// How many hints a worker has room for at first.
+/// How many hints a worker has room for at first, at least.
 const FIRST_ROOM: usize = 64;
 
 /// All that a sweep takes memory for before its bench is shared.
@@ -19,9 +19,9 @@ pub(crate) struct Prepared<B: Ledger> {
     pub claims: Claims,
     pub seat: Seat,
     /// The hints of each worker.
-    pub hints: Vec<Deque<ActivePair>>,
+    pub hints: Vec<Deque<AgentId>>,
     /// For the others to steal from.
-    pub stealers: Vec<Stealer<ActivePair>>,
+    pub stealers: Vec<Stealer<AgentId>>,
     /// For each worker but the first one, whether its thread couldn't be started.
     pub off: Vec<AtomicBool>,
     /// Room for each worker but the first one.
@@ -30,10 +30,10 @@ pub(crate) struct Prepared<B: Ledger> {
     pub home: Vec<Pass<B>>,
 }
 
-/// What so many workers need. These active pairs are their first hints, dealt out in blocks.
+/// What so many workers need. These agents are their first hints, dealt out in blocks.
 pub(crate) fn prepare<B: Ledger>(
     alloc: Global,
-    pairs: &[ActivePair],
+    leads: &[AgentId],
     workers: u32,
     budget: u32,
 ) -> Result<Prepared<B>, AllocError>
@@ -46,17 +46,18 @@ pub(crate) fn prepare<B: Ledger>(
     ensures home { IfOk result (λ p. (vec_len p.home ≡ 0) × (workers ≤ vec_capacity p.home)) }
 {
     let count = workers as usize;
+    let room = leads.len().div_ceil(count).max(FIRST_ROOM);
     let (claims, seat) = Claims::make(alloc, budget)?;
     let mut hints = Vec::with_capacity(alloc, count)?;
     let mut stealers = Vec::with_capacity(alloc, count)?;
     let mut off = Vec::with_capacity(alloc, count)?;
     for _made in 0..count {
-        let own = Deque::new_fifo(alloc, FIRST_ROOM)?;
+        let own = Deque::new_fifo(alloc, room)?;
         stealers.push(own.stealer()?)?;
         hints.push_reserved(own);
         off.push_reserved(AtomicBool::new(false));
     }
-    deal(hints.as_mut_slice(), pairs)?;
+    deal(hints.as_mut_slice(), leads)?;
     Ok(Prepared {
         claims,
         seat,
@@ -68,14 +69,14 @@ pub(crate) fn prepare<B: Ledger>(
     })
 }
 
-/// Deals these pairs out to the workers, in blocks one after the other.
-fn deal(hints: &mut [Deque<ActivePair>], pairs: &[ActivePair]) -> Result<(), AllocError>
+/// Deals these agents out to the workers, in blocks one after the other.
+fn deal(hints: &mut [Deque<AgentId>], leads: &[AgentId]) -> Result<(), AllocError>
     requires { 0 < length hints.old }
 {
-    let block = pairs.len().div_ceil(hints.len()).max(1);
-    for (own, mine) in hints.iter_mut().zip(pairs.chunks(block)) {
-        for pair in mine {
-            let Ok(()) = own.push(*pair) else {
+    let block = leads.len().div_ceil(hints.len()).max(1);
+    for (own, mine) in hints.iter_mut().zip(leads.chunks(block)) {
+        for lead in mine {
+            let Ok(()) = own.push(*lead) else {
                 return Err(AllocError);
             };
         }

@@ -13,7 +13,8 @@ use crate::swept::{SweepFault, Swept};
 use crate::worker::Worker;
 use crossbeam_deque::Worker as Deque;
 use ic_claim::{Claims, MAX_BUDGET, MAX_WORKERS, Seat};
-use ic_journal::{ActivePair, Bench, Store};
+use ic_journal::{Bench, Store};
+use ic_name::AgentId;
 use ic_reduce::{Gate, fire_least};
 use ic_shared::{Pass, settle, share};
 use std::alloc::Global;
@@ -49,15 +50,15 @@ pub fn sweep<G: Gate, R: Threads + Wait + Sync>(
     ensures ran { IfOk result (λ s. (0 < s.ran) × (s.ran ≤ workers)) }
     ensures fault { IfErr result (λ f. IsGivenBack bench f) }
 {
-    let Ok(pairs) = bench.active() else {
+    let Ok(leads) = bench.leads() else {
         return Err(SweepFault::Memory(bench));
     };
-    let workers = workers.min(useful(pairs.len(), budget));
+    let workers = workers.min(useful(leads.len(), budget));
     sweep_as::<Brand, G, R>(
         rt,
         alloc,
         bench,
-        &pairs,
+        &leads,
         Blank::new(u64::from(workers) + 1),
         workers,
         budget,
@@ -65,12 +66,12 @@ pub fn sweep<G: Gate, R: Threads + Wait + Sync>(
     )
 }
 
-/// How many workers are of use where so many pairs are active: the caller, and one for each of these that may be fired.
-fn useful(pairs: usize, budget: u32) -> u32
+/// How many workers are of use where there are so many hints: the caller, and one for each of these that may be followed.
+fn useful(hints: usize, budget: u32) -> u32
     requires { budget ≤ MAX_BUDGET }
     ensures { 0 < result }
 {
-    pairs.min(budget as usize) as u32 + 1
+    hints.min(budget as usize) as u32 + 1
 }
 
 /// How many events each of so many workers fires under one lock, at most: so few that none holds much of the budget.
@@ -80,12 +81,12 @@ fn most_in_a_run(workers: u32, budget: u32) -> usize
     (budget / (4 * workers)).clamp(1, MOST as u32) as usize
 }
 
-/// The sweep over a ledger of its own, where these pairs are active.
+/// The sweep over a ledger of its own, where these agents are the first hints.
 fn sweep_as<B: Ledger + Send + Sync, G: Gate, R: Threads + Wait + Sync>(
     rt: &R,
     alloc: Global,
     bench: Bench<Store>,
-    pairs: &[ActivePair],
+    leads: &[AgentId],
     blank: Blank,
     workers: u32,
     budget: u32,
@@ -101,7 +102,7 @@ fn sweep_as<B: Ledger + Send + Sync, G: Gate, R: Threads + Wait + Sync>(
 {
     bench.lawful();
     let stood = bench.standing_count();
-    let Ok(prepared) = prepare::<B>(alloc, pairs, workers, budget) else {
+    let Ok(prepared) = prepare::<B>(alloc, leads, workers, budget) else {
         return Err(SweepFault::Memory(bench));
     };
     let Prepared {
@@ -158,10 +159,10 @@ fn sweep_as<B: Ledger + Send + Sync, G: Gate, R: Threads + Wait + Sync>(
 fn split_off_others<B: Ledger>(
     claims: &Claims,
     seat: &mut Seat,
-    mut hints: Vec<Deque<ActivePair>>,
+    mut hints: Vec<Deque<AgentId>>,
     mut passes: Vec<Pass<B>>,
     others: &mut Vec<Worker<B>>,
-) -> (Deque<ActivePair>, Pass<B>)
+) -> (Deque<AgentId>, Pass<B>)
     requires table { seat.old.table ≡ claims.now.table }
     requires new { seat.old.view ≡ new_view claims.now.budget 0 }
     requires hints { vec_len hints ≡ vec_len passes }

@@ -8,7 +8,7 @@ use crate::limits::MOST;
 use crate::tickets::Unused;
 use crossbeam_deque::Worker as Deque;
 use ic_claim::Seat;
-use ic_journal::ActivePair;
+use ic_name::AgentId;
 use ic_reduce::Gate;
 use ic_shared::{Pass, Ran};
 use std::sync::Wait;
@@ -19,7 +19,7 @@ use std::sync::ledger::Ledger;
 #[derive(Drop)]
 pub(crate) struct Worker<B: Ledger> {
     pub number: usize,
-    pub hints: Deque<ActivePair>,
+    pub hints: Deque<AgentId>,
     pub seat: Seat,
     pub pass: Pass<B>,
 }
@@ -80,7 +80,7 @@ impl<B: Ledger> Worker<B> {
         rt: &R,
         floor: &Floor<'_, B, G>,
         unused: &mut Unused,
-        hint: ActivePair,
+        hint: AgentId,
     ) -> Then
         requires table { self.old.seat.table ≡ floor.now.claims.now.table }
         requires holds { self.old.seat.view.held ≢ None }
@@ -121,7 +121,7 @@ impl<B: Ledger> Worker<B> {
         &mut self,
         rt: &R,
         floor: &Floor<'_, B, G>,
-        hint: ActivePair,
+        hint: AgentId,
         most: usize,
     ) -> Ran
         requires table { self.old.seat.table ≡ floor.now.claims.now.table }

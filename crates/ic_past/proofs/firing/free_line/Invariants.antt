@@ -3,5 +3,5 @@ use Rattle.ic_path.specs.Orders.{IsIn}
 use Rattle.ic_past.proofs.firing.free_line.Given as goal
 
 -- the lines so far are in use
-abbrev pub invariant-loop-taken : goal.invariant-loop-taken
-invariant-loop-taken l = (k : ℕ) → k ≤ length l.roster.events → length l.roster.events < l.taken + k → IsIn k (map (λ x. x.id.line) l.roster.events)
+abbrev pub invariant-loop-tried : goal.invariant-loop-tried
+invariant-loop-tried l = (k : ℕ) → k ≤ length l.roster.events → length l.roster.events < l.tried + k → IsIn k (map (λ x. x.id.line) l.roster.events)

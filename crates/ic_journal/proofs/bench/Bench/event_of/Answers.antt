@@ -1,13 +1,13 @@
-use Rattle.std.proofs.Common.{◌≢◌, List, sym, subst}
+use Rattle.std.proofs.Common.{List, sym, subst}
 use Rattle.ic_path.specs.Orders.{IsIn}
 use Rattle.ic_roster.specs.Rosters.{event_in, Stander}
 use Rattle.ic_journal.proofs.bench.Bench.event_of.Goals as goal
 
-pub returns-in_default : goal.returns-in_default
-returns-in_default g c = rw (← c.self.view_is, ← c.bare.ensures) (subst (λ (xs : List Stander). (x : Stander) → IsIn x xs → x.id.line ≢ c.args.id.line) c.roster-roster.ensures.events c.in_default.ensures.absent)
-
 pub unreachable-requires : goal.unreachable-requires
-unreachable-requires g c = c.in_default-event.ensures.absent c.in-Some.ensures.found.0 c.in-Some.ensures.found.1 c.in-Some.ensures.found.2
+unreachable-requires g c =
+    let x = c.in-Some.ensures.found in
+    let there : IsIn x.0 c.self.inside.set.set.events = rw (← c.self.view_is) at x.1 in
+    c.in_default-event.ensures.absent x.0 (rw (c.roster-roster.ensures.events, c.bare.ensures) there) x.2
 
 pub returns : goal.returns
 returns g c =

@@ -4,10 +4,10 @@ use Rattle.ic_name.specs.declared.lines.Call.TheVariants.{Fire}
 use Rattle.ic_set.specs.Pairs.{IsPairOf}
 use Rattle.ic_journal.specs.Noted.{NotedLine, Limited, line_in}
 use Rattle.ic_journal.specs.Views.{set_of, view_of}
-use Rattle.ic_journal.specs.Verdicts.{reply_of, refusal_of}
+use Rattle.ic_journal.specs.Verdicts.{reply_of}
 use Rattle.ic_journal.specs.Calls.{FiresPair}
 use Rattle.ic_journal.proofs.Answering.{same_set}
-use Rattle.ic_journal.proofs.KeptBenches.{keeps_self, same_stays, refused_kept, refuses, roomier_fires}
+use Rattle.ic_journal.proofs.KeptBenches.{keeps_self, same_kept, same_stays, refused_kept, refuses, roomier_fires}
 use Rattle.ic_journal.proofs.PairLimits.{meets_same, limit_answer, pair_refused}
 use Rattle.ic_journal.proofs.bench.Bench.fire_pair.Goals as goal
 
@@ -26,7 +26,7 @@ invariant_of-self-in-Some g c =
     let e = c.requires.0 in
     let p : IsPairOf s.set e c.args.pair = subst (λ v. IsPairOf (set_of v) e c.args.pair) (sym c.self.view_is) c.requires.1 in
     let its = (rw c.bare-set.ensures at c.interaction_of-event.ensures.event) e p in
-    let answer = reply_of (refusal_of c.in-Some.limit) in
+    let answer = reply_of c.in-Some.limit in
     let named = rw c.bare-set.ensures at c.interaction_of-event.ensures.named in
     let l : NotedLine = Limited c.in-Some.limit c.interaction_of-event.result in
     let more : c.note.new.self.lines ≡ h.lines ++ l ∷ [] = rw (c.reserve.ensures.lines, c.limited.ensures.line) at c.note.ensures.lines in
@@ -38,7 +38,7 @@ pub returns-in-Some : goal.returns-in-Some
 returns-in-Some g c =
     let s = c.self.inside.set in
     let h = c.self.inside.history in
-    let answer = reply_of (refusal_of c.in-Some.limit) in
+    let answer = reply_of c.in-Some.limit in
     let named = rw c.bare-set.ensures at c.interaction_of-event.ensures.named in
     let l : NotedLine = Limited c.in-Some.limit c.interaction_of-event.result in
     let more : c.note.new.self.lines ≡ h.lines ++ l ∷ [] = rw (c.reserve.ensures.lines, c.limited.ensures.line) at c.note.ensures.lines in
@@ -70,3 +70,6 @@ returns-in-Ok-admit_noted g c =
     let p : IsPairOf s.set e c.args.pair = subst (λ v. IsPairOf (set_of v) e c.args.pair) (sym c.self.view_is) q in
     let fires = roomier_fires s c.self.inside.history c.reserve.new.self c.reserve.ensures.lines c.reserve.ensures.more c.admit_noted.new.self e fired (c.in-Ok-admit_noted.ensures.fired e p) in
     subst (λ v. FiresPair v e (Ok fired) c.admit_noted.new.self) c.self.view_is fires)
+
+pub invariant_of-self-in_default-limit_of : goal.invariant_of-self-in_default-limit_of
+invariant_of-self-in_default-limit_of g c = same_kept c.self.inside.set c.self.inside.set c.self.inside.history c.reserve.new.self c.self.invariant (same_set _) (keeps_self _) c.reserve.ensures.lines c.reserve.ensures.few

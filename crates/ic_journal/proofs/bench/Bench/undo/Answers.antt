@@ -12,20 +12,20 @@ use Rattle.ic_journal.proofs.MachineSteps.{absent_answer, held_answer}
 use Rattle.ic_journal.proofs.KeptBenches.{refused_kept, refuses, undone_steps, undone_kept}
 use Rattle.ic_journal.proofs.bench.Bench.undo.Goals as goal
 
-pub invariant_of-self-in_default-at_line : goal.invariant_of-self-in_default-at_line
-invariant_of-self-in_default-at_line g c =
+pub invariant_of-self-in_default-standing_of : goal.invariant_of-self-in_default-standing_of
+invariant_of-self-in_default-standing_of g c =
     let s = c.self.inside.set in
     let h = c.self.inside.history in
     let more : c.note.new.self.lines ≡ h.lines ++ seen.NotStanding c.args.id.line ∷ [] = rw c.reserve.ensures.lines at c.note.ensures.lines in
-    let none : (x : Stander) → IsIn x s.set.events → x.id.line ≢ c.args.id.line = rw (c.roster.ensures.events, c.bare-set.ensures) at c.in_default-at_line.ensures.absent in
+    let none : (x : Stander) → IsIn x s.set.events → x.id.line ≢ c.args.id.line = c.in_default-standing_of.ensures.absent in
     refused_kept s h c.note.new.self c.self.invariant _ (Undo c.args.id.line) reply.NotStanding more tt refl (absent_answer (view_of s h) c.args.id.line none) c.note.ensures.few
 
-pub returns-in_default-at_line : goal.returns-in_default-at_line
-returns-in_default-at_line g c =
+pub returns-in_default-standing_of : goal.returns-in_default-standing_of
+returns-in_default-standing_of g c =
     let s = c.self.inside.set in
     let h = c.self.inside.history in
     let more : c.note.new.self.lines ≡ h.lines ++ seen.NotStanding c.args.id.line ∷ [] = rw c.reserve.ensures.lines at c.note.ensures.lines in
-    let none : (x : Stander) → IsIn x s.set.events → x.id.line ≢ c.args.id.line = rw (c.roster.ensures.events, c.bare-set.ensures) at c.in_default-at_line.ensures.absent in
+    let none : (x : Stander) → IsIn x s.set.events → x.id.line ≢ c.args.id.line = c.in_default-standing_of.ensures.absent in
     let up = c.reserve.ensures.more in
     let down = c.note.ensures.room in
     rw (← c.self.view_is) (refuses s h c.note.new.self c.self.invariant _ (Undo c.args.id.line) reply.NotStanding more tt refl (absent_answer (view_of s h) c.args.id.line none) (omega (arith, up, down)))
@@ -37,7 +37,7 @@ returns-in-Some-least_dependent g c =
     let holder = c.in-Some-least_dependent.holder in
     let more : c.note-in-Some-least_dependent.new.self.lines ≡ h.lines ++ seen.Held c.args.id.line holder.line ∷ [] = rw c.reserve.ensures.lines at c.note-in-Some-least_dependent.ensures.lines in
     let in_line : c.in-Some.standing.line ≡ c.args.id.line = c.in-Some.ensures.found.3 in
-    let least = rw c.bare-set.ensures at c.in-Some-least_dependent.ensures.found in
+    let least = rw c.bare.ensures at c.in-Some-least_dependent.ensures.found in
     let answers = subst (λ (l : ℕ). (st : State) → IsAt (view_of s h) st → MachineStep s.set.start st (Undo l) (reply.Held holder.line) (noted st)) in_line (held_answer (view_of s h) c.in-Some.standing holder least) in
     let up = c.reserve.ensures.more in
     let down = c.note-in-Some-least_dependent.ensures.room in
@@ -50,7 +50,7 @@ invariant_of-self-in-Some-least_dependent g c =
     let holder = c.in-Some-least_dependent.holder in
     let more : c.note-in-Some-least_dependent.new.self.lines ≡ h.lines ++ seen.Held c.args.id.line holder.line ∷ [] = rw c.reserve.ensures.lines at c.note-in-Some-least_dependent.ensures.lines in
     let in_line : c.in-Some.standing.line ≡ c.args.id.line = c.in-Some.ensures.found.3 in
-    let answers = subst (λ (l : ℕ). (st : State) → IsAt (view_of s h) st → MachineStep s.set.start st (Undo l) (reply.Held holder.line) (noted st)) in_line (held_answer (view_of s h) c.in-Some.standing holder (rw c.bare-set.ensures at c.in-Some-least_dependent.ensures.found)) in
+    let answers = subst (λ (l : ℕ). (st : State) → IsAt (view_of s h) st → MachineStep s.set.start st (Undo l) (reply.Held holder.line) (noted st)) in_line (held_answer (view_of s h) c.in-Some.standing holder (rw c.bare.ensures at c.in-Some-least_dependent.ensures.found)) in
     refused_kept s h c.note-in-Some-least_dependent.new.self c.self.invariant _ (Undo c.args.id.line) (reply.Held holder.line) more tt refl answers c.note-in-Some-least_dependent.ensures.few
 
 pub invariant_of-self-in-None : goal.invariant_of-self-in-None
@@ -62,7 +62,7 @@ invariant_of-self-in-None g c =
     let up = c.reserve.ensures.more in
     let down = c.note-in-None.ensures.room in
     let room : h.room ≤ c.note-in-None.new.self.room + 1 = omega (arith, up, down) in
-    undone_kept s c.take_out.new.self h c.note-in-None.new.self c.self.invariant c.take_out.ensures.names c.in-Some.standing c.take_out.ensures.out (rw c.bare-set.ensures at c.in-None.ensures.absent) more room c.note-in-None.ensures.few
+    undone_kept s c.take_out.new.self h c.note-in-None.new.self c.self.invariant c.take_out.ensures.names c.in-Some.standing c.take_out.ensures.out (rw c.bare.ensures at c.in-None.ensures.absent) more room c.note-in-None.ensures.few
 
 pub returns-in-None : goal.returns-in-None
 returns-in-None g c =
@@ -73,8 +73,8 @@ returns-in-None g c =
     let up = c.reserve.ensures.more in
     let down = c.note-in-None.ensures.room in
     let room : h.room ≤ c.note-in-None.new.self.room + 1 = omega (arith, up, down) in
-    let steps = undone_steps s c.take_out.new.self h c.note-in-None.new.self c.self.invariant c.take_out.ensures.names c.in-Some.standing c.take_out.ensures.out (rw c.bare-set.ensures at c.in-None.ensures.absent) more room in
+    let steps = undone_steps s c.take_out.new.self h c.note-in-None.new.self c.self.invariant c.take_out.ensures.names c.in-Some.standing c.take_out.ensures.out (rw c.bare.ensures at c.in-None.ensures.absent) more room in
     rw (← c.self.view_is) (subst (λ (l : ℕ). Steps (view_of s h) (Undo l) reply.Undone (view_of c.take_out.new.self c.note-in-None.new.self)) in_line steps, (c.in-Some.standing, in_line, c.take_out.ensures.out))
 
 pub take_out-requires-clause-free : goal.take_out-requires-clause-free
-take_out-requires-clause-free g c = rw c.bare-set.ensures at c.in-None.ensures.absent
+take_out-requires-clause-free g c = rw c.bare.ensures at c.in-None.ensures.absent

@@ -23,7 +23,7 @@ returns-in-Some c =
     let v = c.self.inside.set.set in
     let ds = c.self.inside.deep.items in
     let set = c.lawful.ensures.set in
-    let k = c.self.invariant in
+    let k = c.self.invariant.0 in
     let d = c.in-Some.ensures.found in
     let there = subst (λ (xs : List DeepEvent). IsIn d.0 xs) c.deref.ensures.value (found_in c.deref.result.now c.in-Some.place d.0 d.1) in
     let named : pair d.0.event ≡ c.args.event.now = d.2 ∙ (λ i. record { lead = c.lead.ensures i; other = c.other.ensures i }) in
@@ -53,7 +53,7 @@ returns c =
     let v = c.self.inside.set.set in
     let ds = c.self.inside.deep.items in
     let set = c.lawful.ensures.set in
-    let k = c.self.invariant in
+    let k = c.self.invariant.0 in
     let x = c.in-Some-find_event.ensures.found in
     let there = subst (λ (ss : List Stander). IsIn x.0 ss) c.roster-2.ensures.events x.1 in
     let ids = c.in_ok-causes.causes.items in
@@ -67,7 +67,7 @@ returns c =
 pub names_of-requires : goal.names_of-requires
 names_of-requires c =
     let ds = c.self.inside.deep.items in
-    let k = c.self.invariant in
+    let k = c.self.invariant.0 in
     let d = c.in-Some.ensures.found in
     let there = subst (λ (xs : List DeepEvent). IsIn d.0 xs) c.deref.ensures.value (found_in c.deref.result.now c.in-Some.place d.0 d.1) in
     let at = subst (λ (ys : List DeepEvent). slice_get ys c.in-Some.place ≡ Some d.0) c.deref.ensures.value d.1 in

@@ -3,13 +3,13 @@ use Rattle.slab.specs.Slab.{entries_from}
 use Rattle.ic_roster.specs.declared.event_record.EventRecord.{EventRecord}
 use Rattle.ic_roster.specs.EventSlots.{event_at, event_line, event_lead}
 use Rattle.ic_roster.proofs.ClearedEvents.{only_entries, only_others, only_none, none_linked, children_gone, all_gone}
+use Rattle.ic_roster.proofs.OwnNumbers.{own_none}
 use Rattle.ic_roster.proofs.event_records.EventRecords.clear.Goals as goal
 
 pub loop-event-init : goal.loop-event-init
 loop-event-init c =
     let left : c.into_iter-event-iterator.result ≡ entries_from 0 c.self.inside.records.slots = c.into_iter-event-iterator.ensures.into_iter_gives ∙ c.iter-event-items.ensures.rest in
     record {
-      lines = rw left (only_entries event_line _ c.self.inside.lines c.self.invariant.0.lined);
       leads = rw left (only_entries event_lead _ c.self.inside.leads c.self.invariant.0.led);
       agents = λ m. (λ h. h, λ h. h);
     }
@@ -21,8 +21,7 @@ loop-event-preserved c =
     let steps : c.loop-event.event-iterator ≡ e ∷ rest = c.in-Some.ensures.steps in
     let was = c.loop-event.invariant in
     record {
-      lines = only_others event_line e rest _ c.take.new.self (rw steps at was.lines) c.take.ensures.taken;
-      leads = only_others event_lead e rest _ c.take-in-loop-event.new.self (rw steps at was.leads) c.take-in-loop-event.ensures.taken;
+      leads = only_others event_lead e rest _ c.take.new.self (rw steps at was.leads) c.take.ensures.taken;
       agents = children_gone c.loop-event.agents c.remove_each.new.self c.args.agents.now (event_at e) (map event_at rest) _ c.as_slice.result.now c.as_slice.ensures c.remove_each.ensures (rw steps at was.agents);
     }
 
@@ -31,7 +30,7 @@ invariant_of-self c =
     let none = c.clear.ensures.empty in
     let over = c.in-None.ensures.steps.0 in
     let was = c.loop-event.invariant in
-    (record { lined = only_none event_line _ _ _ none over was.lines; led = only_none event_lead _ _ _ none over was.leads }, none_linked _ none)
+    (record { lined = own_none event_line _ none; led = only_none event_lead _ _ _ none over was.leads }, none_linked _ none)
 
 pub returns-clause-agents : goal.returns-clause-agents
 returns-clause-agents c =

@@ -1,14 +1,12 @@
 use Rattle.std.proofs.Common.{◌↔◌, map}
 use Rattle.ic_roster.specs.declared.agent_records.PlacedAgent.{PlacedAgent}
-use Rattle.ic_roster.specs.EventSlots.{event_at, event_line, event_lead}
+use Rattle.ic_roster.specs.EventSlots.{event_at, event_lead}
 use Rattle.ic_roster.proofs.ClearedEvents.{HasOnly, IsSpared}
 use Rattle.ic_roster.proofs.event_records.EventRecords.clear.Given as goal
 
--- the indexes, first the lines and then the leads, have only the entries that are still to come, and the agents that are to be
--- left in the end are the same throughout
+-- the index has only the entries that are still to come, and the agents that are to be left in the end are the same throughout
 abbrev pub invariant-loop-event : goal.invariant-loop-event
 invariant-loop-event l = record {
-  lines : HasOnly event_line l.event-iterator l.self-inside.1.1.0;
-  leads : HasOnly event_lead l.event-iterator l.self-inside.1.1.1.0;
+  leads : HasOnly event_lead l.event-iterator l.self-inside.1.1.0;
   agents : (m : PlacedAgent) → IsSpared l.agents (map event_at l.event-iterator) m ↔ IsSpared l.initial.agents (map event_at l.initial.event-iterator) m;
 }

@@ -2,7 +2,7 @@ use Rattle.std.proofs.Common.{◌≡◌, [], ◌∷◌, ◌++◌, List, map, Som
 use Rattle.ic_slots.specs.Slots.{slot_of}
 use Rattle.ic_name.specs.declared.ids.EventId.{EventId}
 use Rattle.ic_roster.specs.Placed.{PlacedEvent}
-use Rattle.ic_roster.specs.EventSlots.{event_line}
+use Rattle.ic_roster.specs.EventSlots.{event_lead}
 use Rattle.ic_roster.proofs.Indexes.{indexed}
 use Rattle.ic_roster.proofs.Entries.{AreHeld, all_held, first_held, others_held, listed_more}
 use Rattle.ic_roster.proofs.EventFacts.{id_at, ids_shown}
@@ -17,7 +17,7 @@ pub unreachable-requires : goal.unreachable-requires
 unreachable-requires c =
     let held : AreHeld c.self.inside.records.slots ((c.in-Some.field-0-0, c.in-Some.event.now) ∷ c.next.new.self) = rw c.in-Some.ensures.steps at c.loop-event.invariant.1 in
     let here = first_held c.self.inside.records.slots _ _ held in
-    let found : slot_of c.self.inside.lines c.in-Some.event.now.line ≡ Some c.in-Some.field-0-0 = indexed event_line _ c.self.inside.lines c.self.invariant.0.lined _ c.in-Some.event.now here in
+    let found : slot_of c.self.inside.leads c.in-Some.event.now.interaction.lead.place ≡ Some c.in-Some.field-0-0 = indexed event_lead _ c.self.inside.leads c.self.invariant.0.led _ c.in-Some.event.now here in
     let none : None ≡ Some c.in-Some.field-0-0 = sym c.in_default.is ∙ c.get.ensures ∙ found in
     cc
 
@@ -25,7 +25,7 @@ pub loop-event-preserved : goal.loop-event-preserved
 loop-event-preserved c =
     let held : AreHeld c.self.inside.records.slots ((c.in-Some.field-0-0, c.in-Some.event.now) ∷ c.next.new.self) = rw c.in-Some.ensures.steps at c.loop-event.invariant.1 in
     let here = first_held c.self.inside.records.slots _ _ held in
-    let found : slot_of c.self.inside.lines c.in-Some.event.now.line ≡ Some c.in-Some.field-0-0 = indexed event_line _ c.self.inside.lines c.self.invariant.0.lined _ c.in-Some.event.now here in
+    let found : slot_of c.self.inside.leads c.in-Some.event.now.interaction.lead.place ≡ Some c.in-Some.field-0-0 = indexed event_lead _ c.self.inside.leads c.self.invariant.0.led _ c.in-Some.event.now here in
     let both : Some c.in-Some-get.slot ≡ Some c.in-Some.field-0-0 = sym c.in-Some-get.is ∙ c.get.ensures ∙ found in
     let same : c.in-Some-get.slot ≡ c.in-Some.field-0-0 = cc in
     let id : EventId = record { slot = c.in-Some-get.slot; line = c.in-Some.event.now.line } in

@@ -18,7 +18,7 @@ reserve_places-requires c = kept_recorded c.self.inside.records.slots c.args.cau
 
 pub invariant_of-self : goal.invariant_of-self
 invariant_of-self c = (
-  same_indexed _ _ c.self.inside.lines c.self.inside.leads c.reserve_places.ensures.same.shows c.self.invariant.0,
+  same_indexed _ _ c.self.inside.leads c.reserve_places.ensures.same.shows c.self.invariant.0,
   same_linked _ _ c.reserve_places.ensures.same c.self.invariant.1,
 )
 
@@ -27,24 +27,17 @@ returns-in_err-reserve_places-clause-unchanged c = at_error _ (same_events _ _ c
 
 pub invariant_of-self-in_err-slot : goal.invariant_of-self-in_err-slot
 invariant_of-self-in_err-slot c =
-    still_kept _ _ _ c.self.inside.lines c.self.inside.lines c.self.inside.leads c.self.inside.leads c.reserve_places.ensures.same c.reserve_slot.ensures.kept (λ q. refl) (λ q. refl) c.self.invariant
+    still_kept _ _ _ c.self.inside.leads c.self.inside.leads c.reserve_places.ensures.same c.reserve_slot.ensures.kept (λ q. refl) c.self.invariant
 
 pub returns-in_err-slot-clause-unchanged : goal.returns-in_err-slot-clause-unchanged
 returns-in_err-slot-clause-unchanged c = at_error _ (still_seen _ _ _ _ c.reserve_places.ensures.same c.reserve_slot.ensures.kept c.self.view_is)
 
 pub invariant_of-self-in_err-reserve : goal.invariant_of-self-in_err-reserve
 invariant_of-self-in_err-reserve c =
-    still_kept _ _ _ c.self.inside.lines c.reserve.new.self c.self.inside.leads c.self.inside.leads c.reserve_places.ensures.same c.reserve_slot.ensures.kept c.reserve.ensures.kept (λ q. refl) c.self.invariant
+    still_kept _ _ _ c.self.inside.leads c.reserve.new.self c.reserve_places.ensures.same c.reserve_slot.ensures.kept c.reserve.ensures.kept c.self.invariant
 
 pub returns-in_err-reserve-clause-unchanged : goal.returns-in_err-reserve-clause-unchanged
 returns-in_err-reserve-clause-unchanged c = at_error _ (still_seen _ _ _ _ c.reserve_places.ensures.same c.reserve_slot.ensures.kept c.self.view_is)
-
-pub invariant_of-self-in_err-reserve-2 : goal.invariant_of-self-in_err-reserve-2
-invariant_of-self-in_err-reserve-2 c =
-    still_kept _ _ _ c.self.inside.lines c.reserve.new.self c.self.inside.leads c.reserve-2.new.self c.reserve_places.ensures.same c.reserve_slot.ensures.kept c.reserve.ensures.kept c.reserve-2.ensures.kept c.self.invariant
-
-pub returns-in_err-reserve-2-clause-unchanged : goal.returns-in_err-reserve-2-clause-unchanged
-returns-in_err-reserve-2-clause-unchanged c = at_error _ (still_seen _ _ _ _ c.reserve_places.ensures.same c.reserve_slot.ensures.kept c.self.view_is)
 
 pub put_at_each-requires-clause-room : goal.put_at_each-requires-clause-room
 put_at_each-requires-clause-room c =
@@ -73,11 +66,11 @@ seen c = still_seen _ _ _ _ c.reserve_places.ensures.same c.reserve_slot.ensures
 
 pub invariant_of-self-2 : goal.invariant_of-self-2
 invariant_of-self-2 c =
-    let before = still_kept _ _ c.reserve_slot.new.slab.slots c.self.inside.lines c.reserve.new.self c.self.inside.leads c.reserve-2.new.self c.reserve_places.ensures.same c.reserve_slot.ensures.kept c.reserve.ensures.kept c.reserve-2.ensures.kept c.self.invariant in
+    let before = still_kept _ _ c.reserve_slot.new.slab.slots c.self.inside.leads c.reserve.new.self c.reserve_places.ensures.same c.reserve_slot.ensures.kept c.reserve.ensures.kept c.self.invariant in
     let fresh : IsNewKey (events_in c.reserve_slot.new.slab.slots) c.args.line c.args.interaction.lead.place = rw (seen c) c.requires.is_new in
     let kept : AreKept (events_in c.reserve_slot.new.slab.slots) c.args.causes.now = rw (seen c) c.requires.kept in
-    let keys = keys_entered _ _ c.reserve.new.self c.put.new.self c.reserve-2.new.self c.put-2.new.self c.in_ok-slot.slot (made c) before.0 (filled c) fresh c.put.ensures.put c.put-2.ensures.put in (
-      same_indexed _ _ c.put.new.self c.put-2.new.self c.put_at_each.ensures.shows keys,
+    let keys = keys_entered _ _ c.reserve.new.self c.put.new.self c.in_ok-slot.slot (made c) before.0 (filled c) fresh c.put.ensures.put in (
+      same_indexed _ _ c.put.new.self c.put_at_each.ensures.shows keys,
       event_linked _ _ (id_of c) c.args.causes.now (made c) refl (filled c) kept _ before.1 c.in_ok-its_causes.ensures.ok c.new.ensures.items c.requires.once c.put_at_each.ensures,
     )
 

@@ -11,7 +11,7 @@ use Rattle.ic_roster.proofs.event_records.EventRecords.led_by.Goals as goal
 pub returns-in_err-slot-clause-absent : goal.returns-in_err-slot-clause-absent
 returns-in_err-slot-clause-absent c =
     let lacks : slot_of c.self.inside.leads c.args.lead.place ≡ None = sym c.in_err-slot.ensures in
-    rw (← c.self.view_is) (if_none c.from_residual.result _ (lead_absent _ c.self.inside.lines c.self.inside.leads c.self.invariant.0 c.args.lead.place lacks))
+    rw (← c.self.view_is) (if_none c.from_residual.result _ (lead_absent _ c.self.inside.leads c.self.invariant.0 c.args.lead.place lacks))
 
 pub unreachable-requires : goal.unreachable-requires
 unreachable-requires c =
@@ -23,4 +23,4 @@ pub returns-clause-found : goal.returns-clause-found
 returns-clause-found c =
     let found : slot_of c.self.inside.leads c.args.lead.place ≡ Some c.in_ok-slot.slot = sym c.in_ok-slot.ensures in
     let here : slot_at c.self.inside.records.slots c.in_ok-slot.slot ≡ Some c.in-Some.event.now = sym c.in-Some.ensures in
-    rw (← c.self.view_is) (lead_found _ c.self.inside.lines c.self.inside.leads c.self.invariant.0 c.args.lead c.in_ok-slot.slot _ found here)
+    rw (← c.self.view_is) (lead_found _ c.self.inside.leads c.self.invariant.0 c.args.lead c.in_ok-slot.slot _ found here)

@@ -1,6 +1,5 @@
-use Rattle.std.proofs.Common.{◌≡◌, None, refl, sym, subst, ◌∙◌}
+use Rattle.std.proofs.Common.{◌≡◌, refl, sym, subst, ◌∙◌}
 use Rattle.ic_path.specs.Orders.{IsIn}
-use Rattle.ic_slots.specs.Slots.{Gives}
 use Rattle.ic_roster.specs.Rosters.{IsOnce}
 use Rattle.ic_roster.specs.RecordChanges.{Changes, Takes}
 use Rattle.ic_roster.specs.EventSlots.{event_at, event_line}
@@ -32,10 +31,9 @@ pub invariant_of-self : goal.invariant_of-self
 invariant_of-self c =
     let line : event_line c.remove-event.result ≡ c.args.id.line = line_kept c.self.inside.records.slots c.args.self.now _ c.remove-event.result c.self.view_is c.in_ok-get.ensures.found c.remove-event.ensures.value in
     let emptied = emptied_by_remove c.self.inside.records c.remove-event.new.self c.args.id.slot c.remove-event.result c.remove-event.ensures.value c.remove-event.ensures.updates in
-    let takes : Gives (event_line c.remove-event.result) None c.self.inside.lines c.take.new.self = rw line c.take.ensures.taken in
-    let keys = keys_taken _ _ c.self.inside.lines c.take.new.self c.self.inside.leads c.take-2.new.self c.args.id.slot c.remove-event.result c.self.invariant.0 emptied takes c.take-2.ensures.taken in
+    let keys = keys_taken _ _ c.self.inside.leads c.take.new.self c.args.id.slot c.remove-event.result c.self.invariant.0 emptied c.take.ensures.taken in
     let free = free_of c.self.inside.records.slots c.args.id (λ x i. c.requires x (subst (λ xs. IsIn x xs) c.self.view_is i)) in (
-      same_indexed _ _ c.take.new.self c.take-2.new.self c.take_at_each.ensures.shows keys,
+      same_indexed _ _ c.take.new.self c.take_at_each.ensures.shows keys,
       removed_linked _ _ _ c.args.id c.remove-event.result c.self.invariant.1 line emptied free (subst (λ es. Changes (Takes c.args.id) es c.remove-event.new.self.slots c.take_at_each.new.records.slots) c.as_slice.ensures c.take_at_each.ensures),
     )
 

@@ -1,20 +1,27 @@
-use Rattle.std.proofs.Common.{length, ap, ◌∙◌}
-use Rattle.std.specs.Prelude.{is_some}
+use Rattle.std.proofs.Common.{[], ◌∷◌, length, sym, ap, ◌∙◌, append-nil}
+use Rattle.std.specs.Prelude.{is_some, slice_get}
 use Rattle.ic_name.specs.declared.lines.Call.TheVariants.{Fire}
+use Rattle.ic_shared.specs.declared.receipts.RunReceipt.{RunReceipt}
 use Rattle.ic_shared.specs.CallLines.{pair_reply}
-use Rattle.ic_shared.proofs.RunLines.{number_noted, none_noted}
+use Rattle.ic_shared.proofs.RunLines.{line_told, none_told, pair_line}
 use Rattle.ic_shared.proofs.locked.Locked.fire_pair.Goals as goal
 
-pub returns-then-is_some-clause-fires : goal.returns-then-is_some-clause-fires
-returns-then-is_some-clause-fires g c =
-    let active = c.requires.active in record {
+pub returns-in-Some-clause-fires : goal.returns-in-Some-clause-fires
+returns-in-Some-clause-fires g c =
+    let active = c.requires.active in
+    let old = c.args.self.now.bench in
+    let new = c.fire_pair-answer.new.self in
+    let fires = c.fire_pair-answer.ensures active.0 active.1 in
+    let receipt : RunReceipt = record { number = c.lines-number.result; note = c.in-Some.note } in record {
       event = active.0;
       bench = c.lawful.ensures;
       its_pair = active.1;
-      fires = c.fire_pair-answer.ensures active.0 active.1;
-      noted = number_noted (Fire active.0) (pair_reply c.fire_pair-answer.result) c.lines-number.result (length c.args.self.now.bench.lines) c.args.ran.now.items _
-          (c.if-is_some.ensures ∙ ap is_some c.reply_of_pair.ensures)
-          c.lines-number.ensures c.push_reserved.ensures.items;
+      fires = fires;
+      added = receipt ∷ [];
+      receipts = c.push_reserved.ensures.items;
+      told = line_told new.names (Fire active.0) (pair_reply c.fire_pair-answer.result) receipt (length old.lines) c.lines-number.ensures
+          (λ answer is. c.in-Some.ensures.read ∙ ap (slice_get new.lines) c.lines-number.ensures ∙ pair_line old new active.0 c.fire_pair-answer.result answer fires is)
+          (c.if-is_some.ensures ∙ ap is_some c.reply_of_pair.ensures);
     }
 
 pub returns-else-is_some-clause-fires : goal.returns-else-is_some-clause-fires
@@ -24,5 +31,7 @@ returns-else-is_some-clause-fires g c =
       bench = c.lawful.ensures;
       its_pair = active.1;
       fires = c.fire_pair-answer.ensures active.0 active.1;
-      noted = none_noted (Fire active.0) (pair_reply c.fire_pair-answer.result) (length c.args.self.now.bench.lines) c.args.ran.now.items (c.if-is_some.ensures ∙ ap is_some c.reply_of_pair.ensures);
+      added = [];
+      receipts = sym (append-nil c.args.ran.now.items);
+      told = none_told c.fire_pair-answer.new.self.names (Fire active.0) (pair_reply c.fire_pair-answer.result) (length c.args.self.now.bench.lines) (c.if-is_some.ensures ∙ ap is_some c.reply_of_pair.ensures);
     }
