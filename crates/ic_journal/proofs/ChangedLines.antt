@@ -14,12 +14,12 @@ use Rattle.ic_roster.specs.declared.interaction.Interaction.{Interaction}
 use Rattle.ic_roster.specs.Rosters.{event_in}
 use Rattle.ic_journal.specs.declared.kept.KeptLine.{KeptLine}
 use Rattle.ic_journal.specs.declared.kept.KeptLine.TheVariants as kept
-use Rattle.ic_journal.specs.declared.verdict.Limit.{Limit}
-use Rattle.ic_journal.specs.declared.verdict.Limit.TheVariants.{Deep, Full}
+use Rattle.ic_journal.specs.declared.limit.Limit.{Limit}
+use Rattle.ic_journal.specs.declared.limit.Limit.TheVariants.{Deep, Full}
 use Rattle.ic_journal.specs.Kept.{line_of}
 use Rattle.ic_journal.specs.Noted as seen
 use Rattle.ic_journal.specs.Noted.{NotedLine, line_in, AreLinesNamed}
-use Rattle.ic_journal.specs.Verdicts.{reply_of}
+use Rattle.ic_journal.specs.Limits.{reply_of}
 use Rattle.ic_journal.specs.Changed.{IsFiredIn, IsChangedIn, IsChanged, IsLeadFiredIn, IsLeadChangedIn}
 use Rattle.ic_journal.proofs.NotedLines.{image_at, noted_named}
 

@@ -25,10 +25,10 @@ use Rattle.ic_journal.specs.Changed.{IsFiredIn}
 use Rattle.ic_journal.proofs.NotedLines.{noted_named}
 use Rattle.ic_journal.proofs.ChangedLines.{firing_at}
 
--- the line behind others
-pub line_behind : (lines : List Line) (line : Line) (others : List Line) → slice_get (lines ++ line ∷ others) (length lines) ≡ Some line
-line_behind [] line others = refl
-line_behind (x ∷ lines) line others = line_behind lines line others
+-- what comes first behind a list stands at its length
+pub first_behind : {A : Type 0} (xs : List A) (x : A) (others : List A) → slice_get (xs ++ x ∷ others) (length xs) ≡ Some x
+first_behind [] x others = refl
+first_behind (y ∷ xs) x others = first_behind xs x others
 
 -- in all lines, each event that stands after some of them was fired in the line that is noted with it
 abbrev pub AreFiredIn : List Line → State → Type 0
@@ -50,7 +50,7 @@ fired_lines all others begins e = λ x i. absurd (none_in i)
 fired_lines all others (goes_on {lines = lines} {st = st} {call = call} {reply = reply} h a) e =
     let line : Line = record { call = call; reply = reply } in
     let parts : all ≡ lines ++ line ∷ others = e ∙ append_assoc lines (line ∷ []) others in
-    let at : slice_get all st.lines ≡ Some line = ap (slice_get all) (history_length h) ∙ ap (λ xs. slice_get xs (length lines)) parts ∙ line_behind lines line others in
+    let at : slice_get all st.lines ≡ Some line = ap (slice_get all) (history_length h) ∙ ap (λ xs. slice_get xs (length lines)) parts ∙ first_behind lines line others in
     fired_answer all at a (fired_lines all (line ∷ others) h parts)
 
 -- so each event that stands on a bench was fired in the line that its id tells

@@ -14,12 +14,12 @@ use Rattle.ic_roster.specs.declared.interaction.Interaction.{Interaction}
 use Rattle.ic_journal.specs.declared.kept.Kinds.{Kinds}
 use Rattle.ic_journal.specs.declared.kept.Places.{Places}
 use Rattle.ic_journal.specs.declared.notes.PairNote.{PairNote}
-use Rattle.ic_journal.specs.declared.verdict.Limit.{Limit}
-use Rattle.ic_journal.specs.declared.verdict.Limit.TheVariants.{Deep, Full}
+use Rattle.ic_journal.specs.declared.limit.Limit.{Limit}
+use Rattle.ic_journal.specs.declared.limit.Limit.TheVariants.{Deep, Full}
 use Rattle.ic_journal.specs.Kept.{event_kept}
 use Rattle.ic_journal.specs.Noted.{NotedLine, Fired, Limited, NotActive, Undone, NotStanding, Held, line_in, IsLineNamed, AreLinesNamed}
 use Rattle.ic_journal.specs.Notes.{firing_of, noted_of, line_read, IsOfAPair}
-use Rattle.ic_journal.specs.Verdicts.{reply_of}
+use Rattle.ic_journal.specs.Limits.{reply_of}
 use Rattle.ic_journal.proofs.NotedLines.{image_at, noted_named}
 
 -- a line that calls to fire an event, but none of an active pair, tells that it wasn't active

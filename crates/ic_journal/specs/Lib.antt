@@ -6,7 +6,7 @@ pub mod Changed
 pub mod Histories
 pub mod Benches
 pub mod Calls
-pub mod Verdicts
+pub mod Limits
 pub mod Proposals
 pub mod Faults
 pub mod Reads

@@ -7,8 +7,8 @@ use Rattle.ic_name.specs.declared.lines.Line.{Line}
 use Rattle.ic_name.specs.declared.lines.Reply.TheVariants as reply
 use Rattle.ic_roster.specs.Rosters.{event_in, IsNamed}
 use Rattle.ic_roster.specs.declared.interaction.Interaction.{Interaction}
-use Rattle.ic_journal.specs.declared.verdict.Limit.{Limit}
-use Rattle.ic_journal.specs.Verdicts.{reply_of}
+use Rattle.ic_journal.specs.declared.limit.Limit.{Limit}
+use Rattle.ic_journal.specs.Limits.{reply_of}
 
 -- a call with its reply: the event of an active pair was fired, or met a limit; an event wasn't active; the firing in a line
 -- was undone, or none stood that was fired there, or it was held by one that was fired in another

@@ -4,7 +4,7 @@ use Rattle.ic_name.specs.Names.{Name}
 use Rattle.ic_name.specs.declared.lines.Line.{Line}
 use Rattle.ic_roster.specs.declared.interaction.Interaction.{Interaction}
 use Rattle.ic_journal.specs.declared.notes.PairNote.{PairNote}
-use Rattle.ic_journal.specs.declared.verdict.Limit.{Limit}
+use Rattle.ic_journal.specs.declared.limit.Limit.{Limit}
 use Rattle.ic_journal.specs.Kept.{event_kept}
 use Rattle.ic_journal.specs.Noted.{NotedLine, Fired, Limited, NotActive, Undone, NotStanding, Held, line_in}
 

@@ -2,13 +2,13 @@ ghost use Rattle.std.specs.Prelude.{◌≤◌, None, Ok, IfOk, OnErr};
 ghost use Rattle.ic_name.specs.Events.{Event as AnEvent};
 ghost use Rattle.ic_set.specs.Pairs.{IsActivePair, IsPairOf};
 ghost use Rattle.ic_journal.specs.Calls.{FiresPair, Stays};
-ghost use Rattle.ic_journal.specs.Verdicts.{Meets};
+ghost use Rattle.ic_journal.specs.Limits.{Meets};
 ghost use Rattle.ic_journal.specs.Views.{set_of};
 
 use crate::bench::Bench;
 use crate::faults::PairFault;
 use crate::kept::KeptLine;
-use crate::verdict::limit_of;
+use crate::limit::limit_of;
 use ic_link::LinkStore;
 use ic_name::limits::MAX_LINES;
 use ic_set::{ActivePair, Fired};

@@ -6,9 +6,9 @@ ghost use Rattle.ic_journal.specs.Kept.{event_kept, line_of, IsPlaced};
 ghost use Rattle.ic_journal.specs.Noted.{Fired, Limited, line_in, IsLineNamed};
 ghost use Rattle.ic_journal.specs.Notes.{noted_of, IsOfAPair};
 
+use crate::limit::Limit;
 use crate::notes::PairNote;
 use crate::proposal::Proposal;
-use crate::verdict::Limit;
 use ic_name::{Call, Event, Kind, Line, Reply};
 use ic_names::{NameId, NameTable};
 use ic_roster::{Interaction, Roster};

@@ -9,11 +9,11 @@ mod firing;
 mod history;
 mod kept;
 pub mod laws;
+mod limit;
 pub mod lines;
 pub mod notes;
 pub mod proposal;
 pub mod reading;
-mod verdict;
 
 pub use bench::Bench;
 pub use faults::{FireFault, PairFault, ProposeFault, ReserveFault, UndoFault};

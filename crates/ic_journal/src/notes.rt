@@ -1,5 +1,5 @@
 use crate::kept::{Kinds, Places};
-use crate::verdict::Limit;
+use crate::limit::Limit;
 use std::mem::size_of;
 
 /// What a line of a history tells of the firing of an active pair: its event, by the places of names in the table of the bench,

@@ -281,7 +281,7 @@ impl<L: LinkStore> Bench<L> {
     pub fn leads(&self) -> Result<Vec<AgentId>, AllocError>
         ensures { IfOk result (λ leads. (p : APair) → IsActivePair (set_of self.now) p → IsIn p.lead leads.items) }
     {
-        self.set.leads(self.alloc)
+        self.set.leads()
     }
 
     /// The net of what stands: the one in which the steps of its events end, in each causal order of them (Lafont 1997).

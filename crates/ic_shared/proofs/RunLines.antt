@@ -12,6 +12,7 @@ use Rattle.ic_journal.specs.Views.{BenchView}
 use Rattle.ic_journal.specs.declared.faults.PairFault.{PairFault}
 use Rattle.ic_journal.specs.declared.faults.PairFault.TheVariants as pair
 use Rattle.ic_journal.specs.Notes.{line_read}
+use Rattle.ic_journal.proofs.FiredLines.{first_behind}
 use Rattle.ic_shared.specs.declared.receipts.RunReceipt.{RunReceipt}
 use Rattle.ic_shared.specs.CallLines.{lines_of, pair_reply}
 use Rattle.ic_shared.specs.Passes.{told_in}
@@ -33,15 +34,10 @@ none_told ns call (Some answer) at silent = absurd (cc (silent))
 replied : {a b : Reply} → Some a ≡ Some b → a ≡ b
 replied q = cc
 
--- what stands behind a list
-last_at : {A : Type 0} (xs : List A) (x : A) → slice_get (xs ++ x ∷ []) (length xs) ≡ Some x
-last_at [] x = refl
-last_at (y ∷ xs) x = last_at xs x
-
 -- the line that firing an active pair adds, where it has a reply
 pub pair_line : (old new : BenchView) (e : Event) (r : Result Fired PairFault) (answer : Reply) → FiresPair old e r new → pair_reply r ≡ Some answer → slice_get new.lines (length old.lines) ≡ Some (record { call = Fire e; reply = answer })
-pair_line old new e (Ok fired) answer f is = ap (λ ls. slice_get ls (length old.lines)) f.0.0.lines ∙ last_at old.lines _ ∙ (λ u. Some (record { call = Fire e; reply = replied is u }))
-pair_line old new e (Err pair.Deep) answer f is = ap (λ ls. slice_get ls (length old.lines)) f.0.lines ∙ last_at old.lines _ ∙ (λ u. Some (record { call = Fire e; reply = replied is u }))
-pair_line old new e (Err pair.Full) answer f is = ap (λ ls. slice_get ls (length old.lines)) f.0.lines ∙ last_at old.lines _ ∙ (λ u. Some (record { call = Fire e; reply = replied is u }))
+pair_line old new e (Ok fired) answer f is = ap (λ ls. slice_get ls (length old.lines)) f.0.0.lines ∙ first_behind old.lines _ [] ∙ (λ u. Some (record { call = Fire e; reply = replied is u }))
+pair_line old new e (Err pair.Deep) answer f is = ap (λ ls. slice_get ls (length old.lines)) f.0.lines ∙ first_behind old.lines _ [] ∙ (λ u. Some (record { call = Fire e; reply = replied is u }))
+pair_line old new e (Err pair.Full) answer f is = ap (λ ls. slice_get ls (length old.lines)) f.0.lines ∙ first_behind old.lines _ [] ∙ (λ u. Some (record { call = Fire e; reply = replied is u }))
 pair_line old new e (Err pair.HistoryFull) answer f is = absurd (cc (is))
 pair_line old new e (Err pair.Memory) answer f is = absurd (cc (is))

@@ -24,26 +24,12 @@ fn column_of(number: usize) -> Column
     }
 }
 
-/// The column whose next receipt has this number. One column is looked at before the others.
-fn find<B: Ledger>(
-    passes: &[Pass<B>],
-    cursors: &[usize; MAX_COLUMNS],
-    number: u32,
-    before_others: usize,
-) -> Option<usize>
+/// The column whose next receipt has this number.
+fn find<B: Ledger>(passes: &[Pass<B>], cursors: &[usize; MAX_COLUMNS], number: u32) -> Option<usize>
     requires { length passes.now ≤ MAX_PASSES }
     ensures some { (ns : List Name) → IfSome result (λ c. (c < 2 * length passes.now) × IsNext (columns ns passes.now) cursors.now c number) }
     ensures none { (ns : List Name) → IfNone result ((c : ℕ) → c < 2 * length passes.now → ¬ IsNext (columns ns passes.now) cursors.now c number) }
 {
-    if before_others < 2 * passes.len()
-        && passes[before_others / 2].has_number(
-            column_of(before_others),
-            cursors[before_others],
-            number,
-        )
-    {
-        return Some(before_others);
-    }
     for c in 0..2 * passes.len() {
         if passes[c / 2].has_number(column_of(c), cursors[c], number) {
             return Some(c);
@@ -84,7 +70,13 @@ pub(crate) fn merge<B: Ledger>(
     let count = bench.lines() - base;
     for j in 0..count {
         let number = base + j;
-        let Some(c) = find(passes, &cursors, number, last) else {
+        if last < 2 * passes.len()
+            && passes[last / 2].confirms(column_of(last), cursors[last], bench, number)
+        {
+            cursors[last] += 1;
+            continue;
+        }
+        let Some(c) = find(passes, &cursors, number) else {
             return match behind(passes, &cursors, number) {
                 Some(lesser) => Err(lesser),
                 None => Err(number),

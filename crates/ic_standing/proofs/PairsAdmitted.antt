@@ -1,5 +1,5 @@
 -- The queue of leads of a set once an event is admitted.
-use Rattle.std.proofs.Common.{◌≡◌, ◌≢◌, ℕ, ◌≤◌, List, [], ◌∷◌, length, Option, Some, None, inl, inr, sym, subst}
+use Rattle.std.proofs.Common.{◌≡◌, ◌≢◌, ℕ, ◌≤◌, List, [], ◌∷◌, length, Option, Some, None, IfSome, inl, inr, sym, subst}
 use Rattle.ic_name.specs.Names.{Name}
 use Rattle.ic_name.specs.Events.{Event}
 use Rattle.ic_name.specs.declared.ids.AgentId.{AgentId}
@@ -15,14 +15,14 @@ use Rattle.ic_queue.proofs.Heaps.{kept_heap}
 use Rattle.ic_roster.specs.Rosters.{Stander}
 use Rattle.ic_set.specs.declared.pairs.ActivePair.{ActivePair}
 use Rattle.ic_set.specs.Changes.{Admits, IsSame}
-use Rattle.ic_set.specs.Pairs.{IsPairOf, ArePairsOf, AreLedBy, Awakes}
+use Rattle.ic_set.specs.Pairs.{IsPairOf, IsActivePair, ArePairsOf, AreLedBy, Awakes}
 use Rattle.ic_set.specs.Queues.{IsQueued, HasLeads, AreBeside}
 use Rattle.ic_set.specs.Sets.{IsStandingSet}
 use Rattle.ic_set.specs.Views.{SetView, NamedView, standing}
 use Rattle.ic_standing.specs.Fronts.{IsFront, KeepsQueue}
 use Rattle.ic_standing.proofs.Awakened.{awoken}
 use Rattle.ic_set.proofs.GrownNames.{Keeps}
-use Rattle.ic_set.proofs.GrownSets.{Grows}
+use Rattle.ic_set.proofs.GrownSets.{Grows, stays}
 
 module _ (v w : SetView) (start : w.start ≡ v.start) (agents : Alike v.agents w.agents) (events : Alike v.events w.events) where
   -- an event that is active in a set is active in the same set
@@ -80,3 +80,8 @@ module _ (v w : NamedView) (e : Event) (line : ℕ) (d : EventId) (a : Admits v.
     | inl k ↦ (let queued = all f q k in stay f.lead (queued.0, keeps f.lead queued.0 queued.1, queued.2))
     | inr i ↦ new f q h i
   ]
+
+  -- the pair at the front is active still, where another one was fired
+  pub front_stays : IsStandingSet v.set → IsStandingSet w.set → (p : ActivePair) → IsPairOf v.set e p → (front : Option ActivePair) → IsFront v.set front → IfSome front (λ q. q.lead ≢ p.lead → IsActivePair w.set q)
+  front_stays set set' p pair None front = tt
+  front_stays set set' p pair (Some q) front = λ other. (let l = front.0 in (l.event, stays v.set w.set set set' e a.entry.born grown p pair l.event q l.pair other))

@@ -6,11 +6,12 @@ ghost use Rattle.ic_set.specs.declared.pairs.ActivePair.{ActivePair as APair};
 ghost use Rattle.ic_set.specs.Pairs.{IsActivePair, IsPairOf, IsLeastPair, AreActivePairs};
 ghost use Rattle.ic_set.specs.Views.{standing};
 
+use crate::renewing::agents_in;
 use crate::set::StandingSet;
 use ic_link::LinkStore;
 use ic_name::AgentId;
 use ic_set::ActivePair;
-use std::alloc::{AllocError, Global};
+use std::alloc::AllocError;
 
 impl<L: LinkStore> StandingSet<L> {
     /// The active pair with the least lead, in constant time; `None` where no pair is active. It takes no memory.
@@ -34,18 +35,10 @@ impl<L: LinkStore> StandingSet<L> {
     }
 
     /// The agents in the queue of leads, among whom is the lead of each active pair, in the order of the queue.
-    pub fn leads(&self, alloc: Global) -> Result<Vec<AgentId>, AllocError>
+    pub fn leads(&self) -> Result<Vec<AgentId>, AllocError>
         ensures { IfOk result (λ leads. (p : APair) → IsActivePair self.now.set p → IsIn p.lead leads.items) }
     {
-        let roster = self.bare.roster();
-        roster.lawful();
-        let mut leads = Vec::with_capacity(alloc, self.queue.len())?;
-        for lead in self.queue.leads() {
-            if let Some(agent) = roster.named(lead.name) {
-                leads.push_reserved(agent);
-            }
-        }
-        Ok(leads)
+        agents_in(self.alloc, &self.queue, &self.bare)
     }
 
     /// All active pairs, by lead. It goes over the queue of leads alone.

@@ -10,6 +10,7 @@ ghost use Rattle.ic_set.specs.Entering.{GrowsBy};
 ghost use Rattle.ic_set.specs.Pairs.{IsPairOf, IsActivePair, Awakes};
 ghost use Rattle.ic_set.specs.Removal.{Stands, IsFree};
 
+use crate::front::front_after;
 use crate::queue::{drop_stale, put_leads, put_start_leads};
 use crate::set::StandingSet;
 use ic_link::LinkStore;
@@ -44,7 +45,14 @@ impl<L: LinkStore> StandingSet<L> {
         self.bare.lawful();
         let awoken = self.bare.awoken(id, &beside);
         put_leads(&mut self.queue, &self.bare, &awoken);
-        self.front = drop_stale(&mut self.queue, &self.bare);
+        self.front = front_after(
+            self.alloc,
+            &mut self.queue,
+            &self.bare,
+            self.front,
+            pair.lead,
+            &mut self.passed_over,
+        );
         Ok(Fired { id, awoken })
     }
 

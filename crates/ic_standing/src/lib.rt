@@ -3,7 +3,9 @@
 
 pub mod active;
 pub mod changes;
+mod front;
 mod queue;
+mod renewing;
 pub mod set;
 
 pub use set::StandingSet;

@@ -1,7 +1,8 @@
 ghost use Rattle.std.specs.Prelude.{◌≡◌, IfOk};
 ghost use Rattle.ic_set.specs.Changes.{IsOver};
 
-use crate::queue::{drop_stale, put_all};
+use crate::queue::drop_stale;
+use crate::renewing::queue_of;
 use ic_link::LinkStore;
 use ic_queue::LeadQueue;
 use ic_set::{ActivePair, BareSet};
@@ -18,6 +19,9 @@ pub struct StandingSet<L: LinkStore> {
     pub(crate) bare: Box<BareSet<L>>,
     pub(crate) queue: LeadQueue,
     pub(crate) front: Option<ActivePair>,
+    /// How many firings were of another pair than the front's since the queue was made.
+    pub(crate) passed_over: usize,
+    pub(crate) alloc: Global,
 }
 
 impl<L: LinkStore> Model for StandingSet<L> {
@@ -39,14 +43,14 @@ impl<L: LinkStore> StandingSet<L> {
         let bare = BareSet::over(alloc, start)?;
         bare.lawful();
         let ids = bare.roster().in_order(alloc)?;
-        let mut queue = LeadQueue::new(alloc);
-        queue.reserve(bare.roster().names().len())?;
-        put_all(&mut queue, &bare, &ids);
+        let mut queue = queue_of(alloc, &bare, &ids)?;
         let front = drop_stale(&mut queue, &bare);
         Ok(StandingSet {
             bare: Box::new(alloc, bare)?,
             queue,
             front,
+            passed_over: 0,
+            alloc,
         })
     }
 

@@ -26,6 +26,7 @@ use Rattle.ic_theory.proofs.Ranks.{cause_included, same_set}
 use Rattle.ic_set.specs.Views.{standing as standing_in}
 use Rattle.ic_journal.specs.Views.{BenchView, set_of}
 use Rattle.ic_journal.specs.Benches.{fired_in, IsBench}
+use Rattle.ic_journal.proofs.FiredLines.{first_behind}
 use Rattle.ic_trace.specs.declared.lists.Letter.{Letter}
 use Rattle.ic_trace.specs.declared.lists.Letter.TheVariants.{Undo}
 use Rattle.ic_trace.specs.Accepted.{event_in, undo_of, letter_of, accepted}
@@ -47,11 +48,6 @@ leaves_more s xs ys es fs l h r e = (h.0 ++ l ∷ [], runs_on s h.1 r, map-appen
 -- the letters of a line more
 letters_more : (all lines : List Line) (line : Line) → flat_map (letter_of all) (lines ++ line ∷ []) ≡ flat_map (letter_of all) lines ++ letter_of all line
 letters_more all lines line = flat_map-append (letter_of all) lines (line ∷ []) ∙ ap (λ xs. flat_map (letter_of all) lines ++ xs) (append-nil (letter_of all line))
-
--- the line behind others
-line_behind : (lines : List Line) (line : Line) (others : List Line) → slice_get (lines ++ line ∷ others) (length lines) ≡ Some line
-line_behind [] line others = refl
-line_behind (x ∷ lines) line others = line_behind lines line others
 
 -- the events under their ids and by the lines of their firings
 same_events : (xs : List Stander) → map (λ (x : Standing). x.event) (map fired_in xs) ≡ map (λ (x : Stander). x.event) xs
@@ -119,7 +115,7 @@ history_leaves s all others begins e = record { placed = λ x i. absurd (none_in
 history_leaves s all others (goes_on {lines = lines} {st = st} {call = c} {reply = r} h a) e =
     let line : Line = record { call = c; reply = r } in
     let parts : all ≡ lines ++ line ∷ others = e ∙ append_assoc lines (line ∷ []) others in
-    let at : slice_get all st.lines ≡ Some line = ap (slice_get all) (history_length h) ∙ ap (λ xs. slice_get xs (length lines)) parts ∙ line_behind lines line others in
+    let at : slice_get all st.lines ≡ Some line = ap (slice_get all) (history_length h) ∙ ap (λ xs. slice_get xs (length lines)) parts ∙ first_behind lines line others in
     line_more s all lines at a (history_leaves s all (line ∷ others) h parts)
 
 -- the letters of the accepted calls of a bench run to what it has standing

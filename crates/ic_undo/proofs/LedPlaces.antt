@@ -11,17 +11,13 @@ use Rattle.ic_names.proofs.Growing.{grown_keeps}
 use Rattle.ic_slots.specs.Slots.{slot_of, Gives, Keeps}
 use Rattle.ic_path.specs.Orders.{IsIn}
 use Rattle.ic_path.proofs.Picks.{none_in, contains-in}
+use Rattle.ic_journal.proofs.FiredLines.{first_behind}
 use Rattle.ic_undo.specs.Marks.{ArePlaces}
 use Rattle.ic_undo.proofs.Places.{parts}
 
 -- what stands at a place is in the list
 pub in_at : {X : Type 0} (xs : List X) (p : ℕ) (x : X) → slice_get xs p ≡ Some x → IsIn x xs
 in_at xs p x h = contains-in x xs (p, slice_get_within xs p x h, get_or_from_slice_get xs p x x h)
-
--- what is behind all others stands at their number
-last_at : {X : Type 0} (xs : List X) (x : X) → slice_get (xs ++ x ∷ []) (length xs) ≡ Some x
-last_at [] x = refl
-last_at (y ∷ xs) x = last_at xs x
 
 -- what stands at a place stands there still where more comes behind
 still_at : {X : Type 0} (xs ys : List X) (p : ℕ) (x : X) → slice_get xs p ≡ Some x → slice_get (xs ++ ys) p ≡ Some x
@@ -57,7 +53,7 @@ places_more es e old new n k at more is h grown stands put = record {
     back : (j p : ℕ) (b : Bool) → j == k ≡ b → (if b then Some (length es) else slot_of at j) ≡ Some p → (f : Event) × (slice_get (es ++ e ∷ []) p ≡ Some f) × StandsAt new f.lead j
     back j p true t s =
         let q : length es ≡ p = cc in
-        (e, subst (λ i. slice_get (es ++ e ∷ []) i ≡ Some e) q (last_at es e), subst (λ m. StandsAt new m j) is (subst (λ i. StandsAt new n i) (sym (eqb-true j k t)) stands))
+        (e, subst (λ i. slice_get (es ++ e ∷ []) i ≡ Some e) q (first_behind es e []), subst (λ m. StandsAt new m j) is (subst (λ i. StandsAt new n i) (sym (eqb-true j k t)) stands))
     back j p false t s = let f = h.only j p s in (f.0, still_at es (e ∷ []) p f.0 f.1, grown_keeps old new n f.0.lead j grown f.2)
 
 -- room for more places leaves them as they are

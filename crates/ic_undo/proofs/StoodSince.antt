@@ -15,7 +15,7 @@ use Rattle.ic_roster.specs.Rosters.{Stander}
 use Rattle.ic_journal.specs.Benches.{IsBench}
 use Rattle.ic_journal.specs.Changed.{IsFiredIn, IsChanged}
 use Rattle.ic_journal.specs.Views.{BenchView}
-use Rattle.ic_journal.proofs.FiredLines.{line_behind, AreFiredIn, fired_lines}
+use Rattle.ic_journal.proofs.FiredLines.{first_behind, AreFiredIn, fired_lines}
 use Rattle.ic_journal.proofs.MachineSteps.{events_at}
 use Rattle.ic_undo.specs.GoingBack.{IsOutside, IsMissing}
 use Rattle.ic_undo.specs.Marks.{MarkView}
@@ -82,7 +82,7 @@ module _ (s : Start) (ok : IsProper s) (all front : List Line) (then : State) (b
       let parts = same_from_push lines (front ++ last.0) _ _ (e ∙ ap (λ zs. front ++ zs) last.2 ∙ sym (append_assoc front last.0 (last.1 ∷ []))) in
       let rest : all ≡ lines ++ line ∷ others = whole ∙ append_assoc lines (line ∷ []) others in
       let count = history_length h in
-      let at : slice_get all st.lines ≡ Some line = ap (slice_get all) count ∙ ap (λ zs. slice_get zs (length lines)) rest ∙ line_behind lines line others in
+      let at : slice_get all st.lines ≡ Some line = ap (slice_get all) count ∙ ap (λ zs. slice_get zs (length lines)) rest ∙ first_behind lines line others in
       let long = ap length parts.0 ∙ length-append front last.0 in
       still_next all (length front) (omega (arith, count, long)) at a (fired_lines all (line ∷ others) h rest) (still_since h last.0 (line ∷ others) parts.0 rest)
 

@@ -9,14 +9,14 @@ use Rattle.ic_work.specs.Hands.{Stays}
 
 -- nothing was done
 stays_so : (h : Hand) → Stays h h
-stays_so h = record { claims = refl; same_seat = refl; same_hints = refl; seat = record { table = refl; number = refl; budget = refl; tickets = refl } }
+stays_so h = record { claims = refl; same_seat = refl; same_near = refl; seat = record { table = refl; number = refl; budget = refl; tickets = refl } }
 
 -- one after the other
 pub then_stays : {h k l : Hand} → Stays h k → Stays k l → Stays h l
 then_stays a b = record {
   claims = b.claims ∙ a.claims;
   same_seat = b.same_seat ∙ a.same_seat;
-  same_hints = b.same_hints ∙ a.same_hints;
+  same_near = b.same_near ∙ a.same_near;
   seat = record {
     table = b.seat.table ∙ a.seat.table;
     number = b.seat.number ∙ a.seat.number;

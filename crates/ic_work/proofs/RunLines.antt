@@ -8,7 +8,7 @@ use Rattle.ic_path.specs.Orders.{Pick, here, there, IsIn}
 use Rattle.ic_reduce.specs.Continuing.{IsFire}
 use Rattle.ic_roster.specs.declared.interaction.Interaction.{Interaction}
 use Rattle.ic_journal.specs.declared.notes.PairNote.{PairNote}
-use Rattle.ic_journal.specs.declared.verdict.Limit.{Limit}
+use Rattle.ic_journal.specs.declared.limit.Limit.{Limit}
 use Rattle.ic_journal.specs.Kept.{event_kept}
 use Rattle.ic_journal.specs.Noted.{line_in}
 use Rattle.ic_journal.specs.Notes.{firing_of, line_read}

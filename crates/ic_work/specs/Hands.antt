@@ -7,5 +7,5 @@ use Rattle.ic_work.specs.Workers.{Keeps}
 pub record Stays (old new : Hand) : Type 0 where
   pub claims : new.claims.now ≡ old.claims.now
   pub same_seat : new.seat.ghost_name ≡ old.seat.ghost_name
-  pub same_hints : new.hints.ghost_name ≡ old.hints.ghost_name
+  pub same_near : new.near.ghost_name ≡ old.near.ghost_name
   pub seat : Keeps old.seat.now new.seat.now

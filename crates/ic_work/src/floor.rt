@@ -1,3 +1,4 @@
+use crate::hints::Hint;
 use crossbeam_deque::Stealer;
 use ic_claim::Claims;
 use ic_name::AgentId;
@@ -12,7 +13,9 @@ pub(crate) struct Floor<'a, B: Ledger, G: Gate> {
     pub claims: &'a Claims,
     pub gate: &'a G,
     /// The hints of all workers, each of whom steals from the others.
-    pub hints: &'a [Stealer<AgentId>],
+    pub hints: &'a [Stealer<Hint>],
+    /// The leads that the sweep began with, of which hints tell blocks.
+    pub leads: &'a [AgentId],
     /// How many events a worker fires under one lock, at most.
     pub most: usize,
 }

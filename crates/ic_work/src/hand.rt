@@ -1,32 +1,29 @@
-ghost use Rattle.std.specs.Prelude.{◌≡◌, None};
+ghost use Rattle.std.specs.Prelude.{◌≡◌, false, None};
 ghost use Rattle.ic_work.specs.Workers.{Grips, Keeps};
 ghost use Rattle.ic_work.specs.Hands.{Stays};
 
 use crate::hints::put_out;
-use crate::limits::MOST;
-use crossbeam_deque::Worker as Deque;
+use crate::limits::IN_A_ROW;
 use ic_claim::{CLAIM_WORDS, Claims, Seat};
 use ic_journal::{ActivePair, Bench, Fired, PairFault, Store};
 use ic_name::AgentId;
 use ic_shared::Chooser;
+use std::collections::VecDeque;
 
-/// What a worker chooses by: its hints, of which it has one in hand, or none; its seat holds the word of that one, and else
-/// no word.
+/// What a worker chooses by in a run: the agents that it follows, of whom it has one in hand, or none; its seat holds the word
+/// of that one, and else no word.
 #[derive(Drop)]
 pub(crate) struct Hand<'a> {
     pub claims: &'a Claims,
     pub seat: &'a mut Seat,
-    pub hints: &'a mut Deque<AgentId>,
+    pub near: &'a mut VecDeque<AgentId>,
     pub hint: Option<AgentId>,
+    /// How many firings in a row had the pairs that they made active put first.
+    pub in_a_row: u32,
 }
 
-/// Claims the word of a hint. Where another worker holds it, the hint goes back among the worker's own.
-pub(crate) fn claim(
-    claims: &Claims,
-    seat: &mut Seat,
-    hints: &mut Deque<AgentId>,
-    hint: AgentId,
-) -> Option<AgentId>
+/// Claims the word of a hint, which comes back where the word was free.
+pub(crate) fn claim(claims: &Claims, seat: &mut Seat, hint: AgentId) -> Option<AgentId>
     requires table { seat.old.table ≡ claims.now.table }
     requires free { seat.old.view.held ≡ None }
     ensures seat { Keeps seat.old seat.new }
@@ -35,24 +32,27 @@ pub(crate) fn claim(
     let word = u64::from(hint.slot) % CLAIM_WORDS;
     match claims.take(seat, word) {
         Ok(()) => Some(hint),
-        Err(_) => {
-            let _ = hints.push(hint);
-            None
-        }
+        Err(_) => None,
     }
 }
 
 impl Hand<'_> {
-    /// Takes the next of the worker's own hints in hand, if its word is free.
-    fn reach(&mut self)
+    /// Takes the next hint in hand, if its word is free; where another worker holds it, the hint goes behind the others. It is
+    /// false where there is none.
+    fn reach(&mut self) -> bool
         requires table { self.old.seat.now.table ≡ self.old.claims.now.table }
         requires empty { (self.old.hint ≡ None) × (self.old.seat.now.view.held ≡ None) }
         ensures grips { Grips self.new.hint self.new.seat.now.view.held }
         ensures stays { Stays self.old self.new }
     {
-        if let Some(hint) = self.hints.pop() {
-            self.hint = claim(self.claims, self.seat, self.hints, hint);
+        let Some(hint) = self.near.pop_front() else {
+            return false;
+        };
+        self.hint = claim(self.claims, self.seat, hint);
+        if self.hint.is_none() {
+            let _ = self.near.push_back(hint);
         }
+        true
     }
 
     /// Leaves the word of the hint in hand, if there is one.
@@ -79,27 +79,31 @@ impl Chooser for Hand<'_> {
 
     ghost hears = { λ h answer k. Stays h k };
 
-    /// The pair of the hint in hand, or else of the next of the worker's own that is of one. None comes where the word of a hint
-    /// is busy, where there is none, and where so many were of no active pair.
+    /// The pair of the hint in hand, or else of the next that is of one and whose word is free. None comes once each was tried.
     fn choose(&mut self, bench: &Bench<Store>) -> Option<ActivePair> {
-        for _tried in 0..MOST {
-            if self.hint.is_none() {
-                self.reach();
+        for _tried in 0..self.near.len().saturating_add(1) {
+            if self.hint.is_none() && !self.reach() {
+                return None;
             }
-            let pair = bench.pair_with(self.hint?);
-            if pair.is_some() {
-                return pair;
+            if let Some(hint) = self.hint {
+                let pair = bench.pair_with(hint);
+                if pair.is_some() {
+                    return pair;
+                }
+                self.let_go();
             }
-            self.let_go();
         }
         None
     }
 
-    /// Leaves the word of what was fired, and puts the leads of the pairs that became active by it out as hints.
+    /// Leaves the word of what was fired, and takes the leads of the pairs that became active by it as hints: as the next ones,
+    /// since what they need lies in the cache, but for one firing in so many, lest a run follow one part of the net alone.
     fn hear(&mut self, answer: &Result<Fired, PairFault>) {
         self.let_go();
         if let Ok(fired) = answer {
-            put_out(self.hints, fired.awoken);
+            let first = self.in_a_row < IN_A_ROW;
+            let any = put_out(self.near, fired.awoken, first);
+            self.in_a_row = if first && any { self.in_a_row + 1 } else { 0 };
         }
     }
 }

@@ -1,16 +1,26 @@
 use crossbeam_deque::{Steal, Stealer, Worker as Deque};
 use ic_journal::ActivePair;
 use ic_name::AgentId;
+use std::collections::VecDeque;
 use std::sync::Wait;
+
+/// What a worker may follow.
+#[derive(Clone, Copy)]
+pub(crate) enum Hint {
+    /// An agent that may be of an active pair.
+    Agent(AgentId),
+    /// Leads that the sweep began with, from one place to before another. The last one is followed first.
+    Leads { from: usize, to: usize },
+}
 
 /// A hint of the worker's own, or one that is stolen from another; it looks twice before it finds none. Those of the others
 /// come first where the worker's last hint found its word busy.
 pub(crate) fn find_hint<R: Wait>(
     rt: &R,
-    own: &mut Deque<AgentId>,
-    others: &[Stealer<AgentId>],
+    own: &mut Deque<Hint>,
+    others: &[Stealer<Hint>],
     others_first: bool,
-) -> Option<AgentId> {
+) -> Option<Hint> {
     for _ in 0..2u32 {
         let hint = look(rt, own, others, others_first);
         if hint.is_some() {
@@ -23,10 +33,10 @@ pub(crate) fn find_hint<R: Wait>(
 /// A hint of these, if one is found at this moment.
 fn look<R: Wait>(
     rt: &R,
-    own: &mut Deque<AgentId>,
-    others: &[Stealer<AgentId>],
+    own: &mut Deque<Hint>,
+    others: &[Stealer<Hint>],
     others_first: bool,
-) -> Option<AgentId> {
+) -> Option<Hint> {
     if others_first {
         return steal(rt, own, others).or_else(|| own.pop());
     }
@@ -38,11 +48,7 @@ fn look<R: Wait>(
 }
 
 /// A hint that is stolen from one of these, with others that come among the worker's own.
-fn steal<R: Wait>(
-    rt: &R,
-    own: &mut Deque<AgentId>,
-    others: &[Stealer<AgentId>],
-) -> Option<AgentId> {
+fn steal<R: Wait>(rt: &R, own: &mut Deque<Hint>, others: &[Stealer<Hint>]) -> Option<Hint> {
     for other in others {
         for _ in rt.forever() {
             match other.steal_batch_and_pop(own) {
@@ -55,13 +61,77 @@ fn steal<R: Wait>(
     None
 }
 
-/// Puts the leads of these pairs out as hints, each once. Where memory is wanting, they are dropped.
-pub(crate) fn put_out(hints: &mut Deque<AgentId>, pairs: [Option<ActivePair>; 4]) {
-    for place in 0..pairs.len() {
-        if let Some(pair) = pairs[place] {
-            if !pairs[..place].contains(&Some(pair)) {
-                let _ = hints.push(pair.lead);
+/// The agent of a hint, if it tells one: of a block the last one, and the others go back among the worker's own hints.
+pub(crate) fn agent_of(own: &mut Deque<Hint>, leads: &[AgentId], hint: Hint) -> Option<AgentId> {
+    match hint {
+        Hint::Agent(agent) => Some(agent),
+        Hint::Leads { from, to } => {
+            let last = to.checked_sub(1)?;
+            if from < last {
+                let _ = own.push(Hint::Leads { from, to: last });
+            }
+            leads.get(last).copied()
+        }
+    }
+}
+
+/// Takes so many agents of the worker's own hints for a run, if there are as many. Where memory is wanting, some are dropped.
+pub(crate) fn gather(
+    own: &mut Deque<Hint>,
+    leads: &[AgentId],
+    most: usize,
+    near: &mut VecDeque<AgentId>,
+) {
+    for _taken in 0..most {
+        if near.len() >= most {
+            return;
+        }
+        let Some(hint) = own.pop() else {
+            return;
+        };
+        match hint {
+            Hint::Agent(agent) => {
+                let _ = near.push_back(agent);
+            }
+            Hint::Leads { from, to } => {
+                for place in (from..to).rev() {
+                    if let Some(lead) = leads.get(place) {
+                        let _ = near.push_back(*lead);
+                    }
+                }
             }
         }
     }
+}
+
+/// Puts what a run left out among the worker's own hints again. Where memory is wanting, some are dropped.
+pub(crate) fn put_back(own: &mut Deque<Hint>, near: &mut VecDeque<AgentId>) {
+    for _left in 0..near.len() {
+        if let Some(agent) = near.pop_front() {
+            let _ = own.push(Hint::Agent(agent));
+        }
+    }
+}
+
+/// Puts the leads of these pairs among the agents of a run, each once: before the others, or behind them. It tells whether there
+/// were any. Where memory is wanting, they are dropped.
+pub(crate) fn put_out(
+    near: &mut VecDeque<AgentId>,
+    pairs: [Option<ActivePair>; 4],
+    first: bool,
+) -> bool {
+    let mut any = false;
+    for place in 0..pairs.len() {
+        if let Some(pair) = pairs[place] {
+            any = true;
+            if !pairs[..place].contains(&Some(pair)) {
+                let _ = if first {
+                    near.push_front(pair.lead)
+                } else {
+                    near.push_back(pair.lead)
+                };
+            }
+        }
+    }
+    any
 }

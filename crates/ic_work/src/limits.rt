@@ -1,2 +1,8 @@
 /// How many events a worker fires under one lock, at most.
-pub(crate) const MOST: usize = 256;
+pub(crate) const MOST: usize = 4096;
+
+/// How many leads a block of first hints has, at most.
+pub(crate) const BLOCK: usize = 64;
+
+/// After how many firings, each of a pair that the one before made active, a run goes on with its other hints.
+pub(crate) const IN_A_ROW: u32 = 16;

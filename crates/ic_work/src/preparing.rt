@@ -1,17 +1,21 @@
 ghost use Rattle.std.specs.Prelude.{◌≡◌, ◌+◌, ◌<◌, ◌≤◌, IfOk, length, vec_len, vec_capacity};
 ghost use Rattle.ic_claim.specs.Views.{new_view};
 
+use crate::hints::Hint;
+use crate::limits::BLOCK;
 use crate::worker::Worker;
 use crossbeam_deque::{Stealer, Worker as Deque};
 use ic_claim::{Claims, MAX_BUDGET, MAX_WORKERS, Seat};
-use ic_name::AgentId;
 use ic_shared::Pass;
 use std::alloc::{AllocError, Global};
 use std::sync::atomic::AtomicBool;
 use std::sync::ledger::Ledger;
 
-/// How many hints a worker has room for at first, at least.
+/// How many hints a worker has room for at first.
 const FIRST_ROOM: usize = 64;
+
+/// Into how many blocks a worker's share of leads is cut at least, if it has as many.
+const MIN_BLOCKS: usize = 16;
 
 /// All that a sweep takes memory for before its bench is shared.
 #[derive(Drop)]
@@ -19,9 +23,9 @@ pub(crate) struct Prepared<B: Ledger> {
     pub claims: Claims,
     pub seat: Seat,
     /// The hints of each worker.
-    pub hints: Vec<Deque<AgentId>>,
+    pub hints: Vec<Deque<Hint>>,
     /// For the others to steal from.
-    pub stealers: Vec<Stealer<AgentId>>,
+    pub stealers: Vec<Stealer<Hint>>,
     /// For each worker but the first one, whether its thread couldn't be started.
     pub off: Vec<AtomicBool>,
     /// Room for each worker but the first one.
@@ -30,10 +34,10 @@ pub(crate) struct Prepared<B: Ledger> {
     pub home: Vec<Pass<B>>,
 }
 
-/// What so many workers need. These agents are their first hints, dealt out in blocks.
+/// What so many workers need. Their first hints tell the places of so many leads.
 pub(crate) fn prepare<B: Ledger>(
     alloc: Global,
-    leads: &[AgentId],
+    leads: usize,
     workers: u32,
     budget: u32,
 ) -> Result<Prepared<B>, AllocError>
@@ -46,13 +50,12 @@ pub(crate) fn prepare<B: Ledger>(
     ensures home { IfOk result (λ p. (vec_len p.home ≡ 0) × (workers ≤ vec_capacity p.home)) }
 {
     let count = workers as usize;
-    let room = leads.len().div_ceil(count).max(FIRST_ROOM);
     let (claims, seat) = Claims::make(alloc, budget)?;
     let mut hints = Vec::with_capacity(alloc, count)?;
     let mut stealers = Vec::with_capacity(alloc, count)?;
     let mut off = Vec::with_capacity(alloc, count)?;
     for _made in 0..count {
-        let own = Deque::new_fifo(alloc, room)?;
+        let own = Deque::new_fifo(alloc, FIRST_ROOM)?;
         stealers.push(own.stealer()?)?;
         hints.push_reserved(own);
         off.push_reserved(AtomicBool::new(false));
@@ -69,17 +72,34 @@ pub(crate) fn prepare<B: Ledger>(
     })
 }
 
-/// Deals these agents out to the workers, in blocks one after the other.
-fn deal(hints: &mut [Deque<AgentId>], leads: &[AgentId]) -> Result<(), AllocError>
+/// Deals the places of so many leads out to the workers, to each a share in one piece. Those at the end of a share are followed
+/// first, so that the lead at the front of the queue stays there for long.
+fn deal(hints: &mut [Deque<Hint>], leads: usize) -> Result<(), AllocError>
     requires { 0 < length hints.old }
 {
-    let block = leads.len().div_ceil(hints.len()).max(1);
-    for (own, mine) in hints.iter_mut().zip(leads.chunks(block)) {
-        for lead in mine {
-            let Ok(()) = own.push(*lead) else {
-                return Err(AllocError);
-            };
-        }
+    let share = leads.div_ceil(hints.len());
+    let mut from = 0usize;
+    for own in hints.iter_mut() {
+        let to = from.saturating_add(share).min(leads);
+        put_blocks(own, from, to)?;
+        from = to;
+    }
+    Ok(())
+}
+
+/// Puts the places from one to before another out as hints, in blocks, of which there are some even where the places are few.
+fn put_blocks(own: &mut Deque<Hint>, from: usize, to: usize) -> Result<(), AllocError> {
+    let size = (to.saturating_sub(from) / MIN_BLOCKS).clamp(1, BLOCK);
+    let mut end = to;
+    while from < end {
+        let start = end.saturating_sub(size).max(from);
+        let Ok(()) = own.push(Hint::Leads {
+            from: start,
+            to: end,
+        }) else {
+            return Err(AllocError);
+        };
+        end = start;
     }
     Ok(())
 }

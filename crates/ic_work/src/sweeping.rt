@@ -7,6 +7,7 @@ ghost use Rattle.ic_work.specs.Workers.{IsFirst, IsGuest};
 
 use crate::crew::{Crew, run_crew};
 use crate::floor::Floor;
+use crate::hints::Hint;
 use crate::limits::MOST;
 use crate::preparing::{Prepared, prepare};
 use crate::swept::{SweepFault, Swept};
@@ -18,6 +19,7 @@ use ic_name::AgentId;
 use ic_reduce::{Gate, fire_least};
 use ic_shared::{Pass, settle, share};
 use std::alloc::Global;
+use std::collections::VecDeque;
 use std::marker::Brand;
 use std::sync::Wait;
 use std::sync::ledger::{Blank, Ledger};
@@ -102,7 +104,7 @@ fn sweep_as<B: Ledger + Send + Sync, G: Gate, R: Threads + Wait + Sync>(
 {
     bench.lawful();
     let stood = bench.standing_count();
-    let Ok(prepared) = prepare::<B>(alloc, leads, workers, budget) else {
+    let Ok(prepared) = prepare::<B>(alloc, leads.len(), workers, budget) else {
         return Err(SweepFault::Memory(bench));
     };
     let Prepared {
@@ -118,10 +120,11 @@ fn sweep_as<B: Ledger + Send + Sync, G: Gate, R: Threads + Wait + Sync>(
         Ok(all) => all,
         Err(bench) => return Err(SweepFault::Memory(bench)),
     };
-    let (hints, pass) = split_off_others(&claims, &mut seat, hints, passes, &mut others);
+    let (hints, pass) = split_off_others(alloc, &claims, &mut seat, hints, passes, &mut others);
     let first = Worker {
         number: 0,
         hints,
+        near: VecDeque::new(alloc),
         seat,
         pass,
     };
@@ -130,6 +133,7 @@ fn sweep_as<B: Ledger + Send + Sync, G: Gate, R: Threads + Wait + Sync>(
         claims: &claims,
         gate,
         hints: stealers.as_slice(),
+        leads,
         most: most_in_a_run(workers, budget),
     };
     let Crew {
@@ -157,12 +161,13 @@ fn sweep_as<B: Ledger + Send + Sync, G: Gate, R: Threads + Wait + Sync>(
 /// Makes a worker of each pass but the last one, with hints and a seat of its own; answers the hints and the pass of
 /// the first one.
 fn split_off_others<B: Ledger>(
+    alloc: Global,
     claims: &Claims,
     seat: &mut Seat,
-    mut hints: Vec<Deque<AgentId>>,
+    mut hints: Vec<Deque<Hint>>,
     mut passes: Vec<Pass<B>>,
     others: &mut Vec<Worker<B>>,
-) -> (Deque<AgentId>, Pass<B>)
+) -> (Deque<Hint>, Pass<B>)
     requires table { seat.old.table ≡ claims.now.table }
     requires new { seat.old.view ≡ new_view claims.now.budget 0 }
     requires hints { vec_len hints ≡ vec_len passes }
@@ -183,6 +188,7 @@ fn split_off_others<B: Ledger>(
         others.push_reserved(Worker {
             number,
             hints: own,
+            near: VecDeque::new(alloc),
             seat: claims.split(seat),
             pass,
         });

@@ -3,7 +3,7 @@ ghost use Rattle.ic_work.specs.Workers.{DrawsMore, IsFree, Keeps, MayFire, Works
 
 use crate::floor::Floor;
 use crate::hand::{Hand, claim};
-use crate::hints::find_hint;
+use crate::hints::{Hint, agent_of, find_hint, gather, put_back};
 use crate::limits::MOST;
 use crate::tickets::Unused;
 use crossbeam_deque::Worker as Deque;
@@ -11,6 +11,7 @@ use ic_claim::Seat;
 use ic_name::AgentId;
 use ic_reduce::Gate;
 use ic_shared::{Pass, Ran};
+use std::collections::VecDeque;
 use std::sync::Wait;
 use std::sync::ledger::Ledger;
 
@@ -19,7 +20,9 @@ use std::sync::ledger::Ledger;
 #[derive(Drop)]
 pub(crate) struct Worker<B: Ledger> {
     pub number: usize,
-    pub hints: Deque<AgentId>,
+    pub hints: Deque<Hint>,
+    /// The agents that a run follows; none between runs.
+    pub near: VecDeque<AgentId>,
     pub seat: Seat,
     pub pass: Pass<B>,
 }
@@ -68,9 +71,15 @@ impl<B: Ledger> Worker<B> {
         let Some(found) = find_hint(rt, &mut self.hints, floor.hints, others_first) else {
             return Then::GoHome;
         };
-        match claim(floor.claims, &mut self.seat, &mut self.hints, found) {
+        let Some(agent) = agent_of(&mut self.hints, floor.leads, found) else {
+            return Then::GoOn;
+        };
+        match claim(floor.claims, &mut self.seat, agent) {
             Some(hint) => self.follow(rt, floor, unused, hint),
-            None => Then::TurnToOthers,
+            None => {
+                let _ = self.hints.push(Hint::Agent(agent));
+                Then::TurnToOthers
+            }
         }
     }
 
@@ -91,7 +100,9 @@ impl<B: Ledger> Worker<B> {
             floor.claims.leave(&mut self.seat);
             return Then::GoHome;
         }
+        gather(&mut self.hints, floor.leads, unused.count, &mut self.near);
         let ran = self.fire(rt, floor, hint, unused.count);
+        put_back(&mut self.hints, &mut self.near);
         self.use_up(floor, unused, ran.calls);
         if ran.refused {
             floor.claims.stop(&mut self.seat);
@@ -115,8 +126,8 @@ impl<B: Ledger> Worker<B> {
         }
     }
 
-    /// Fires the event of a hint whose word the seat holds, and then what the worker's own hints name, at most so many
-    /// events, under one lock. The seat then holds no word.
+    /// Fires the event of a hint whose word the seat holds, and then what the hints near name, at most so many events, under one
+    /// lock. The seat then holds no word.
     fn fire<G: Gate, R: Wait>(
         &mut self,
         rt: &R,
@@ -133,15 +144,16 @@ impl<B: Ledger> Worker<B> {
     {
         let Worker {
             seat,
-            hints,
+            near,
             pass,
             ..
         } = self;
         let mut hand = Hand {
             claims: floor.claims,
             seat,
-            hints,
+            near,
             hint: Some(hint),
+            in_a_row: 0,
         };
         let ran = floor.shared.fire_run(rt, pass, &mut hand, most);
         hand.let_go();

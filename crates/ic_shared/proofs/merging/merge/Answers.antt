@@ -12,7 +12,24 @@ pub loop-j-init : goal.loop-j-init
 loop-j-init g c = (settles_start c.args.base (drop c.args.base c.args.bench.now.lines) (columns c.args.bench.now.names c.args.passes.now) (replicate MAX_COLUMNS 0) (zeros MAX_COLUMNS), refl, λ p. let z = zeros MAX_COLUMNS p in omega arith)
 
 pub overflow_add-cursors : goal.overflow_add-cursors
-overflow_add-cursors g c = let b = c.loop-j.invariant.2 c.in-Some.c in omega arith
+overflow_add-cursors g c = let b = c.loop-j.invariant.2 c.loop-j.last in omega arith
+
+pub loop-j-preserved-then-confirms : goal.loop-j-preserved-then-confirms
+loop-j-preserved-then-confirms g c =
+    let i = c.loop-j.invariant in
+    let lt = c.if-last-passes.true in
+    let few = c.requires.few in
+    let in_cursors : c.loop-j.last < length c.loop-j.cursors = omega arith in
+    let long = columns_length c.args.bench.now.names c.args.passes.now in
+    let pass = get_at c.args.passes.now (c.loop-j.last / 2) _ _ (omega arith) c.index-passes-last.is in
+    let there = c.column_of.ensures c.args.bench.now.names c.args.passes.now c.index-passes-last.result pass in
+    let n = c.if-confirms.ensures.0 refl in (
+      settles_step c.args.base (drop c.args.base c.args.bench.now.lines) (columns c.args.bench.now.names c.args.passes.now) c.loop-j.cursors c.loop-j.j c.loop-j.last _ n.0 n.1 i.0 in_cursors (omega arith) there
+          (get_drop c.args.base c.args.bench.now.lines c.loop-j.j ∙ n.2)
+          n.3 n.4,
+      simp length-set i.1,
+      bounded_step c.loop-j.cursors c.loop-j.j c.loop-j.last in_cursors i.2,
+    )
 
 pub loop-j-preserved : goal.loop-j-preserved
 loop-j-preserved g c =
@@ -22,7 +39,7 @@ loop-j-preserved g c =
     let in_cursors : c.in-Some.c < length c.loop-j.cursors = omega arith in
     let long = columns_length c.args.bench.now.names c.args.passes.now in
     let pass = get_at c.args.passes.now (c.in-Some.c / 2) _ _ (omega arith) c.index-passes-c.is in
-    let there = c.column_of.ensures c.args.bench.now.names c.args.passes.now c.index-passes-c.result pass in
+    let there = c.column_of-in-loop-j.ensures c.args.bench.now.names c.args.passes.now c.index-passes-c.result pass in
     let n = c.if-not-confirms.ensures.0 refl in (
       settles_step c.args.base (drop c.args.base c.args.bench.now.lines) (columns c.args.bench.now.names c.args.passes.now) c.loop-j.cursors c.loop-j.j c.in-Some.c _ n.0 n.1 i.0 in_cursors (omega arith) there
           (get_drop c.args.base c.args.bench.now.lines c.loop-j.j ∙ n.2)
@@ -61,7 +78,7 @@ pub returns-then-not-confirms-clause-err : goal.returns-then-not-confirms-clause
 returns-then-not-confirms-clause-err g c =
     let lt = (c.in-Some.ensures.some c.args.bench.now.names).0 in
     let pass = get_at c.args.passes.now (c.in-Some.c / 2) _ _ (omega arith) c.index-passes-c.is in
-    let there = c.column_of.ensures c.args.bench.now.names c.args.passes.now c.index-passes-c.result pass in
+    let there = c.column_of-in-loop-j.ensures c.args.bench.now.names c.args.passes.now c.index-passes-c.result pass in
     differs c.in-Some.c _ _ there (next_of (columns c.args.bench.now.names c.args.passes.now) c.loop-j.cursors c.in-Some.c _ _ there (c.in-Some.ensures.some c.args.bench.now.names).1) (λ h. absurd (true≢false (sym (c.if-not-confirms.ensures.1 h))))
 
 pub returns-in-Some-number_at-clause-err : goal.returns-in-Some-number_at-clause-err

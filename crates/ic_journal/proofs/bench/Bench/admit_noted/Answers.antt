@@ -6,7 +6,7 @@ use Rattle.ic_set.specs.Pairs.{IsPairOf}
 use Rattle.ic_set.proofs.GrownNames.{grown_keeps}
 use Rattle.ic_journal.specs.Noted.{Fired, line_in}
 use Rattle.ic_journal.specs.Views.{set_of, view_of}
-use Rattle.ic_journal.specs.Verdicts.{Meets}
+use Rattle.ic_journal.specs.Limits.{Meets}
 use Rattle.ic_journal.specs.Calls.{FiresPair}
 use Rattle.ic_journal.proofs.Answering.{next_line_new, few_events}
 use Rattle.ic_journal.proofs.KeptBenches.{same_kept, same_stays, fired_steps, fired_admits, fired_kept}

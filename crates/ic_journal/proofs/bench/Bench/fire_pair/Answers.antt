@@ -4,7 +4,7 @@ use Rattle.ic_name.specs.declared.lines.Call.TheVariants.{Fire}
 use Rattle.ic_set.specs.Pairs.{IsPairOf}
 use Rattle.ic_journal.specs.Noted.{NotedLine, Limited, line_in}
 use Rattle.ic_journal.specs.Views.{set_of, view_of}
-use Rattle.ic_journal.specs.Verdicts.{reply_of}
+use Rattle.ic_journal.specs.Limits.{reply_of}
 use Rattle.ic_journal.specs.Calls.{FiresPair}
 use Rattle.ic_journal.proofs.Answering.{same_set}
 use Rattle.ic_journal.proofs.KeptBenches.{keeps_self, same_kept, same_stays, refused_kept, refuses, roomier_fires}

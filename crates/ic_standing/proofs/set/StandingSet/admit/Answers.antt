@@ -9,7 +9,7 @@ use Rattle.ic_set.specs.Views.{NamedView}
 use Rattle.ic_set.proofs.Admissions.{same_self}
 use Rattle.ic_set.proofs.GrownNames.{grown_keeps, grown_length}
 use Rattle.ic_standing.specs.Fronts.{KeepsQueue}
-use Rattle.ic_standing.proofs.PairsAdmitted.{same_keeps, admitted_awakes, admitted_each}
+use Rattle.ic_standing.proofs.PairsAdmitted.{same_keeps, admitted_awakes, admitted_each, front_stays}
 use Rattle.ic_standing.proofs.set.StandingSet.admit.Goals as goal
 
 pub invariant_of-self : goal.invariant_of-self
@@ -56,8 +56,8 @@ put_leads-requires-clause-heap g c =
     let grown = rw c.deref_mut.ensures.value at c.admit.ensures.grown in
     rw (c.deref-6.ensures, c.reserve.ensures.same) (kept_heap c.self.inside.bare.value.names c.admit.new.self.names c.self.inside.queue.leads (grown_keeps _ _ grown) c.self.invariant.heap)
 
-pub drop_stale-self-inside-requires-clause-each : goal.drop_stale-self-inside-requires-clause-each
-drop_stale-self-inside-requires-clause-each g c =
+pub front_after-self-inside-requires-clause-each : goal.front_after-self-inside-requires-clause-each
+front_after-self-inside-requires-clause-each g c =
     let e = c.requires.active.0 in
     let active : IsPairOf c.self.inside.bare.value.set e c.args.pair = rw c.self.view_is c.requires.active.1 in
     let a = (rw c.deref_mut.ensures.value at c.in_ok-id.ensures.admitted) e active in
@@ -71,16 +71,19 @@ drop_stale-self-inside-requires-clause-each g c =
     c.self.inside.queue.leads c.put_leads.new.queue.leads (grown_keeps _ _ grown) c.awoken-awoken.result awoken
     c.self.invariant.each (rw (c.reserve.ensures.same, c.deref-6.ensures) at c.put_leads.ensures.stay) (rw c.deref-6.ensures at c.put_leads.ensures.led))
 
+pub front_after-self-inside-requires-clause-active : goal.front_after-self-inside-requires-clause-active
+front_after-self-inside-requires-clause-active g c =
+    let e = c.requires.active.0 in
+    let active : IsPairOf c.self.inside.bare.value.set e c.args.pair = rw c.self.view_is c.requires.active.1 in
+    let a = (rw c.deref_mut.ensures.value at c.in_ok-id.ensures.admitted) e active in
+    let before : IsStandingSet c.self.inside.bare.value.set = rw c.deref.ensures at c.lawful.ensures.set in
+    let after : IsStandingSet c.admit.new.self.set = rw c.deref-4.ensures at c.lawful-2.ensures.set in
+    rw c.deref-7.ensures (front_stays c.self.inside.bare.value c.admit.new.self e c.args.line c.in_ok-id.id a before after c.args.pair active c.self.inside.front c.self.invariant.front)
+
 pub invariant_of-self-2 : goal.invariant_of-self-2
 invariant_of-self-2 g c =
-    let before = c.self.inside.bare.value.names in
-    let after = c.admit.new.self.names in
-    let grown = rw c.deref_mut.ensures.value at c.admit.ensures.grown in
-    let count : c.len-names.result ≡ length before = c.len-names.ensures ∙ ap length (c.names.ensures ∙ c.roster.ensures.names ∙ ap (λ (v : NamedView). v.names) c.deref-3.ensures) in
-    let all = c.put_leads.ensures.room in
-    let left = c.drop_stale-self-inside.ensures.room in
-    let enough : length after ≤ c.drop_stale-self-inside.new.queue.room = omega (arith, count, grown_length before after grown, c.in_ok-reserve.ensures.reserved, all, left) in
-    let kept : KeepsQueue c.deref-7.result.now c.drop_stale-self-inside.new.queue.leads c.drop_stale-self-inside.new.queue.room c.drop_stale-self-inside.result = record { heap = c.drop_stale-self-inside.ensures.heap; each = c.drop_stale-self-inside.ensures.each; front = c.drop_stale-self-inside.ensures.front; room = rw c.deref-7.ensures enough } in
+    let after = c.front_after-self-inside in
+    let kept : KeepsQueue c.deref-7.result.now after.new.queue.leads after.new.queue.room after.result = record { heap = after.ensures.heap; each = after.ensures.each; front = after.ensures.front; room = after.ensures.room } in
     rw c.deref-7.ensures at kept
 
 pub returns-clause-awoken : goal.returns-clause-awoken

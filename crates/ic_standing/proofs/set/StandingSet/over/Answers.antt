@@ -5,16 +5,14 @@ use Rattle.ic_roster.specs.Rosters.{Member}
 use Rattle.ic_shown.proofs.Elements.{in-map}
 use Rattle.ic_standing.proofs.set.StandingSet.over.Goals as goal
 
-pub drop_stale-front-requires-clause-each : goal.drop_stale-front-requires-clause-each
-drop_stale-front-requires-clause-each g c =
+pub queue_of-requires : goal.queue_of-requires
+queue_of-requires g c =
     let by_name = rw c.roster.ensures.agents at c.in_ok-ids.ensures in
-    λ e p h. c.put_all.ensures.led e p h (rw c.deref.ensures.value (subst (IsIn p.lead) by_name.named (in-map (λ (m : Member). m.id) (alike-in by_name.alike h.lead))))
+    λ p active. rw c.deref.ensures.value (subst (IsIn p.lead) by_name.named (in-map (λ (m : Member). m.id) (alike-in by_name.alike active.1.lead)))
 
 pub invariant_of-result : goal.invariant_of-result
 invariant_of-result g c =
-    let count : c.len.result ≡ length c.in_ok-bare.bare.names = c.len.ensures ∙ ap length (c.names.ensures ∙ c.roster-2.ensures.names) in
-    let reserved = c.in_ok-reserve.ensures.reserved in
-    let all = c.put_all.ensures.room in
+    let reserved = c.in_ok-queue.ensures.room in
     let left = c.drop_stale-front.ensures.room in
-    let enough : length c.in_ok-bare.bare.names ≤ c.drop_stale-front.new.queue.room = omega (arith, count, reserved, all, left) in
+    let enough : length c.in_ok-bare.bare.names ≤ c.drop_stale-front.new.queue.room = omega (arith, reserved, left) in
     rw c.in_ok-new.ensures.ok (record { heap = c.drop_stale-front.ensures.heap; each = c.drop_stale-front.ensures.each; front = c.drop_stale-front.ensures.front; room = enough })

@@ -7,7 +7,7 @@ pub shape_of-self : goal.shape_of-self
 shape_of-self g c = sym (then_stays (stays c.fire_run-ran.ensures.run) c.let_go.ensures.stays).same_seat
 
 pub shape_of-self-2 : goal.shape_of-self-2
-shape_of-self-2 g c = sym (then_stays (stays c.fire_run-ran.ensures.run) c.let_go.ensures.stays).same_hints
+shape_of-self-2 g c = sym (then_stays (stays c.fire_run-ran.ensures.run) c.let_go.ensures.stays).same_near
 
 pub returns-clause-seat : goal.returns-clause-seat
 returns-clause-seat g c = (then_stays (stays c.fire_run-ran.ensures.run) c.let_go.ensures.stays).seat

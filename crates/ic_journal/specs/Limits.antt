@@ -7,8 +7,8 @@ use Rattle.ic_theory.specs.Machine.{IsDeep, IsFull}
 use Rattle.ic_set.specs.Views.{SetView, standing}
 use Rattle.ic_journal.specs.declared.faults.PairFault.{PairFault}
 use Rattle.ic_journal.specs.declared.faults.PairFault.TheVariants as pair
-use Rattle.ic_journal.specs.declared.verdict.Limit.{Limit}
-use Rattle.ic_journal.specs.declared.verdict.Limit.TheVariants.{Deep, Full}
+use Rattle.ic_journal.specs.declared.limit.Limit.{Limit}
+use Rattle.ic_journal.specs.declared.limit.Limit.TheVariants.{Deep, Full}
 
 -- the reply in the history
 abbrev pub reply_of : Limit → Reply

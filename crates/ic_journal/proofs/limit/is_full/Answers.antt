@@ -10,7 +10,7 @@ use Rattle.ic_theory.specs.Rules.{born_kinds}
 use Rattle.ic_theory.specs.Sets.{agents}
 use Rattle.ic_roster.specs.Rosters.{event_in}
 use Rattle.ic_set.specs.Views.{agent_of, standing}
-use Rattle.ic_journal.proofs.verdict.is_full.Goals as goal
+use Rattle.ic_journal.proofs.limit.is_full.Goals as goal
 
 -- a sum is greater where one part is greater than what the other leaves
 more_than : (len born : ℕ) → born ≤ 4 → IsTrue (nat_lt (MAX_AGENTS - born) len) ↔ (MAX_AGENTS < len + born)

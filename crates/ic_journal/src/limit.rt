@@ -3,7 +3,7 @@ ghost use Rattle.ic_theory.specs.Machine.{IsDeep, IsFull};
 ghost use Rattle.ic_theory.specs.Rules.{born_kinds};
 ghost use Rattle.ic_set.specs.Views.{standing};
 ghost use Rattle.ic_roster.specs.Rosters.{event_in, IsNamed};
-ghost use Rattle.ic_journal.specs.Verdicts.{Meets, reply_of, fault_of};
+ghost use Rattle.ic_journal.specs.Limits.{Meets, reply_of, fault_of};
 
 use crate::faults::PairFault;
 use ic_link::LinkStore;

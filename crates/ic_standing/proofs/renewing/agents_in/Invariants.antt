@@ -1,6 +1,6 @@
 use Rattle.std.proofs.Common.{◌≤◌, take, vec_len, vec_capacity}
 use Rattle.ic_standing.proofs.QueuedAgents.{HasNamed}
-use Rattle.ic_standing.proofs.set.StandingSet.leads.Given as goal
+use Rattle.ic_standing.proofs.renewing.agents_in.Given as goal
 
 -- the agents of the names so far are in the list, and there is room for one of each other name
 abbrev pub invariant-loop-lead : goal.invariant-loop-lead

@@ -1,0 +1,80 @@
+ghost use Rattle.std.specs.Prelude.{◌≡◌, ◌≤◌, length, IfOk};
+ghost use Rattle.ic_path.specs.Orders.{IsIn};
+ghost use Rattle.ic_queue.specs.Queues.{IsHeap};
+ghost use Rattle.ic_set.specs.declared.pairs.ActivePair.{ActivePair as APair};
+ghost use Rattle.ic_set.specs.Pairs.{IsActivePair};
+ghost use Rattle.ic_set.specs.Queues.{HasLeads};
+
+use crate::queue::put_all;
+use ic_link::LinkStore;
+use ic_name::AgentId;
+use ic_queue::LeadQueue;
+use ic_set::BareSet;
+use std::alloc::{AllocError, Global};
+
+/// The agents whose names are in the queue, among whom is the lead of each active pair, in the order of the queue.
+pub(crate) fn agents_in<L: LinkStore>(
+    alloc: Global,
+    queue: &LeadQueue,
+    set: &BareSet<L>,
+) -> Result<Vec<AgentId>, AllocError>
+    requires heap { IsHeap set.now.names queue.now.leads }
+    requires each { HasLeads set.now queue.now.leads }
+    ensures { IfOk result (λ agents. (p : APair) → IsActivePair set.now.set p → IsIn p.lead agents.items) }
+{
+    let roster = set.roster();
+    roster.lawful();
+    let mut leads = Vec::with_capacity(alloc, queue.len())?;
+    for lead in queue.leads() {
+        if let Some(agent) = roster.named(lead.name) {
+            leads.push_reserved(agent);
+        }
+    }
+    Ok(leads)
+}
+
+/// A queue of the leads of the active pairs, all of whom are among these agents, with room for each name that is known.
+pub(crate) fn queue_of<L: LinkStore>(
+    alloc: Global,
+    set: &BareSet<L>,
+    agents: &[AgentId],
+) -> Result<LeadQueue, AllocError>
+    requires { (p : APair) → IsActivePair set.now.set p → IsIn p.lead agents.now }
+    ensures heap { IfOk result (λ queue. IsHeap set.now.names queue.leads) }
+    ensures each { IfOk result (λ queue. HasLeads set.now queue.leads) }
+    ensures room { IfOk result (λ queue. length set.now.names ≤ queue.room) }
+{
+    let mut queue = LeadQueue::new(alloc);
+    queue.reserve(set.roster().names().len())?;
+    put_all(&mut queue, set, agents);
+    Ok(queue)
+}
+
+/// Makes the queue anew of those of its leads that lead an active pair still, where a third of them may lead none any more,
+/// since as many firings passed the front over, and these aren't few beside the names, for each of which it takes room. Where
+/// memory is wanting, the queue stays as it is.
+pub(crate) fn renew_where_worn<L: LinkStore>(
+    alloc: Global,
+    queue: &mut LeadQueue,
+    set: &BareSet<L>,
+    passed_over: &mut usize,
+)
+    requires heap { IsHeap set.now.names queue.old.leads }
+    requires each { HasLeads set.now queue.old.leads }
+    requires room { length set.now.names ≤ queue.old.room }
+    ensures heap { IsHeap set.now.names queue.new.leads }
+    ensures each { HasLeads set.now queue.new.leads }
+    ensures room { length set.now.names ≤ queue.new.room }
+{
+    if *passed_over <= queue.len() / 3 || *passed_over <= set.roster().names().len() / 64 {
+        return;
+    }
+    *passed_over = 0;
+    let Ok(agents) = agents_in(alloc, queue, set) else {
+        return;
+    };
+    let Ok(fresh) = queue_of(alloc, set, &agents) else {
+        return;
+    };
+    *queue = fresh;
+}
