@@ -3,9 +3,10 @@
 
 Prints, for each kind of net and each number of workers, how many events are fired, the seconds that the reduction takes,
 how much longer that is than with one worker, and which share of the workers' instructions is made under the lock of the
-bench. Seconds are those of a session less those of one that only reads the net, the least of five runs each. The share
-is counted by valgrind, with two workers, on a smaller net: it is that of the calls into the crates of the bench, so that
-what the compiler put into the worker's own code isn't in it.
+bench. Seconds are those of a session less those of one that only reads the net, each the least of twelve, whose runs are
+interleaved, so that a busy machine slows all of them down alike. The share is counted by valgrind, with two workers, on a
+smaller net: it is that of the calls into the crates of the bench, so that what the compiler put into the worker's own code
+isn't in it.
 
 erasures, annihilations: independent pairs, from which no other comes
 commutations: independent pairs, of whose children some are active then; just the first pairs' number is fired
@@ -22,7 +23,7 @@ import time
 
 from reduce import COPY, COPY_EVENTS, PROGRAM, erasers, self_wired
 
-RUNS = 5
+ROUNDS = 12
 WORKERS = (1, 2, 4)
 KINDS = {
     "erasures": (lambda pairs: (erasers(pairs), pairs), 32_767),
@@ -46,12 +47,15 @@ def run(command, text, want):
     return taken
 
 
-def seconds(program, workers, net, events):
-    """Seconds of the reduction alone."""
-    command = [program, "--workers", str(workers)]
-    read = min(run(command, net, "") for _ in range(RUNS))
+def seconds(program, net, events):
+    """Seconds of the reduction alone, by each number of workers."""
     reduce = f"{net}---\nreduce {events}\n"
-    return min(run(command, reduce, f"reduced {events} ") for _ in range(RUNS)) - read
+    read, took = [], {workers: [] for workers in WORKERS}
+    for _ in range(ROUNDS):
+        read.append(run([program], net, ""))
+        for workers, taken in took.items():
+            taken.append(run([program, "--workers", str(workers)], reduce, f"reduced {events} "))
+    return {workers: min(taken) - min(read) for workers, taken in took.items()}
 
 
 def under_lock(program, net, events):
@@ -87,12 +91,11 @@ def main():
         make, size = KINDS[kind]
         share = under_lock(program, *make(size // SMALLER))
         net, events = make(size)
-        one = None
-        for workers in WORKERS:
-            taken = seconds(program, workers, net, events)
-            one = one or taken
+        took = seconds(program, net, events)
+        for workers, taken in took.items():
             shown = share if workers > 1 else ""
-            print(f"{kind:<14}{events:>8}{workers:>9}{taken:>10.3f}{taken / one:>12.2f}{shown:>12}", flush=True)
+            beside = taken / took[1]
+            print(f"{kind:<14}{events:>8}{workers:>9}{taken:>10.3f}{beside:>12.2f}{shown:>12}", flush=True)
 
 
 if __name__ == "__main__":
