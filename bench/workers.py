@@ -8,8 +8,10 @@ interleaved, so that a busy machine slows all of them down alike. The share is c
 smaller net: it is that of the calls into the crates of the bench, so that what the compiler put into the worker's own code
 isn't in it.
 
+All events that a net comes to are fired, so that each number of workers fires the same ones.
+
 erasures, annihilations: independent pairs, from which no other comes
-commutations: independent pairs, of whose children some are active then; just the first pairs' number is fired
+commutations: independent pairs, of whose children two pairs are active then, both of which annihilate
 copies: independent nets of nine events, of which one makes the next active
 """
 
@@ -28,7 +30,7 @@ WORKERS = (1, 2, 4)
 KINDS = {
     "erasures": (lambda pairs: (erasers(pairs), pairs), 32_767),
     "annihilations": (lambda pairs: (self_wired(pairs, "G", "G"), pairs), 32_767),
-    "commutations": (lambda pairs: (self_wired(pairs, "G", "D"), pairs), 32_767),
+    "commutations": (lambda pairs: (self_wired(pairs, "G", "D"), 3 * pairs), 32_767),
     "copies": (lambda count: (COPY * count, len(COPY_EVENTS) * count), 5_000),
 }
 # A net is so much smaller where instructions are counted.
