@@ -61,6 +61,13 @@ impl EventRecords {
         let _ = &self.records;
     }
 
+    /// Makes room for the records of so many events more. At an error nothing changes.
+    pub fn reserve(&mut self, count: usize) -> Result<(), AllocError>
+        ensures { self.new ≡ self.old }
+    {
+        self.records.reserve(count)
+    }
+
     /// The number of events.
     pub fn len(&self) -> usize
         ensures { result ≡ length self.now }

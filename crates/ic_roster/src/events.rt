@@ -29,6 +29,13 @@ pub struct GoneEvent {
 }
 
 impl Roster {
+    /// Makes room for the records of so many events more, which grow without it, too. At an error nothing changes.
+    pub fn reserve_events(&mut self, count: usize) -> Result<(), AllocError>
+        ensures { self.new ≡ self.old }
+    {
+        self.events.reserve(count)
+    }
+
     /// The number of standing events.
     pub fn event_count(&self) -> usize
         ensures { result ≡ length self.now.events }

@@ -45,6 +45,7 @@ pub mod NewlyActive
 pub mod BornPairs
 pub mod LedPairs
 pub mod ReachedAgents
+pub mod NoneBeside
 pub mod GrownSets
 pub mod LookedUp
 pub mod QueuedLeads

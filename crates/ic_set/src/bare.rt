@@ -33,12 +33,13 @@ impl<L: LinkStore> Model for BareSet<L> {
 }
 
 impl<L: LinkStore> BareSet<L> {
-    /// The empty set over a start.
+    /// The empty set over a start, with room for the events of as many pairs as its agents make.
     pub fn over(alloc: Global, start: Start) -> Result<BareSet<L>, AllocError>
         ensures { IfOk result (λ set. IsOver start set.set) }
     {
         start.lawful();
         let mut roster = Roster::new(alloc);
+        roster.reserve_events(start.agents() / 2)?;
         let entering = agents_of_kinds(alloc, &mut roster, start.kinds())?;
         let ids = enter_all(alloc, &mut roster, &entering, 0)?;
         roster.lawful();

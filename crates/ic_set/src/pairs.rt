@@ -21,7 +21,7 @@ ghost use Rattle.ic_set.specs.Views.{standing};
 
 use crate::bare::BareSet;
 use ic_link::{Far, LinkStore};
-use ic_name::{AgentId, Event, EventId, Spot};
+use ic_name::{AgentId, Event, EventId, Kind, Spot};
 use ic_names::NameId;
 use ic_queue::queue::Lead;
 use ic_roster::AgentEntry;
@@ -176,7 +176,7 @@ impl<L: LinkStore> BareSet<L> {
     }
 
     /// The agents whose principal ports wires lead to from the four auxiliary ports of this pair's agents, where its rule
-    /// makes no children; where it makes some, none is looked for. It takes no memory.
+    /// makes no children; where it makes some, none is looked for, and two epsilons have no such ports. It takes no memory.
     pub fn beside(&self, pair: ActivePair) -> [Option<AgentId>; 4]
         requires { IsActivePair self.now.set pair }
         ensures { (e : AnEvent) → IsPairOf self.now.set e pair → born_kinds e.lead_kind e.other_kind ≡ [] → AreBeside self.now.set e result }
@@ -188,7 +188,7 @@ impl<L: LinkStore> BareSet<L> {
         let Some(other) = self.roster.agent(pair.other) else {
             unreachable!()
         };
-        if lead.kind != other.kind {
+        if lead.kind != other.kind || lead.kind == Kind::Eps {
             return [None; 4];
         }
         [

@@ -5,3 +5,4 @@ pub mod PairsLeft
 pub mod PairsCleared
 pub mod Fronts
 pub mod QueuedAgents
+pub mod LeadsLeft

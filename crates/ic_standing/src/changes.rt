@@ -12,14 +12,12 @@ ghost use Rattle.ic_set.specs.Removal.{Stands, IsFree};
 
 use crate::front::front_after;
 use crate::queue::{drop_stale, put_leads, put_start_leads};
+use crate::renewing::MAX_CHILDREN;
 use crate::set::StandingSet;
 use ic_link::LinkStore;
 use ic_name::EventId;
 use ic_set::{ActivePair, Fired};
 use std::alloc::AllocError;
-
-/// An event makes so many children at most.
-const MAX_CHILDREN: usize = 4;
 
 impl<L: LinkStore> StandingSet<L> {
     /// One event more, that of an active pair, under an id with this line, which no standing event has: with it its

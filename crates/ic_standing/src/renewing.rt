@@ -12,6 +12,9 @@ use ic_queue::LeadQueue;
 use ic_set::BareSet;
 use std::alloc::{AllocError, Global};
 
+/// An event makes so many children at most.
+pub(crate) const MAX_CHILDREN: usize = 4;
+
 /// The agents whose names are in the queue, among whom is the lead of each active pair, in the order of the queue.
 pub(crate) fn agents_in<L: LinkStore>(
     alloc: Global,
@@ -44,15 +47,48 @@ pub(crate) fn queue_of<L: LinkStore>(
     ensures each { IfOk result (λ queue. HasLeads set.now queue.leads) }
     ensures room { IfOk result (λ queue. length set.now.names ≤ queue.room) }
 {
-    let mut queue = LeadQueue::new(alloc);
-    queue.reserve(set.roster().names().len())?;
+    let mut queue = empty_queue(alloc, set)?;
     put_all(&mut queue, set, agents);
     Ok(queue)
 }
 
-/// Makes the queue anew of those of its leads that lead an active pair still, where a third of them may lead none any more,
-/// since as many firings passed the front over, and these aren't few beside the names, for each of which it takes room. Where
-/// memory is wanting, the queue stays as it is.
+/// A queue of those leads in this one that lead no standing event, with room for each name that is known. A lead that leads one
+/// is of no active pair.
+fn without_fired<L: LinkStore>(
+    alloc: Global,
+    queue: &LeadQueue,
+    set: &BareSet<L>,
+) -> Result<LeadQueue, AllocError>
+    requires heap { IsHeap set.now.names queue.now.leads }
+    requires each { HasLeads set.now queue.now.leads }
+    ensures heap { IfOk result (λ fresh. IsHeap set.now.names fresh.leads) }
+    ensures each { IfOk result (λ fresh. HasLeads set.now fresh.leads) }
+    ensures room { IfOk result (λ fresh. length set.now.names ≤ fresh.room) }
+{
+    let roster = set.roster();
+    let mut fresh = empty_queue(alloc, set)?;
+    for lead in queue.leads() {
+        if roster.led_by(lead.name).is_none() {
+            fresh.put(roster.names(), lead.name);
+        }
+    }
+    Ok(fresh)
+}
+
+/// A queue without leads, with room for each name that is known and for those of the children of one event more.
+fn empty_queue<L: LinkStore>(alloc: Global, set: &BareSet<L>) -> Result<LeadQueue, AllocError>
+    ensures heap { IfOk result (λ queue. IsHeap set.now.names queue.leads) }
+    ensures room { IfOk result (λ queue. length set.now.names ≤ queue.room) }
+{
+    set.lawful();
+    let mut queue = LeadQueue::new(alloc);
+    queue.reserve(set.roster().names().len() + MAX_CHILDREN)?;
+    Ok(queue)
+}
+
+/// Makes the queue anew without the leads of what stands, where a third of its leads may be such, since as many firings passed the
+/// front over, and these aren't few beside the names, for each of which it takes room. Where memory is wanting, the queue stays
+/// as it is.
 pub(crate) fn renew_where_worn<L: LinkStore>(
     alloc: Global,
     queue: &mut LeadQueue,
@@ -70,10 +106,7 @@ pub(crate) fn renew_where_worn<L: LinkStore>(
         return;
     }
     *passed_over = 0;
-    let Ok(agents) = agents_in(alloc, queue, set) else {
-        return;
-    };
-    let Ok(fresh) = queue_of(alloc, set, &agents) else {
+    let Ok(fresh) = without_fired(alloc, queue, set) else {
         return;
     };
     *queue = fresh;

@@ -1,4 +1,4 @@
-ghost use Rattle.std.specs.Prelude.{◌≡◌, false, None};
+ghost use Rattle.std.specs.Prelude.{◌≡◌, None};
 ghost use Rattle.ic_work.specs.Workers.{Grips, Keeps};
 ghost use Rattle.ic_work.specs.Hands.{Stays};
 

@@ -9,7 +9,7 @@ use std::sync::Wait;
 pub(crate) enum Hint {
     /// An agent that may be of an active pair.
     Agent(AgentId),
-    /// Leads that the sweep began with, from one place to before another. The last one is followed first.
+    /// Leads that the sweep began with, from one place to before another. The first one is followed first.
     Leads { from: usize, to: usize },
 }
 
@@ -61,16 +61,16 @@ fn steal<R: Wait>(rt: &R, own: &mut Deque<Hint>, others: &[Stealer<Hint>]) -> Op
     None
 }
 
-/// The agent of a hint, if it tells one: of a block the last one, and the others go back among the worker's own hints.
+/// The agent of a hint, if it tells one: of a block the first one, and the others go back among the worker's own hints.
 pub(crate) fn agent_of(own: &mut Deque<Hint>, leads: &[AgentId], hint: Hint) -> Option<AgentId> {
     match hint {
         Hint::Agent(agent) => Some(agent),
         Hint::Leads { from, to } => {
-            let last = to.checked_sub(1)?;
-            if from < last {
-                let _ = own.push(Hint::Leads { from, to: last });
+            let next = from.checked_add(1)?;
+            if next < to {
+                let _ = own.push(Hint::Leads { from: next, to });
             }
-            leads.get(last).copied()
+            leads.get(from).copied()
         }
     }
 }
@@ -94,7 +94,7 @@ pub(crate) fn gather(
                 let _ = near.push_back(agent);
             }
             Hint::Leads { from, to } => {
-                for place in (from..to).rev() {
+                for place in from..to {
                     if let Some(lead) = leads.get(place) {
                         let _ = near.push_back(*lead);
                     }

@@ -72,8 +72,7 @@ pub(crate) fn prepare<B: Ledger>(
     })
 }
 
-/// Deals the places of so many leads out to the workers, to each a share in one piece. Those at the end of a share are followed
-/// first, so that the lead at the front of the queue stays there for long.
+/// Deals the places of so many leads out to the workers, to each a share in one piece.
 fn deal(hints: &mut [Deque<Hint>], leads: usize) -> Result<(), AllocError>
     requires { 0 < length hints.old }
 {
@@ -87,19 +86,24 @@ fn deal(hints: &mut [Deque<Hint>], leads: usize) -> Result<(), AllocError>
     Ok(())
 }
 
-/// Puts the places from one to before another out as hints, in blocks, of which there are some even where the places are few.
+/// Puts the places from one to before another out as hints, in blocks, of which there are some even where the places are few. The
+/// first block goes last, so that the lead at the front of the queue stays there for long.
 fn put_blocks(own: &mut Deque<Hint>, from: usize, to: usize) -> Result<(), AllocError> {
     let size = (to.saturating_sub(from) / MIN_BLOCKS).clamp(1, BLOCK);
-    let mut end = to;
-    while from < end {
-        let start = end.saturating_sub(size).max(from);
-        let Ok(()) = own.push(Hint::Leads {
-            from: start,
-            to: end,
-        }) else {
-            return Err(AllocError);
-        };
-        end = start;
+    let second = from.saturating_add(size).min(to);
+    for start in (second..to).step_by(size) {
+        put_block(own, start, start.saturating_add(size).min(to))?;
     }
-    Ok(())
+    put_block(own, from, second)
+}
+
+/// Puts the places from one to before another out as one hint, if there are any.
+fn put_block(own: &mut Deque<Hint>, from: usize, to: usize) -> Result<(), AllocError> {
+    if from >= to {
+        return Ok(());
+    }
+    match own.push(Hint::Leads { from, to }) {
+        Ok(()) => Ok(()),
+        Err(_) => Err(AllocError),
+    }
 }

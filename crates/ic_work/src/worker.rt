@@ -4,7 +4,7 @@ ghost use Rattle.ic_work.specs.Workers.{DrawsMore, IsFree, Keeps, MayFire, Works
 use crate::floor::Floor;
 use crate::hand::{Hand, claim};
 use crate::hints::{Hint, agent_of, find_hint, gather, put_back};
-use crate::limits::MOST;
+use crate::limits::{MAX_BUSY, MOST};
 use crate::tickets::Unused;
 use crossbeam_deque::Worker as Deque;
 use ic_claim::Seat;
@@ -38,18 +38,18 @@ enum Then {
 }
 
 impl<B: Ledger> Worker<B> {
-    /// Fires what hints name, until there is no hint, no ticket, or all were asked to stop.
+    /// Fires what hints name, until there is no hint, no ticket, or all were asked to stop, or `MAX_BUSY` hints in a row were busy.
     pub fn work<G: Gate, R: Wait>(&mut self, rt: &R, floor: &Floor<'_, B, G>)
         requires { IsFree floor.now.claims.now.table self.old.seat }
         ensures { Works self.old.seat self.old.pass self.new.seat self.new.pass }
     {
         let mut unused = Unused::none();
-        let mut others_first = false;
+        let mut busy = 0u32;
         for _ in rt.forever() {
-            match self.turn(rt, floor, &mut unused, others_first) {
-                Then::GoOn => others_first = false,
-                Then::TurnToOthers => others_first = true,
-                Then::GoHome => return,
+            match self.turn(rt, floor, &mut unused, busy > 0) {
+                Then::GoOn => busy = 0,
+                Then::TurnToOthers if busy < MAX_BUSY => busy += 1,
+                Then::TurnToOthers | Then::GoHome => return,
             }
         }
     }

@@ -1,8 +1,7 @@
-use Rattle.std.proofs.Common.{◌≡◌, ◌≢◌, true, false, Bool, nat_eq, ap, refl, sym, subst}
+use Rattle.std.proofs.Common.{◌≡◌, ◌≢◌, false, nat_eq, ap, refl, sym, subst}
 use Rattle.std.specs.Prelude.{◌&&◌}
 use Rattle.ic_queue.specs.Queues.{IsLeast}
 use Rattle.std.proofs.lemmas.Bool.{eq-eqb, eqb-true}
-use Rattle.ic_names.specs.Tables.{name_at}
 use Rattle.ic_name.specs.declared.ids.AgentId.{AgentId}
 use Rattle.ic_set.proofs.ActivePairs.{one_id}
 use Rattle.ic_roster.specs.Rosters.{Member}

@@ -1,11 +1,15 @@
 use Rattle.std.proofs.Common.{◌≡◌, false, refl, sym, ap, ◌∙◌, rules}
+use Rattle.std.proofs.lemmas.Bool.{true≢false}
 use borrow.Author.Tests.{tests}
+use Rattle.ic_name.specs.declared.kinds.Kind.TheVariants.{Eps}
 use Rattle.ic_roster.specs.Rosters.{Member}
 use Rattle.ic_set.specs.Views.{SetView}
 use Rattle.ic_set.proofs.ActivePairs.{one_id}
 use Rattle.ic_set.proofs.FewChildren.{one_kind}
+use Rattle.ic_set.proofs.NoneBeside.{none_beside}
 use Rattle.ic_set.proofs.ReachedAgents.{are_beside}
 use Rattle.ic_set.proofs.bare.BareSet.beside.Goals as goal
+use Rattle.ic_set.proofs.bare.BareSet.beside.Goals.{then-ne-via-then-ne, then-ne-via-else-ne+then-eq}
 
 pub unreachable-requires : goal.unreachable-requires
 unreachable-requires g c = let h = rw (← c.self.view_is) at c.requires in c.in_default.ensures.absent _ h.1.lead refl
@@ -19,9 +23,16 @@ returns-then-ne g c =
     rw (← c.self.view_is) (λ e h none. (
     let lead = ap (λ (m : Member). m.kind) (one_id v c.self.invariant.set _ _ c.in-Some.ensures.found h.lead refl) in
     let other = ap (λ (m : Member). m.kind) (one_id v c.self.invariant.set _ _ c.in-Some-agent.ensures.found h.other refl) in
-    let same : c.in-Some.lead.kind ≡ c.in-Some-agent.other.kind = lead ∙ one_kind e.lead_kind e.other_kind none ∙ sym other in
-    let off : c.ne.result ≡ false = search (rules, tests) in
-    absurd cc))
+    let one = one_kind e.lead_kind e.other_kind none in
+    elim c.then-ne.branch [
+      | then-ne-via-then-ne w ↦ (
+          let same : c.in-Some.lead.kind ≡ c.in-Some-agent.other.kind = lead ∙ one ∙ sym other in
+          let off : c.ne.result ≡ false = search (rules, tests) in
+          absurd (true≢false (sym w.if-ne.true ∙ off)))
+      | then-ne-via-else-ne+then-eq w ↦ (
+          let eps : c.in-Some.lead.kind ≡ Eps = search (rules, tests) in
+          none_beside v c.self.invariant.set e c.args.pair h (sym lead ∙ eps) (sym one ∙ sym lead ∙ eps))
+    ]))
 
 pub returns : goal.returns
 returns g c =

@@ -1,5 +1,6 @@
-use Rattle.std.proofs.Common.{map, refl, ◌∙◌}
+use Rattle.std.proofs.Common.{map, refl, ap, ◌∙◌}
 use Rattle.std.proofs.lemmas.List.{append-nil}
+use Rattle.ic_roster.specs.Rosters.{RosterView}
 use Rattle.ic_set.specs.Joining.{moved_link}
 use Rattle.ic_set.proofs.EmptySets.{can_enter_start, start_numbers, start_slim, start_kept, start_serials}
 use Rattle.ic_set.proofs.StartLinks.{own_moved}
@@ -10,19 +11,19 @@ enter_all-requires g c =
     let named = c.in_ok-entering.ensures in
     record {
       inside = rw c.deref.ensures.value named.inside;
-      can = rw (c.deref.ensures.value, named.agents, c.new-roster.ensures.agents, named.named, c.kinds.ensures) (can_enter_start c.args.start);
+      can = rw (c.deref.ensures.value, named.agents, ap (λ (r : RosterView). r.agents) c.reserve_events.ensures ∙ c.new-roster.ensures.agents, named.named, c.kinds.ensures) (can_enter_start c.args.start);
     }
 
 pub links_of_start-requires : goal.links_of_start-requires
 links_of_start-requires g c =
     let named = c.in_ok-entering.ensures in
-    let entered = rw (c.deref.ensures.value, named.agents, c.new-roster.ensures.agents, named.named, c.kinds.ensures) at c.in_ok-ids.ensures.entered in
+    let entered = rw (c.deref.ensures.value, named.agents, ap (λ (r : RosterView). r.agents) c.reserve_events.ensures ∙ c.new-roster.ensures.agents, named.named, c.kinds.ensures) at c.in_ok-ids.ensures.entered in
     rw c.as_slice.ensures (start_numbers c.args.start c.lawful.ensures.proper _ _ c.links.result.now entered c.lawful-2.ensures.names c.links.ensures.joins c.links.ensures.placed)
 
 pub add_all-requires-clause-slim : goal.add_all-requires-clause-slim
 add_all-requires-clause-slim g c =
     let named = c.in_ok-entering.ensures in
-    let entered = rw (c.deref.ensures.value, named.agents, c.new-roster.ensures.agents, named.named, c.kinds.ensures) at c.in_ok-ids.ensures.entered in
+    let entered = rw (c.deref.ensures.value, named.agents, ap (λ (r : RosterView). r.agents) c.reserve_events.ensures ∙ c.new-roster.ensures.agents, named.named, c.kinds.ensures) at c.in_ok-ids.ensures.entered in
     let all = append-nil (map (moved_link c.in_ok-ids.ids.items) c.links.result.now) in
     rw (c.deref-2.ensures.value, c.in_ok-links.ensures, c.as_slice.ensures, c.empty-store.ensures, all)
     (start_slim c.args.start c.lawful.ensures.proper _ _ c.links.result.now entered c.lawful-2.ensures.names c.links.ensures.joins c.links.ensures.placed)
@@ -35,18 +36,18 @@ add_all-requires-clause-own_ids g c =
 pub invariant_of-result : goal.invariant_of-result
 invariant_of-result g c =
     let named = c.in_ok-entering.ensures in
-    let entered = rw (c.deref.ensures.value, named.agents, c.new-roster.ensures.agents, named.named, c.kinds.ensures) at c.in_ok-ids.ensures.entered in
+    let entered = rw (c.deref.ensures.value, named.agents, ap (λ (r : RosterView). r.agents) c.reserve_events.ensures ∙ c.new-roster.ensures.agents, named.named, c.kinds.ensures) at c.in_ok-ids.ensures.entered in
     let all = append-nil (map (moved_link c.in_ok-ids.ids.items) c.links.result.now) in
     let added = rw (c.deref-2.ensures.value, c.in_ok-links.ensures, c.as_slice.ensures, c.empty-store.ensures, all) at c.in_ok-add_all.ensures.added in
-    rw (c.in_ok-ids.ensures.events ∙ named.events ∙ c.new-roster.ensures.events)
+    rw (c.in_ok-ids.ensures.events ∙ named.events ∙ ap (λ (r : RosterView). r.events) c.reserve_events.ensures ∙ c.new-roster.ensures.events)
     (start_kept c.args.start c.lawful.ensures.proper _ _ c.links.result.now entered c.lawful-2.ensures.names c.links.ensures.joins c.links.ensures.placed _ added)
 
 pub returns : goal.returns
 returns g c =
     let named = c.in_ok-entering.ensures in
-    let entered = rw (c.deref.ensures.value, named.agents, c.new-roster.ensures.agents, named.named, c.kinds.ensures) at c.in_ok-ids.ensures.entered in
+    let entered = rw (c.deref.ensures.value, named.agents, ap (λ (r : RosterView). r.agents) c.reserve_events.ensures ∙ c.new-roster.ensures.agents, named.named, c.kinds.ensures) at c.in_ok-ids.ensures.entered in
     record {
       start = refl;
-      events = c.in_ok-ids.ensures.events ∙ named.events ∙ c.new-roster.ensures.events;
+      events = c.in_ok-ids.ensures.events ∙ named.events ∙ ap (λ (r : RosterView). r.events) c.reserve_events.ensures ∙ c.new-roster.ensures.events;
       serials = start_serials c.args.start c.lawful.ensures.proper _ _ c.links.result.now entered c.lawful-2.ensures.names c.links.ensures.joins c.links.ensures.placed;
     }
