@@ -18,6 +18,8 @@ pub(crate) struct Hand<'a> {
     pub seat: &'a mut Seat,
     pub near: &'a mut VecDeque<AgentId>,
     pub hint: Option<AgentId>,
+    /// Whether the pair of the hint in hand was fired.
+    pub fired: bool,
     /// How many firings in a row had the pairs that they made active put first.
     pub in_a_row: u32,
 }
@@ -37,22 +39,20 @@ pub(crate) fn claim(claims: &Claims, seat: &mut Seat, hint: AgentId) -> Option<A
 }
 
 impl Hand<'_> {
-    /// Takes the next hint in hand, if its word is free; where another worker holds it, the hint goes behind the others. It is
-    /// false where there is none.
-    fn reach(&mut self) -> bool
+    /// Takes this hint in hand, and not the one that was, if its word is free; where another worker holds it, the hint goes behind
+    /// the others, and none is in hand.
+    fn reach(&mut self, hint: AgentId)
         requires table { self.old.seat.now.table ≡ self.old.claims.now.table }
-        requires empty { (self.old.hint ≡ None) × (self.old.seat.now.view.held ≡ None) }
+        requires grips { Grips self.old.hint self.old.seat.now.view.held }
         ensures grips { Grips self.new.hint self.new.seat.now.view.held }
         ensures stays { Stays self.old self.new }
     {
-        let Some(hint) = self.near.pop_front() else {
-            return false;
-        };
+        self.let_go();
         self.hint = claim(self.claims, self.seat, hint);
+        self.fired = false;
         if self.hint.is_none() {
             let _ = self.near.push_back(hint);
         }
-        true
     }
 
     /// Leaves the word of the hint in hand, if there is one.
@@ -79,27 +79,36 @@ impl Chooser for Hand<'_> {
 
     ghost hears = { λ h answer k. Stays h k };
 
-    /// The pair of the hint in hand, or else of the next that is of one and whose word is free. None comes once each was tried.
+    /// The pair of the hint in hand, if it wasn't fired, or else of the next that is of one and whose word is free. None comes once
+    /// each was tried. A pair is looked up before the word is claimed: that is an atomic step, which waits for all that the last
+    /// firing wrote, and the look gives it the time.
     fn choose(&mut self, bench: &Bench<Store>) -> Option<ActivePair> {
-        for _tried in 0..self.near.len().saturating_add(1) {
-            if self.hint.is_none() && !self.reach() {
-                return None;
+        if let Some(hint) = self.hint
+            && !self.fired
+        {
+            let pair = bench.pair_with(hint);
+            if pair.is_some() {
+                return pair;
             }
-            if let Some(hint) = self.hint {
-                let pair = bench.pair_with(hint);
-                if pair.is_some() {
+        }
+        for _tried in 0..self.near.len() {
+            let hint = self.near.pop_front()?;
+            let pair = bench.pair_with(hint);
+            if pair.is_some() {
+                self.reach(hint);
+                if self.hint.is_some() {
                     return pair;
                 }
-                self.let_go();
             }
         }
         None
     }
 
-    /// Leaves the word of what was fired, and takes the leads of the pairs that became active by it as hints: as the next ones,
-    /// since what they need lies in the cache, but for one firing in so many, lest a run follow one part of the net alone.
+    /// Takes the leads of the pairs that became active as hints: as the next ones, since what they need lies in the cache, but for
+    /// one firing in so many, lest a run follow one part of the net alone. The word of what was fired is left before the next one
+    /// is claimed.
     fn hear(&mut self, answer: &Result<Fired, PairFault>) {
-        self.let_go();
+        self.fired = true;
         if let Ok(fired) = answer {
             let first = self.in_a_row < IN_A_ROW;
             let any = put_out(self.near, fired.awoken, first);

@@ -153,6 +153,7 @@ impl<B: Ledger> Worker<B> {
             seat,
             near,
             hint: Some(hint),
+            fired: false,
             in_a_row: 0,
         };
         let ran = floor.shared.fire_run(rt, pass, &mut hand, most);
