@@ -3,10 +3,10 @@
 
 Prints, for each kind of net and each number of workers, how many events are fired, the seconds that the reduction takes,
 how much longer that is than with one worker, and which share of the workers' instructions is made under the lock of the
-bench. Seconds are those of a session less those of one that only reads the net, each the least of twelve, whose runs are
-interleaved, so that a busy machine slows all of them down alike. The share is counted by valgrind, with two workers, on a
-smaller net: it is that of the calls into the crates of the bench, so that what the compiler put into the worker's own code
-isn't in it.
+bench. Seconds are those from a command to its answer, in a session that has read its net, each the least of twelve, whose
+sessions are interleaved, so that a busy machine slows all of them down alike. The share is counted by valgrind, with two
+workers, on a smaller net: it is that of the calls into the crates of the bench, so that what the compiler put into the
+worker's own code isn't in it.
 
 All events that a net comes to are fired, so that each number of workers fires the same ones.
 
@@ -39,25 +39,36 @@ CALL = re.compile(r"^\s*([\d,]+) \([^)]*\)\s+([*>])\s+\S*?:(\S+)")
 UNDER_LOCK = re.compile(r"ic_(shared|set|table|journal|cause|queue|roster)::|std_collections::btree")
 
 
-def run(command, text, want):
-    """Seconds of a session, whose answer begins so."""
-    begun = time.perf_counter()
-    ran = subprocess.run(command, input=text.encode(), capture_output=True)
-    taken = time.perf_counter() - begun
-    if ran.returncode != 0 or not ran.stdout.startswith(want.encode()):
-        sys.exit(f"{command}: status {ran.returncode}, {ran.stdout[:80]}")
+def wanted(command, answer, want):
+    """Ends where an answer doesn't begin so."""
+    if not answer.startswith(want.encode()):
+        sys.exit(f"{command}: {answer[:80]}")
+
+
+def reduction(command, net, events):
+    """Seconds from the command to reduce to its answer, once the answer to another tells that the net was read."""
+    with subprocess.Popen(command, stdin=subprocess.PIPE, stdout=subprocess.PIPE) as session:
+        session.stdin.write(f"{net}---\nundo-all\n".encode())
+        session.stdin.flush()
+        wanted(command, session.stdout.readline(), "undone-all 0")
+        begun = time.perf_counter()
+        session.stdin.write(f"reduce {events}\n".encode())
+        session.stdin.flush()
+        answer = session.stdout.readline()
+        taken = time.perf_counter() - begun
+        wanted(command, answer, f"reduced {events} ")
+    if session.returncode != 0:
+        sys.exit(f"{command}: status {session.returncode}")
     return taken
 
 
 def seconds(program, net, events):
-    """Seconds of the reduction alone, by each number of workers."""
-    reduce = f"{net}---\nreduce {events}\n"
-    read, took = [], {workers: [] for workers in WORKERS}
+    """Seconds of the reduction, by each number of workers."""
+    took = {workers: [] for workers in WORKERS}
     for _ in range(ROUNDS):
-        read.append(run([program], net, ""))
         for workers, taken in took.items():
-            taken.append(run([program, "--workers", str(workers)], reduce, f"reduced {events} "))
-    return {workers: min(taken) - min(read) for workers, taken in took.items()}
+            taken.append(reduction([program, "--workers", str(workers)], net, events))
+    return {workers: min(taken) for workers, taken in took.items()}
 
 
 def under_lock(program, net, events):
@@ -67,7 +78,7 @@ def under_lock(program, net, events):
     with tempfile.TemporaryDirectory() as folder:
         counted = pathlib.Path(folder) / "counted"
         count = ["valgrind", "--quiet", "--tool=callgrind", f"--callgrind-out-file={counted}"]
-        run([*count, program, "--workers", "2"], f"{net}---\nreduce {events}\n", f"reduced {events} ")
+        reduction([*count, program, "--workers", "2"], net, events)
         listed = subprocess.run(
             ["callgrind_annotate", "--tree=calling", "--inclusive=yes", "--threshold=100", counted],
             capture_output=True,
