@@ -1,5 +1,6 @@
 -- Tables of far ends: places tell spots apart, and what a join writes.
-use Rattle.std.proofs.Common.{◌≡◌, ◌≢◌, ℕ, ◌+◌, ◌-◌, ◌*◌, ◌<◌, ◌≤◌, Bool, true, false, List, [], ◌∷◌, length, drop, refl, sym, ap, arith, ◌∙◌, length-set, suc, zero, slice_index_or, drop-cons}
+use Rattle.std.proofs.Common.{◌≡◌, ◌≢◌, ℕ, ◌+◌, ◌-◌, ◌*◌, ◌<◌, ◌≤◌, Bool, true, false, List, [], ◌∷◌, length, drop, refl, sym, ap, arith, ◌∙◌, length-set, suc, zero, slice_index_or, drop-cons, slice_get, Some, subst}
+use Rattle.std.proofs.lemmas.Option.{same_Some, slice_get_within, get_or_from_slice_get}
 use Rattle.std.proofs.lemmas.List.{get_or-set_same, get_or-set_other, get_or_default}
 use Rattle.std.specs.Prelude.{if◌then◌else◌, slice_set}
 use Rattle.ic_name.specs.declared.ids.Spot.{Spot}
@@ -80,11 +81,15 @@ pub bare_inside : (a n : ℕ) (ends : List Spot) → length ends ≡ 3 * a + n �
 bare_inside a n ends long h = record { long = long; inside = λ p hp. rw (h p hp) hp }
 
 -- each link of a start joins spots of the start
-pub link_inside : (a n k : ℕ) (ls : List Link) (i : ℕ) (d : Link) → AreStartLinks a n k ls → i < length ls
-    → IsStartSpot a n (slice_index_or ls i d).a × IsStartSpot a n (slice_index_or ls i d).b
-link_inside a n k [] i d h lt = absurd (omega arith)
-link_inside a n k (l ∷ ls) zero d h lt = (h.1, h.2)
-link_inside a n k (l ∷ ls) (suc i) d h lt = link_inside a n (k + 1) ls i d h.3 (omega arith)
+pub link_inside : (a n k : ℕ) (ls : List Link) (i : ℕ) (l : Link) → AreStartLinks a n k ls → slice_get ls i ≡ Some l
+    → IsStartSpot a n l.a × IsStartSpot a n l.b
+link_inside a n k [] i l h at = cc
+link_inside a n k (x ∷ xs) zero l h at = subst (λ y. IsStartSpot a n y.a × IsStartSpot a n y.b) (same_Some x l at) (h.1, h.2)
+link_inside a n k (x ∷ xs) (suc i) l h at = link_inside a n (k + 1) xs i l h.3 at
+
+-- the link at a place is the first of those from there on
+pub link_first : (ls : List Link) (i : ℕ) (l : Link) → slice_get ls i ≡ Some l → drop i ls ≡ l ∷ drop (suc i) ls
+link_first ls i l at = drop-cons ls i l (slice_get_within ls i l at) ∙ ap (λ x. x ∷ drop (suc i) ls) (get_or_from_slice_get ls i l l at)
 
 -- what is read at a spot's place
 pub slot_is : (a n : ℕ) (ends : List Spot) (p d : Spot) (k : ℕ) → IsFarTable a n ends → IsStartSpot a n p → k ≡ place_of a p → slice_index_or ends k d ≡ end_at a ends p
@@ -105,12 +110,11 @@ joined_at a n ends l r x y k m t hl hr ex ey ek em =
     rw (k', m', ex, ey) (joined a n ends l r t hl hr)
 
 -- the links that have come once the i-th from the end comes too
-pub one_more : (ls : List Link) (i n : ℕ) (d : Link) → i < n → n ≡ length ls → drop (n - (i + 1)) ls ≡ slice_index_or ls (n - 1 - i) d ∷ drop (n - i) ls
-one_more ls i n d h e =
+pub one_more : (ls : List Link) (i n : ℕ) (l : Link) → i < n → slice_get ls (n - 1 - i) ≡ Some l → drop (n - (i + 1)) ls ≡ l ∷ drop (n - i) ls
+one_more ls i n l h at =
     let k : n - (i + 1) ≡ n - 1 - i = omega arith in
     let m : suc (n - 1 - i) ≡ n - i = omega arith in
-    let w : n - 1 - i < length ls = omega arith in
-    rw (k, ← m) (drop-cons ls (n - 1 - i) d w)
+    rw (k, ← m) (link_first ls (n - 1 - i) l at)
 
 -- a join is one link more
 pub table_more : (a n : ℕ) (old new : List Spot) (l : Link) (ls rest : List Link) → ls ≡ l ∷ rest → HasFarEnds a n old (far shape rest) → IsStartSpot a n l.a → IsStartSpot a n l.b

@@ -1,5 +1,5 @@
 -- How often names occur, counted link by link, and the table of those that occur once.
-use Rattle.std.proofs.Common.{◌≡◌, ℕ, suc, zero, ◌+◌, ◌<◌, ◌≤◌, Bool, true, false, List, [], ◌∷◌, ◌++◌, length, drop, refl, sym, ap, arith, ◌∙◌, get_or, append-nil, drop-cons, add-one, inl, inr}
+use Rattle.std.proofs.Common.{◌≡◌, ℕ, suc, zero, ◌+◌, ◌<◌, ◌≤◌, Bool, true, false, List, [], ◌∷◌, ◌++◌, length, drop, refl, sym, ap, arith, ◌∙◌, slice_get, Some, append-nil, add-one, inl, inr}
 use Rattle.std.proofs.lemmas.List.{get_or_past}
 use Rattle.std.specs.Ordering.{nat_cmp}
 use Rattle.std.specs.BTreeMap.{insert_entry}
@@ -14,7 +14,7 @@ use Rattle.ic_path.specs.Links.{degree, hits}
 use Rattle.ic_link.specs.Links.{shape}
 use Rattle.ic_start.specs.Starts.{IsStartSpot, AreStartLinks}
 use Rattle.ic_net.specs.Nets.{frees_upto}
-use Rattle.ic_net.proofs.FarTableFacts.{link_inside}
+use Rattle.ic_net.proofs.FarTableFacts.{link_inside, link_first}
 use Rattle.ic_net.proofs.Listings.{nat_above}
 
 -- counts that stay below a total of two are small
@@ -27,37 +27,37 @@ counts_small xs n rest all e h few j = go (cases_lt j n)
     go (inr g) = let past : slice_index xs j ≡ 0 = get_or_past xs j 0 (omega arith) in omega arith
 
 -- the link at a place, and those behind it
-pub one_link : (ls : List Link) (i : ℕ) (d : Link) (p : Spot) → i < length ls → degree shape (drop i ls) p ≡ hits shape p (get_or ls i d) + degree shape (drop (i + 1) ls) p
-one_link ls i d p h = ap (λ xs. degree shape xs p) (drop-cons ls i d h) ∙ rw add-one refl
+pub one_link : (ls : List Link) (i : ℕ) (l : Link) (p : Spot) → slice_get ls i ≡ Some l → degree shape (drop i ls) p ≡ hits shape p l + degree shape (drop (i + 1) ls) p
+one_link ls i l p at = ap (λ xs. degree shape xs p) (link_first ls i l at) ∙ rw add-one refl
 
 -- the ends of a link are spots of the start, for a count of names that is that of the start
-pub left_inside : (a n m : ℕ) (ls : List Link) (i : ℕ) (d : Link) → m ≡ n → AreStartLinks a n 0 ls → i < length ls → IsStartSpot a m (get_or ls i d).a
-left_inside a n m ls i d e h l = rw e (link_inside a n 0 ls i d h l).0
+pub left_inside : (a n m : ℕ) (ls : List Link) (i : ℕ) (l : Link) → m ≡ n → AreStartLinks a n 0 ls → slice_get ls i ≡ Some l → IsStartSpot a m l.a
+left_inside a n m ls i l e h at = rw e (link_inside a n 0 ls i l h at).0
 
-pub right_inside : (a n m : ℕ) (ls : List Link) (i : ℕ) (d : Link) → m ≡ n → AreStartLinks a n 0 ls → i < length ls → IsStartSpot a m (get_or ls i d).b
-right_inside a n m ls i d e h l = rw e (link_inside a n 0 ls i d h l).1
+pub right_inside : (a n m : ℕ) (ls : List Link) (i : ℕ) (l : Link) → m ≡ n → AreStartLinks a n 0 ls → slice_get ls i ≡ Some l → IsStartSpot a m l.b
+right_inside a n m ls i l e h at = rw e (link_inside a n 0 ls i l h at).1
 
 -- one where the name is the spot
 abbrev pub named_once : ℕ → Spot → ℕ
 named_once j s = if same_spot (spots.Name j) s then 1 else 0
 
 -- the left end of a link is counted
-pub counted_left : (xs ys : List ℕ) (n : ℕ) (ls : List Link) (i : ℕ) (d : Link) → length xs ≡ n → i < length ls
+pub counted_left : (xs ys : List ℕ) (n : ℕ) (ls : List Link) (i : ℕ) (l : Link) → length xs ≡ n → slice_get ls i ≡ Some l
     → ((j : ℕ) → j < n → slice_index xs j + degree shape (drop i ls) (spots.Name j) ≡ degree shape ls (spots.Name j))
-    → ((j : ℕ) → j < length xs → slice_index ys j ≡ slice_index xs j + named_once j (get_or ls i d).a)
-    → (j : ℕ) → j < n → slice_index ys j + (named_once j (get_or ls i d).b + degree shape (drop (i + 1) ls) (spots.Name j)) ≡ degree shape ls (spots.Name j)
-counted_left xs ys n ls i d e l h w j k =
+    → ((j : ℕ) → j < length xs → slice_index ys j ≡ slice_index xs j + named_once j l.a)
+    → (j : ℕ) → j < n → slice_index ys j + (named_once j l.b + degree shape (drop (i + 1) ls) (spots.Name j)) ≡ degree shape ls (spots.Name j)
+counted_left xs ys n ls i l e at h w j k =
     let a = h j k in
     let b = w j (omega arith) in
-    let c = one_link ls i d (spots.Name j) l in
+    let c = one_link ls i l (spots.Name j) at in
     omega arith
 
 -- and then the right one
-pub counted_right : (xs ys : List ℕ) (n : ℕ) (ls : List Link) (i : ℕ) (d : Link) → length xs ≡ n
-    → ((j : ℕ) → j < n → slice_index xs j + (named_once j (get_or ls i d).b + degree shape (drop (i + 1) ls) (spots.Name j)) ≡ degree shape ls (spots.Name j))
-    → ((j : ℕ) → j < length xs → slice_index ys j ≡ slice_index xs j + named_once j (get_or ls i d).b)
+pub counted_right : (xs ys : List ℕ) (n : ℕ) (ls : List Link) (i : ℕ) (l : Link) → length xs ≡ n
+    → ((j : ℕ) → j < n → slice_index xs j + (named_once j l.b + degree shape (drop (i + 1) ls) (spots.Name j)) ≡ degree shape ls (spots.Name j))
+    → ((j : ℕ) → j < length xs → slice_index ys j ≡ slice_index xs j + named_once j l.b)
     → (j : ℕ) → j < n → slice_index ys j + degree shape (drop (i + 1) ls) (spots.Name j) ≡ degree shape ls (spots.Name j)
-counted_right xs ys n ls i d e h w j k =
+counted_right xs ys n ls i l e h w j k =
     let a = h j k in
     let b = w j (omega arith) in
     omega arith

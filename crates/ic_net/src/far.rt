@@ -7,7 +7,8 @@ ghost use Rattle.ic_link.specs.Links.{shape};
 ghost use Rattle.ic_start.specs.Starts.{IsStartSpot, AreStartLinks};
 ghost use Rattle.ic_net.specs.FarTables.{place_of, end_at, IsFarTable, HasFarEnds};
 
-use ic_name::{AgentId, Link, Spot};
+use ic_name::{AgentId, Spot};
+use ic_start::StartLinks;
 use std::alloc::{AllocError, Global};
 
 /// The far ends of a start's ports, by place, and the number of rings.
@@ -104,7 +105,7 @@ pub fn far_table(
     alloc: Global,
     agents: usize,
     names: usize,
-    links: &[Link],
+    links: &StartLinks,
 ) -> Result<FarTable, AllocError>
     requires agents { agents < 2 ^ 32 }
     requires names { names ≤ 2 ^ 32 }
@@ -117,7 +118,9 @@ pub fn far_table(
     let mut table = FarTable { ends, rings: 0 };
     let count = links.len();
     for done in 0..count {
-        let link = links[count - 1 - done];
+        let Some(link) = links.get(count - 1 - done) else {
+            unreachable!()
+        };
         table.join(agents, names, link.a, link.b);
     }
     Ok(table)

@@ -47,6 +47,7 @@ impl Net {
     {
         start.lawful();
         let (count, names, links) = (start.agents(), start.names().len(), start.links());
+        links.lawful();
         let table = far_table(alloc, count, names, links)?;
         let ends = table.ends.as_slice();
         let times = name_ends(alloc, count, names, links)?;

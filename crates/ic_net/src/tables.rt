@@ -12,8 +12,9 @@ ghost use Rattle.ic_sheet.specs.Sheets.{partner_list, listed_agent};
 ghost use Rattle.ic_net.specs.Nets.{at_ports, listed_from, frees_upto};
 
 use crate::far::end_of;
-use ic_name::{AgentId, AgentName, Kind, Link, Port, Spot};
+use ic_name::{AgentId, AgentName, Kind, Port, Spot};
 use ic_sheet::{NetAgent, Partners};
+use ic_start::StartLinks;
 use std::alloc::{AllocError, Global};
 use std::collections::BTreeMap;
 
@@ -123,7 +124,7 @@ pub(crate) fn name_ends(
     alloc: Global,
     agents: usize,
     names: usize,
-    links: &[Link],
+    links: &StartLinks,
 ) -> Result<Vec<u8>, AllocError>
     requires links { AreStartLinks agents names 0 links.now }
     requires few { (j : ℕ) → degree shape links.now (spots.Name j) ≤ 2 }
@@ -131,7 +132,10 @@ pub(crate) fn name_ends(
     ensures counted { IfOk result (λ times. (j : ℕ) → j < names → slice_index times.items j ≡ degree shape links.now (spots.Name j)) }
 {
     let mut times = vec![in alloc; 0u8; names]?;
-    for link in links {
+    for number in 0..links.len() {
+        let Some(link) = links.get(number) else {
+            unreachable!()
+        };
         count_end(&mut times, agents, link.a);
         count_end(&mut times, agents, link.b);
     }

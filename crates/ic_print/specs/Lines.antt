@@ -1,9 +1,8 @@
 -- The pieces of the text that the printer writes one by one.
-use Rattle.std.specs.Prelude.{ℕ, List, [], ◌++◌, map, codes}
+use Rattle.std.specs.Prelude.{ℕ, List, [], ◌++◌, codes}
 use Rattle.std.specs.Borrow.{Bor}
 use Rattle.std.specs.BTreeMap.{insert_entry}
 use Rattle.std.specs.Cmp.Lexicographic.{slice_cmp}
-use Rattle.std.specs.Global.{Vec}
 use Rattle.std.specs.List.{fold, cons_option}
 use Rattle.std.specs.Ordering.{nat_cmp}
 use Rattle.ic_name.specs.declared.ports.Port.{Port}
@@ -12,10 +11,6 @@ use Rattle.ic_print.specs.NetText.{free_wire, numbered}
 -- the line of the ring of this number
 abbrev pub ring_line : ℕ → List ℕ
 ring_line k = numbered k ++ codes " = " ++ numbered k ++ codes ";\n"
-
--- the texts of the names
-abbrev pub texts : List (Vec ℕ) → List (List ℕ)
-texts names = map (λ t. t.items) names
 
 -- two texts that are lent
 abbrev pub lent_texts : Bor (List ℕ) × Bor (List ℕ) → List ℕ × List ℕ

@@ -3,7 +3,6 @@ ghost use Rattle.std.specs.List.{flat_map};
 ghost use Rattle.ic_name.specs.Kinds.{arity};
 ghost use Rattle.ic_sheet.specs.Views.{shown_agent};
 ghost use Rattle.ic_print.specs.AgentsText.{agents_text, named_line};
-ghost use Rattle.ic_print.specs.Lines.{texts};
 ghost use Rattle.ic_print.specs.Numbers.{IsPlaced};
 ghost use Rattle.ic_print.specs.NumberedWires.{wires_in};
 
@@ -11,16 +10,13 @@ use crate::numbered::NumberedAgents;
 use crate::placed::PlacedAgent;
 use crate::put::put_line;
 use ic_sheet::NetView;
+use ic_start::Texts;
 use std::alloc::{AllocError, Global};
 
 /// Which line of the printed net is which agent's: how many agents there are, and in order of their names the line of each
 /// behind its name.
-pub fn print_agents(
-    alloc: Global,
-    net: &NetView<'_>,
-    names: &[Vec<u8>],
-) -> Result<Vec<u8>, AllocError>
-    ensures { IfOk result (λ text. text.items ≡ agents_text (texts names.now) net.now) }
+pub fn print_agents(alloc: Global, net: &NetView<'_>, names: &Texts) -> Result<Vec<u8>, AllocError>
+    ensures { IfOk result (λ text. text.items ≡ agents_text names.now net.now) }
 {
     net.lawful();
     let agents = net.agents();
@@ -31,13 +27,9 @@ pub fn print_agents(
 }
 
 /// Writes the line of each agent behind its name.
-fn put_named(
-    out: &mut Vec<u8>,
-    sheet: &NumberedAgents<'_>,
-    names: &[Vec<u8>],
-) -> Result<(), AllocError>
+fn put_named(out: &mut Vec<u8>, sheet: &NumberedAgents<'_>, names: &Texts) -> Result<(), AllocError>
     requires { All (λ a. length a.partners ≡ arity a.kind + 1) (map shown_agent sheet.now.agents.now) }
-    ensures { OnOk result (out.new.items ≡ out.old.items ++ flat_map (named_line (texts names.now) (wires_in sheet.now)) (map shown_agent sheet.now.agents.now)) }
+    ensures { OnOk result (out.new.items ≡ out.old.items ++ flat_map (named_line names.now (wires_in sheet.now)) (map shown_agent sheet.now.agents.now)) }
 {
     for (place, view) in sheet.agents().iter().enumerate() {
         put_named_line(out, sheet, names, &PlacedAgent { place, view: *view })?;
@@ -49,12 +41,12 @@ fn put_named(
 fn put_named_line(
     out: &mut Vec<u8>,
     sheet: &NumberedAgents<'_>,
-    names: &[Vec<u8>],
+    names: &Texts,
     agent: &PlacedAgent<'_>,
 ) -> Result<(), AllocError>
     requires placed { IsPlaced (map shown_agent sheet.now.agents.now) agent.now }
     requires whole { length agent.now.view.partners.now ≡ arity agent.now.view.kind + 1 }
-    ensures { OnOk result (out.new.items ≡ out.old.items ++ named_line (texts names.now) (wires_in sheet.now) (shown_agent agent.now.view)) }
+    ensures { OnOk result (out.new.items ≡ out.old.items ++ named_line names.now (wires_in sheet.now) (shown_agent agent.now.view)) }
 {
     agent.view.name.write_to(out)?;
     out.push(b' ')?;

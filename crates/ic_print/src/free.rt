@@ -1,12 +1,13 @@
 ghost use Rattle.std.specs.Prelude.{◌≡◌, ◌++◌, map, IfOk, OnOk};
 ghost use Rattle.std.specs.List.{flat_map};
-ghost use Rattle.ic_print.specs.Lines.{lent_texts, texts, with_free_wire};
+ghost use Rattle.ic_print.specs.Lines.{lent_texts, with_free_wire};
 ghost use Rattle.ic_print.specs.NetText.{free_line, free_wires};
 ghost use Rattle.ic_sheet.specs.Views.{shown_free};
 
 use crate::put::text_of;
 use ic_name::Port;
 use ic_sheet::FreeView;
+use ic_start::Texts;
 use std::alloc::{AllocError, Global};
 use std::collections::BTreeMap;
 
@@ -14,9 +15,9 @@ use std::collections::BTreeMap;
 fn enter_free_wire<'a>(
     wires: &mut BTreeMap<&'a [u8], &'a [u8]>,
     free: &FreeView<'_>,
-    names: &'a [Vec<u8>],
+    names: &'a Texts,
 ) -> Result<(), AllocError>
-    ensures { OnOk result (map lent_texts wires.new.entries ≡ with_free_wire (texts names.now) (map lent_texts wires.old.entries) (shown_free free.now)) }
+    ensures { OnOk result (map lent_texts wires.new.entries ≡ with_free_wire names.now (map lent_texts wires.old.entries) (shown_free free.now)) }
 {
     match free.partner {
         Port::Of(..) => {}
@@ -35,9 +36,9 @@ fn enter_free_wire<'a>(
 fn free_wires_of<'a>(
     alloc: Global,
     frees: &[FreeView<'_>],
-    names: &'a [Vec<u8>],
+    names: &'a Texts,
 ) -> Result<BTreeMap<&'a [u8], &'a [u8]>, AllocError>
-    ensures { IfOk result (λ wires. map lent_texts wires.entries ≡ free_wires (texts names.now) (map shown_free frees.now)) }
+    ensures { IfOk result (λ wires. map lent_texts wires.entries ≡ free_wires names.now (map shown_free frees.now)) }
 {
     let mut wires = BTreeMap::new(alloc);
     for free in frees {
@@ -50,9 +51,9 @@ fn free_wires_of<'a>(
 pub(crate) fn put_free_wires(
     out: &mut Vec<u8>,
     frees: &[FreeView<'_>],
-    names: &[Vec<u8>],
+    names: &Texts,
 ) -> Result<(), AllocError>
-    ensures { OnOk result (out.new.items ≡ out.old.items ++ flat_map free_line (free_wires (texts names.now) (map shown_free frees.now))) }
+    ensures { OnOk result (out.new.items ≡ out.old.items ++ flat_map free_line (free_wires names.now (map shown_free frees.now))) }
 {
     let wires = free_wires_of(*out.allocator(), frees, names)?;
     for (near, far) in &wires {

@@ -6,6 +6,7 @@ use crate::numbered::NumberedAgents;
 use crate::put::{put_agents, put_header, put_profile, put_rings};
 use ic_net::Net;
 use ic_sheet::NetView;
+use ic_start::Texts;
 use std::alloc::{AllocError, Global};
 
 /// The length of the shortest line of an agent, but for the name in it.
@@ -16,19 +17,15 @@ const LEAST_LINE: usize = "E = ;\n".len();
 ///
 /// The other end of each wire between agents is looked for once, by name, and each wire between free names is entered in a
 /// map; the rest is linear in the net and its text.
-pub fn print_net(alloc: Global, net: &Net, names: &[Vec<u8>]) -> Result<Vec<u8>, AllocError>
-    ensures { IfOk result (λ text. text.items ≡ net_text (map (λ t. t.items) names.now) net.now) }
+pub fn print_net(alloc: Global, net: &Net, names: &Texts) -> Result<Vec<u8>, AllocError>
+    ensures { IfOk result (λ text. text.items ≡ net_text names.now net.now) }
 {
     print_view(alloc, &net.view(alloc)?, names)
 }
 
 /// The printed text of a net that is lent, as `print_net` gives it.
-pub fn print_view(
-    alloc: Global,
-    net: &NetView<'_>,
-    names: &[Vec<u8>],
-) -> Result<Vec<u8>, AllocError>
-    ensures { IfOk result (λ text. text.items ≡ net_text (map (λ t. t.items) names.now) net.now) }
+pub fn print_view(alloc: Global, net: &NetView<'_>, names: &Texts) -> Result<Vec<u8>, AllocError>
+    ensures { IfOk result (λ text. text.items ≡ net_text names.now net.now) }
 {
     net.lawful();
     let agents = net.agents();

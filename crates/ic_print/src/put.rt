@@ -1,7 +1,7 @@
 ghost use Rattle.std.specs.Prelude.{◌≡◌, ◌++◌, ◌+◌, ◌<◌, ◌^◌, map, length, codes, decimal, OnOk, All};
 ghost use Rattle.std.specs.List.{flat_map};
 ghost use Rattle.ic_name.specs.Kinds.{arity};
-ghost use Rattle.ic_print.specs.Lines.{ring_line, texts};
+ghost use Rattle.ic_print.specs.Lines.{ring_line};
 ghost use Rattle.ic_print.specs.NetText.{agent_line, arguments, header, letter, name_text, numbered, port_label, profile_line, ring_lines};
 ghost use Rattle.ic_print.specs.Numbers.{IsPlaced};
 ghost use Rattle.ic_print.specs.NumberedWires.{wires_in};
@@ -11,15 +11,16 @@ use crate::numbered::NumberedAgents;
 use crate::placed::PlacedAgent;
 use crate::ports::partner;
 use ic_name::{Kind, Port, Profile};
+use ic_start::Texts;
 use itoa::Buffer;
 use std::alloc::AllocError;
 
 /// The text of the name of this number.
-pub(crate) fn text_of(names: &[Vec<u8>], number: u32) -> &[u8]
-    ensures { result.now ≡ name_text (texts names.now) number }
+pub(crate) fn text_of(names: &Texts, number: u32) -> &[u8]
+    ensures { result.now ≡ name_text names.now number }
 {
     match names.get(number as usize) {
-        Some(text) => text.as_slice(),
+        Some(text) => text,
         None => &[],
     }
 }
@@ -42,13 +43,13 @@ fn put_numbered(out: &mut Vec<u8>, number: u64) -> Result<(), AllocError>
 fn put_port(
     out: &mut Vec<u8>,
     sheet: &NumberedAgents<'_>,
-    names: &[Vec<u8>],
+    names: &Texts,
     agent: &PlacedAgent<'_>,
     port: u8,
 ) -> Result<(), AllocError>
     requires placed { IsPlaced (map shown_agent sheet.now.agents.now) agent.now }
     requires port { port < length agent.now.view.partners.now }
-    ensures { OnOk result (out.new.items ≡ out.old.items ++ port_label (texts names.now) (wires_in sheet.now) (shown_agent agent.now.view) port) }
+    ensures { OnOk result (out.new.items ≡ out.old.items ++ port_label names.now (wires_in sheet.now) (shown_agent agent.now.view) port) }
 {
     match partner(&agent.view, port) {
         Port::Name(number) => out.extend_from_slice(text_of(names, *number)),
@@ -70,12 +71,12 @@ fn put_letter(out: &mut Vec<u8>, kind: Kind) -> Result<(), AllocError>
 fn put_arguments(
     out: &mut Vec<u8>,
     sheet: &NumberedAgents<'_>,
-    names: &[Vec<u8>],
+    names: &Texts,
     agent: &PlacedAgent<'_>,
 ) -> Result<(), AllocError>
     requires placed { IsPlaced (map shown_agent sheet.now.agents.now) agent.now }
     requires whole { length agent.now.view.partners.now ≡ arity agent.now.view.kind + 1 }
-    ensures { OnOk result (out.new.items ≡ out.old.items ++ arguments (texts names.now) (wires_in sheet.now) (shown_agent agent.now.view) agent.now.view.kind) }
+    ensures { OnOk result (out.new.items ≡ out.old.items ++ arguments names.now (wires_in sheet.now) (shown_agent agent.now.view) agent.now.view.kind) }
 {
     match agent.view.kind {
         Kind::Eps => Ok(()),
@@ -93,12 +94,12 @@ fn put_arguments(
 pub(crate) fn put_line(
     out: &mut Vec<u8>,
     sheet: &NumberedAgents<'_>,
-    names: &[Vec<u8>],
+    names: &Texts,
     agent: &PlacedAgent<'_>,
 ) -> Result<(), AllocError>
     requires placed { IsPlaced (map shown_agent sheet.now.agents.now) agent.now }
     requires whole { length agent.now.view.partners.now ≡ arity agent.now.view.kind + 1 }
-    ensures { OnOk result (out.new.items ≡ out.old.items ++ agent_line (texts names.now) (wires_in sheet.now) (shown_agent agent.now.view)) }
+    ensures { OnOk result (out.new.items ≡ out.old.items ++ agent_line names.now (wires_in sheet.now) (shown_agent agent.now.view)) }
 {
     put_letter(out, agent.view.kind)?;
     put_arguments(out, sheet, names, agent)?;
@@ -111,10 +112,10 @@ pub(crate) fn put_line(
 pub(crate) fn put_agents(
     out: &mut Vec<u8>,
     sheet: &NumberedAgents<'_>,
-    names: &[Vec<u8>],
+    names: &Texts,
 ) -> Result<(), AllocError>
     requires { All (λ a. length a.partners ≡ arity a.kind + 1) (map shown_agent sheet.now.agents.now) }
-    ensures { OnOk result (out.new.items ≡ out.old.items ++ flat_map (agent_line (texts names.now) (wires_in sheet.now)) (map shown_agent sheet.now.agents.now)) }
+    ensures { OnOk result (out.new.items ≡ out.old.items ++ flat_map (agent_line names.now (wires_in sheet.now)) (map shown_agent sheet.now.agents.now)) }
 {
     for (place, view) in sheet.agents().iter().enumerate() {
         put_line(out, sheet, names, &PlacedAgent { place, view: *view })?;

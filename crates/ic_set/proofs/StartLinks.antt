@@ -1,6 +1,8 @@
 -- The links of a start, between the agents under given ids.
-use Rattle.std.proofs.Common.{◌≡◌, ℕ, ◌+◌, ◌<◌, ◌≤◌, true, List, [], ◌∷◌, map, length, inl, inr, None, refl, sym, ap, arith, subst, ◌∙◌}
+use Rattle.std.proofs.Common.{◌≡◌, ℕ, ◌+◌, ◌<◌, ◌≤◌, true, List, [], ◌∷◌, map, length, slice_get, inl, inr, Some, None, refl, sym, ap, arith, subst, ◌∙◌}
 use Rattle.std.specs.Prelude.{slice_index_or}
+use Rattle.std.proofs.lemmas.List.{get_or-map}
+use Rattle.std.proofs.lemmas.Option.{slice_get_within, get_or_from_slice_get}
 use Rattle.ic_name.specs.Names.{start_name}
 use Rattle.ic_name.specs.declared.ids.AgentId.{AgentId}
 use Rattle.ic_name.specs.declared.ids.LinkId.{LinkId}
@@ -16,6 +18,19 @@ use Rattle.ic_start.specs.Starts.{port_at, join_of, IsStartSpot, AreStartLinks}
 use Rattle.ic_shown.specs.Naming.{Naming, IsHeld, has_maker, maker_of, link_of, port_of}
 use Rattle.ic_shown.proofs.OnePort.{HasSpot, AreHeld}
 use Rattle.ic_set.specs.Joining.{no_id, moved_spot, moved_link, HasNumber, HaveNumbers}
+use Rattle.ic_set.proofs.InPlace.{in_at}
+
+-- what is found at a number is one of the list
+found_in : {X : Type 0} (xs : List X) (i : ℕ) (x : X) → slice_get xs i ≡ Some x → IsIn x xs
+found_in xs i x e = subst (λ y. IsIn y xs) (get_or_from_slice_get xs i x x e) (in_at xs i x (slice_get_within xs i x e))
+
+-- so the numbers of a link's spots have ids
+pub numbered_at : (ids : List AgentId) (ls : List Link) (i : ℕ) (l : Link) → HaveNumbers ids ls → slice_get ls i ≡ Some l → HasNumber ids l.a × HasNumber ids l.b
+numbered_at ids ls i l all e = all l (found_in ls i l e)
+
+-- and the link stands there among the moved ones
+pub moved_at : (ids : List AgentId) (ls : List Link) (i : ℕ) (l d : Link) → slice_get ls i ≡ Some l → slice_index_or (map (moved_link ids) ls) i d ≡ moved_link ids l
+moved_at ids ls i l d e = get_or-map (moved_link ids) ls i l d (slice_get_within ls i l e) ∙ ap (moved_link ids) (get_or_from_slice_get ls i l l e)
 
 module _ (ids : List AgentId) (agents names : ℕ) where
   -- with as many ids as agents the number of each spot has an id

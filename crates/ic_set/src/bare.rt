@@ -4,7 +4,7 @@ ghost use Rattle.ic_set.specs.Sets.{IsStandingSet};
 ghost use Rattle.ic_set.specs.Changes.{IsOver};
 
 use crate::entering::{agents_of_kinds, enter_all};
-use crate::joining::{add_all, links_of_start};
+use crate::joining::add_start;
 use ic_link::LinkStore;
 use ic_roster::Roster;
 use ic_start::Start;
@@ -33,19 +33,19 @@ impl<L: LinkStore> Model for BareSet<L> {
 }
 
 impl<L: LinkStore> BareSet<L> {
-    /// The empty set over a start, with room for the events of as many pairs as its agents make.
+    /// The empty set over a start, with room for the events of as many pairs as its agents make, if there is memory for that.
     pub fn over(alloc: Global, start: Start) -> Result<BareSet<L>, AllocError>
         ensures { IfOk result (λ set. IsOver start set.set) }
     {
         start.lawful();
         let mut roster = Roster::new(alloc);
-        roster.reserve_events(start.agents() / 2)?;
+        // Room that is refused here is looked for once more as events come.
+        let _ = roster.reserve_events(start.agents() / 2);
         let entering = agents_of_kinds(alloc, &mut roster, start.kinds())?;
         let ids = enter_all(alloc, &mut roster, &entering, 0)?;
         roster.lawful();
-        let links = links_of_start(alloc, ids.as_slice(), start.links())?;
         let mut store = L::empty(alloc);
-        add_all(&mut store, &links)?;
+        add_start(&mut store, ids.as_slice(), start.links())?;
         Ok(BareSet {
             start,
             roster,

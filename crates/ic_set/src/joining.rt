@@ -1,4 +1,4 @@
-ghost use Rattle.std.specs.Prelude.{◌≡◌, ◌≤◌, ◌++◌, List, length, map, IfOk, OnOk, OnErr};
+ghost use Rattle.std.specs.Prelude.{◌≡◌, ◌≤◌, ◌++◌, List, length, map, OnOk, OnErr};
 ghost use Rattle.ic_name.specs.declared.ids.Link.{Link as ALink};
 ghost use Rattle.ic_path.specs.Orders.{Alike};
 ghost use Rattle.ic_path.specs.Links.{IsSlim};
@@ -8,26 +8,33 @@ ghost use Rattle.ic_set.specs.Joining.{moved_spot as spot_moved, moved_link, mad
 use crate::pairs::ActivePair;
 use ic_link::LinkStore;
 use ic_name::{AgentId, EventId, Link, LinkId, MakerId, RuleEnd, Spot};
-use std::alloc::{AllocError, Global};
+use ic_start::StartLinks;
+use std::alloc::AllocError;
 
-/// The links of a start, between the agents under these ids, by number.
-pub(crate) fn links_of_start(
-    alloc: Global,
+/// Puts in the links of a start, between the agents under these ids, by number. At an error some of them may have been put
+/// in, from the first one on.
+pub(crate) fn add_start<L: LinkStore>(
+    store: &mut L,
     ids: &[AgentId],
-    links: &[Link],
-) -> Result<Vec<Link>, AllocError>
-    requires { HaveNumbers ids.now links.now }
-    ensures { IfOk result (λ moved. moved.items ≡ map (moved_link ids.now) links.now) }
+    links: &StartLinks,
+) -> Result<(), AllocError>
+    requires numbers { HaveNumbers ids.now links.now }
+    requires slim { IsSlim shape (map (moved_link ids.now) links.now ++ L.links store.old) }
+    requires own_ids { HaveOwnIds (map (moved_link ids.now) links.now ++ L.links store.old) }
+    ensures added { OnOk result (Alike (map (moved_link ids.now) links.now ++ L.links store.old) (L.links store.new)) }
+    ensures some { OnErr result ((front back : List ALink) × (map (moved_link ids.now) links.now ≡ front ++ back) × Alike (front ++ L.links store.old) (L.links store.new)) }
 {
-    let mut moved = Vec::with_capacity(alloc, links.len())?;
-    for link in links {
-        moved.push(Link {
+    for number in 0..links.len() {
+        let Some(link) = links.get(number) else {
+            unreachable!()
+        };
+        store.add(Link {
             id: link.id,
             a: moved_spot(ids, link.a),
             b: moved_spot(ids, link.b),
         })?;
     }
-    Ok(moved)
+    Ok(())
 }
 
 /// Puts in the links that an event makes, between its two agents and its children, by place. At an error some of them may
@@ -57,19 +64,6 @@ pub(crate) fn add_made<L: LinkStore>(
             a: spot_of(pair, born, a),
             b: spot_of(pair, born, b),
         })?;
-    }
-    Ok(())
-}
-
-/// Puts in these links. At an error some of them may have been put in, from the first one on.
-pub(crate) fn add_all<L: LinkStore>(store: &mut L, links: &[Link]) -> Result<(), AllocError>
-    requires slim { IsSlim shape (links.now ++ L.links store.old) }
-    requires own_ids { HaveOwnIds (links.now ++ L.links store.old) }
-    ensures added { OnOk result (Alike (links.now ++ L.links store.old) (L.links store.new)) }
-    ensures some { OnErr result ((front back : List ALink) × (links.now ≡ front ++ back) × Alike (front ++ L.links store.old) (L.links store.new)) }
-{
-    for link in links {
-        store.add(*link)?;
     }
     Ok(())
 }

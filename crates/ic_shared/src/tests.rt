@@ -4,7 +4,7 @@ ghost use Rattle.std.specs.Prelude.{◌≡◌};
 use crate::{Opening, Pass, SettleFault, Shared, settle, share};
 use ic_journal::{Bench, Store};
 use ic_name::{EventId, Profile, Reply};
-use ic_start::Start;
+use ic_start::{Start, StartLinks, Texts};
 use std::alloc::{AllocError, Global};
 use std::marker::Brand;
 use std::sync::Wait;
@@ -16,8 +16,8 @@ const NOTHING: EventId = EventId { slot: 0, line: 0 };
 
 /// The start without agents.
 fn empty_start(alloc: Global, profile: Profile) -> Result<Start, AllocError> {
-    let (kinds, links, names) = (Vec::new(alloc), Vec::new(alloc), Vec::new(alloc));
-    Start::make(alloc, kinds, links, names, profile)
+    let (links, names) = (StartLinks::new(alloc), Texts::new(alloc));
+    Start::make(alloc, Vec::new(alloc), links, names, profile)
 }
 
 /// A bench with one line in its history: an undo that was refused.

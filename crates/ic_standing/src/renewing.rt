@@ -1,9 +1,10 @@
-ghost use Rattle.std.specs.Prelude.{◌≡◌, ◌≤◌, length, IfOk};
+ghost use Rattle.std.specs.Prelude.{◌≡◌, ◌+◌, ◌≤◌, [], length, IfOk};
 ghost use Rattle.ic_path.specs.Orders.{IsIn};
 ghost use Rattle.ic_queue.specs.Queues.{IsHeap};
 ghost use Rattle.ic_set.specs.declared.pairs.ActivePair.{ActivePair as APair};
 ghost use Rattle.ic_set.specs.Pairs.{IsActivePair};
 ghost use Rattle.ic_set.specs.Queues.{HasLeads};
+ghost use Rattle.ic_standing.specs.Fronts.{LeadNone};
 
 use crate::queue::put_all;
 use ic_link::LinkStore;
@@ -63,6 +64,7 @@ fn without_fired<L: LinkStore>(
     requires each { HasLeads set.now queue.now.leads }
     ensures heap { IfOk result (λ fresh. IsHeap set.now.names fresh.leads) }
     ensures each { IfOk result (λ fresh. HasLeads set.now fresh.leads) }
+    ensures unled { IfOk result (λ fresh. LeadNone set.now fresh.leads) }
     ensures room { IfOk result (λ fresh. length set.now.names ≤ fresh.room) }
 {
     let roster = set.roster();
@@ -77,8 +79,9 @@ fn without_fired<L: LinkStore>(
 
 /// A queue without leads, with room for each name that is known and for those of the children of one event more.
 fn empty_queue<L: LinkStore>(alloc: Global, set: &BareSet<L>) -> Result<LeadQueue, AllocError>
+    ensures empty { IfOk result (λ queue. queue.leads ≡ []) }
     ensures heap { IfOk result (λ queue. IsHeap set.now.names queue.leads) }
-    ensures room { IfOk result (λ queue. length set.now.names ≤ queue.room) }
+    ensures room { IfOk result (λ queue. length set.now.names + MAX_CHILDREN ≤ queue.room) }
 {
     set.lawful();
     let mut queue = LeadQueue::new(alloc);

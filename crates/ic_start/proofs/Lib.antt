@@ -1,4 +1,5 @@
 pub mod Decisions
-pub mod SameImages
 pub mod StartSpots
+pub mod LinkFacts
+pub mod TextFacts
 pub mod SameStarts

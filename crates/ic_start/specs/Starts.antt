@@ -17,10 +17,6 @@ abbrev pub port_at : Spot → Port
 port_at (spot.Agent a i) = port.Of (start_name a.slot) i
 port_at (spot.Name j) = port.Name j
 
--- the two ends of a link
-abbrev pub ends_of : Link → Spot × Spot
-ends_of l = (l.a, l.b)
-
 -- the two ports of a link
 abbrev pub join_of : Link → Port × Port
 join_of l = (port_at l.a, port_at l.b)

@@ -1,32 +1,125 @@
-ghost use Rattle.std.specs.Prelude.{◌≡◌, ◌↔◌, IsTrue, map};
-ghost use Rattle.ic_start.specs.Starts.{ends_of};
+ghost use Rattle.std.specs.Prelude.{◌≡◌, ◌≤◌, ◌<◌, ◌^◌, ◌++◌, ◌∷◌, ◌↔◌, [], length, slice_get, IsTrue, OnOk, OnErr};
+ghost use Rattle.ic_start.specs.Links.{spot_of, link_of, AreNumbered};
 
-use ic_name::Link;
+use ic_name::{AgentId, Link, LinkId, MakerId, Spot};
+use std::alloc::{AllocError, Global};
+use std::marker::Model;
+use std::mem::size_of;
 
-/// Whether two links have the same ends.
-fn same_ends(left: &Link, right: &Link) -> bool
-    ensures { IsTrue result ↔ (ends_of left.now ≡ ends_of right.now) }
-{
-    left.a == right.a && left.b == right.b
+/// An end of a link of a start: a port of the agent with this number, or the name with this one.
+#[derive(Clone, Copy, Debug, PartialEq, Eq)]
+pub enum End {
+    Agent { port: u8, number: u32 },
+    Name(u32),
 }
 
-/// Whether two lists of links have the same ends, place by place.
-pub(crate) fn same_links(left: &[Link], right: &[Link]) -> bool
-    ensures { IsTrue result ↔ (map ends_of left.now ≡ map ends_of right.now) }
-{
-    left.len() == right.len() && left.iter().zip(right.iter()).all(|(a, b)| same_ends(a, b))
+impl End {
+    /// The spot that the end is: the agent's slot is its number.
+    fn spot(self) -> Spot
+        ensures { result ≡ spot_of self }
+    {
+        match self {
+            End::Agent { port, number } => Spot::Agent(
+                AgentId {
+                    slot: number,
+                    serial: 0,
+                },
+                port,
+            ),
+            End::Name(number) => Spot::Name(number),
+        }
+    }
 }
 
-/// Whether two texts are one.
-fn same_text(left: &[u8], right: &[u8]) -> bool
-    ensures { IsTrue result ↔ (left.now ≡ right.now) }
-{
-    left.len() == right.len() && left.iter().zip(right.iter()).all(|(a, b)| *a == *b)
+/// The two ends of a link of a start.
+#[derive(Clone, Copy, PartialEq, Eq)]
+struct Ends {
+    a: End,
+    b: End,
 }
 
-/// Whether two lists of texts are one.
-pub(crate) fn same_texts(left: &[Vec<u8>], right: &[Vec<u8>]) -> bool
-    ensures { IsTrue result ↔ (map (λ t. t.items) left.now ≡ map (λ t. t.items) right.now) }
-{
-    left.len() == right.len() && left.iter().zip(right.iter()).all(|(a, b)| same_text(a, b))
+// A third of what a link takes, whose number is its place.
+const _: () = prove!(3 * size_of::<Ends>() == size_of::<Link>());
+
+/// The links of a start, numbered by place. Each is kept by its ends alone.
+#[derive(Drop)]
+pub struct StartLinks {
+    ends: Vec<Ends>,
+}
+
+impl Model for StartLinks {
+    ghost use Rattle.std.specs.Prelude.{◌≤◌, ◌^◌, List, length};
+    ghost use Rattle.ic_name.specs.declared.ids.Link.{Link};
+    ghost use Rattle.ic_start.specs.Links.{links_from};
+
+    ghost Value = { List Link };
+
+    ghost view = { λ l. links_from 0 l.ends.items };
+
+    ghost invariant = { λ l. length l.ends.items ≤ 2 ^ 32 };
+}
+
+impl StartLinks {
+    /// No links. It takes no memory yet.
+    pub fn new(alloc: Global) -> StartLinks
+        ensures { result ≡ [] }
+    {
+        StartLinks {
+            ends: Vec::new(alloc),
+        }
+    }
+
+    /// What holds of the links of every start, for whoever has to show it.
+    pub fn lawful(&self)
+        ensures numbered { AreNumbered 0 self.now }
+        ensures few { length self.now ≤ 2 ^ 32 }
+    {
+        let _ = &self.ends;
+    }
+
+    /// One link more, between these ends. At an error memory ran out, and nothing changes.
+    pub fn push(&mut self, a: End, b: End) -> Result<(), AllocError>
+        requires { length self.old < 2 ^ 32 }
+        ensures link { OnOk result (self.new ≡ self.old ++ link_of (length self.old) a b ∷ []) }
+        ensures error { OnErr result (self.new ≡ self.old) }
+    {
+        self.ends.push(Ends { a, b })?;
+        Ok(())
+    }
+
+    /// Gives back the memory that no link needs.
+    pub fn shrink_to_fit(&mut self)
+        ensures { self.new ≡ self.old }
+    {
+        self.ends.shrink_to_fit();
+    }
+
+    /// The number of links.
+    pub fn len(&self) -> usize
+        ensures { result ≡ length self.now }
+    {
+        self.ends.len()
+    }
+
+    /// The link with this number, where there is one.
+    pub fn get(&self, number: usize) -> Option<Link>
+        ensures { result ≡ slice_get self.now number }
+    {
+        let ends = self.ends.get(number)?;
+        Some(Link {
+            id: LinkId {
+                maker: MakerId::Start,
+                place: number as u32,
+            },
+            a: ends.a.spot(),
+            b: ends.b.spot(),
+        })
+    }
+
+    /// Whether these links are those. It takes no memory.
+    pub fn same(&self, other: &StartLinks) -> bool
+        ensures { IsTrue result ↔ (self.now ≡ other.now) }
+    {
+        self.ends == other.ends
+    }
 }

@@ -2,9 +2,10 @@ ghost use Rattle.std.specs.Prelude.{◌≡◌, ◌↔◌, ◌≤◌, ◌<◌, �
 ghost use Rattle.ic_theory.specs.Starts.{IsProper};
 ghost use Rattle.ic_start.specs.Starts.{IsStart, AreStartLinks, start_of, join_of};
 
-use crate::links::{same_links, same_texts};
+use crate::links::StartLinks;
+use crate::texts::Texts;
 use ic_name::limits::MAX_START_AGENTS;
-use ic_name::{Kind, Link, Profile};
+use ic_name::{Kind, Profile};
 use std::alloc::{AllocError, Global};
 use std::marker::Model;
 use std::sync::Arc;
@@ -22,8 +23,8 @@ pub struct Start {
 #[derive(Drop)]
 struct Parts {
     kinds: Vec<Kind>,
-    links: Vec<Link>,
-    names: Vec<Vec<u8>>,
+    links: StartLinks,
+    names: Texts,
     profile: Profile,
 }
 
@@ -36,9 +37,9 @@ impl Model for Start {
 
     ghost use Rattle.ic_start.specs.Starts.{IsStart, start_of};
 
-    ghost view = { λ s. let parts = arc_value s.parts in start_of parts.kinds.items parts.links.items (map (λ t. t.items) parts.names.items) parts.profile };
+    ghost view = { λ s. let parts = arc_value s.parts in start_of parts.kinds.items parts.links parts.names parts.profile };
 
-    ghost invariant = { λ s. let parts = arc_value s.parts in IsStart parts.kinds.items parts.links.items (map (λ t. t.items) parts.names.items) parts.profile };
+    ghost invariant = { λ s. let parts = arc_value s.parts in IsStart parts.kinds.items parts.links parts.names parts.profile };
 }
 
 impl Start {
@@ -46,12 +47,12 @@ impl Start {
     pub fn make(
         alloc: Global,
         kinds: Vec<Kind>,
-        links: Vec<Link>,
-        names: Vec<Vec<u8>>,
+        links: StartLinks,
+        names: Texts,
         profile: Profile,
     ) -> Result<Start, AllocError>
-        requires { IsStart kinds.items links.items (map (λ t. t.items) names.items) profile }
-        ensures { IfOk result (λ start. start ≡ start_of kinds.items links.items (map (λ t. t.items) names.items) profile) }
+        requires { IsStart kinds.items links names profile }
+        ensures { IfOk result (λ start. start ≡ start_of kinds.items links names profile) }
     {
         let parts = Parts {
             kinds,
@@ -78,8 +79,8 @@ impl Start {
     {
         let (left, right) = (&*self.parts, &*other.parts);
         left.kinds == right.kinds
-            && same_links(&left.links, &right.links)
-            && same_texts(&left.names, &right.names)
+            && left.links.same(&right.links)
+            && left.names.same(&right.names)
             && left.profile == right.profile
     }
 
@@ -114,7 +115,7 @@ impl Start {
     }
 
     /// The links, by place.
-    pub fn links(&self) -> &[Link]
+    pub fn links(&self) -> &StartLinks
         ensures joins { map join_of result.now ≡ self.now.joins }
         ensures placed { AreStartLinks (length self.now.kinds) (length self.now.names) 0 result.now }
     {
@@ -122,8 +123,8 @@ impl Start {
     }
 
     /// The texts of the names, by number.
-    pub fn names(&self) -> &[Vec<u8>]
-        ensures { map (λ t. t.items) result.now ≡ self.now.names }
+    pub fn names(&self) -> &Texts
+        ensures { result.now ≡ self.now.names }
     {
         &self.parts.names
     }

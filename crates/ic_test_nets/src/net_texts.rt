@@ -1,5 +1,4 @@
-use crate::starts::{link, port};
-use ic_name::{Kind, Link, Profile, Spot};
+use ic_name::{AgentId, Kind, Link, LinkId, MakerId, Profile, Spot};
 use ic_start::Start;
 use ic_text::{Refusal, TextFault, read_net};
 use std::alloc::{AllocError, Global};
@@ -130,29 +129,47 @@ fn two_agents_that_meet(rt: HostRuntime) -> Result<(), TextFault> {
     Ok(())
 }
 
-/// The links of two agents that meet.
-fn links_of_two() -> [Link; 5] {
+/// A port of an agent of a start.
+fn port(slot: u32, port: u8) -> Spot {
+    Spot::Agent(AgentId { slot, serial: 0 }, port)
+}
+
+/// The ends of the links of two agents that meet, by place.
+fn ends_of_two() -> [(Spot, Spot); 5] {
     [
-        link(0, port(0, 1), Spot::Name(0)),
-        link(1, port(0, 2), Spot::Name(1)),
-        link(2, port(0, 0), port(1, 0)),
-        link(3, port(1, 1), port(2, 0)),
-        link(4, port(1, 2), Spot::Name(0)),
+        (port(0, 1), Spot::Name(0)),
+        (port(0, 2), Spot::Name(1)),
+        (port(0, 0), port(1, 0)),
+        (port(1, 1), port(2, 0)),
+        (port(1, 2), Spot::Name(0)),
     ]
+}
+
+/// Whether the links of a start are those with these ends, by place.
+fn has_links(start: &Start, ends: &[(Spot, Spot); 5]) -> bool {
+    for place in 0..ends.len() {
+        let (a, b) = ends[place];
+        let id = LinkId {
+            maker: MakerId::Start,
+            place: place as u32,
+        };
+        if start.links().get(place) != Some(Link { id, a, b }) {
+            return false;
+        }
+    }
+    start.links().get(ends.len()).is_none()
 }
 
 /// Whether a start has these two names.
 fn has_names(start: &Start, first: &[u8], second: &[u8]) -> bool {
-    match start.names() {
-        [one, two] => one.as_slice() == first && two.as_slice() == second,
-        _ => false,
-    }
+    let names = start.names();
+    names.len() == 2 && names.get(0) == Some(first) && names.get(1) == Some(second)
 }
 
 #[test]
 fn two_agents_that_meet_have_links(rt: HostRuntime) -> Result<(), TextFault> {
     let start = two_that_meet(rt.alloc())?;
-    assert!(rt; start.links() == links_of_two().as_slice());
+    assert!(rt; has_links(&start, &ends_of_two()));
     assert!(rt; has_names(&start, b"x", b"a"));
     assert_eq!(rt; start.profile(), Profile::Classic);
     Ok(())

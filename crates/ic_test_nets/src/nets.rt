@@ -6,7 +6,7 @@ use std::test::Fail;
 
 /// The net of the start of two agents.
 fn two_agents_net(alloc: Global) -> Option<Net> {
-    let start = two_agents(alloc).ok()?;
+    let start = two_agents(alloc)?;
     Net::of_start(alloc, &start).ok()
 }
 

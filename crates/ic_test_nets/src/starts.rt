@@ -1,59 +1,28 @@
-ghost use Rattle.std.specs.Prelude.{◌≡◌, [], ◌∷◌, map, IfOk};
-ghost use Rattle.ic_name.specs.declared.ids.Spot.TheVariants as spots;
-ghost use Rattle.ic_name.specs.declared.ids.MakerId.TheVariants as maker;
-
-use ic_name::{AgentId, Kind, Link, LinkId, MakerId, Profile, RuleEnd, Spot};
+use ic_name::{Kind, Profile, RuleEnd};
 use ic_start::{Start, outcome};
-use std::alloc::{AllocError, Global};
+use ic_text::read_net;
+use std::alloc::Global;
 use std::test::Fail;
 
-pub(crate) fn port(slot: u32, port: u8) -> Spot
-    ensures { result ≡ spots.Agent (record { slot = slot; serial = 0 }) port }
-{
-    Spot::Agent(AgentId { slot, serial: 0 }, port)
-}
+/// The start of `G(x,a) = D(x,b);`, where gammas are wired straight.
+const TWO_AGENTS: &[u8] = b"@straight; G(x,a) = D(x,b);";
 
-pub(crate) fn link(place: u32, a: Spot, b: Spot) -> Link
-    ensures { result ≡ record { id = record { maker = maker.Start; place = place }; a = a; b = b } }
-{
-    Link {
-        id: LinkId {
-            maker: MakerId::Start,
-            place,
-        },
-        a,
-        b,
-    }
-}
+/// Texts of other starts: each has another profile, agent, link or name.
+const OTHERS: [&[u8]; 4] = [
+    b"G(x,a) = D(x,b);",
+    b"@straight; D(x,a) = D(x,b);",
+    b"@straight; G(x,a) = D(b,x);",
+    b"@straight; G(x,a) = D(x,c);",
+];
 
-/// The names `x`, `a` and `b`.
-fn three_names(alloc: Global) -> Result<Vec<Vec<u8>>, AllocError>
-    ensures { IfOk result (λ names. map (λ t. t.items) names.items ≡ (120 ∷ []) ∷ (97 ∷ []) ∷ (98 ∷ []) ∷ []) }
-{
-    let mut names = Vec::new(alloc);
-    names.push(vec![in alloc; b'x']?)?;
-    names.push(vec![in alloc; b'a']?)?;
-    names.push(vec![in alloc; b'b']?)?;
-    Ok(names)
-}
-
-/// The start of `G(x,a) = D(x,b);`, its links in order of the first bytes of their terms.
-pub(crate) fn two_agents(alloc: Global) -> Result<Start, AllocError> {
-    let names = three_names(alloc)?;
-    let kinds = vec![in alloc; Kind::Gamma, Kind::Delta]?;
-    let links = vec![in alloc;
-        link(0, port(0, 1), Spot::Name(0)),
-        link(1, port(0, 2), Spot::Name(1)),
-        link(2, port(0, 0), port(1, 0)),
-        link(3, port(1, 1), Spot::Name(0)),
-        link(4, port(1, 2), Spot::Name(2)),
-    ]?;
-    Start::make(alloc, kinds, links, names, Profile::Straight)
+/// The start of the first text.
+pub(crate) fn two_agents(alloc: Global) -> Option<Start> {
+    read_net(alloc, TWO_AGENTS).ok()
 }
 
 #[test]
 fn a_start_shows_its_agents(rt: HostRuntime) -> Result<(), Fail> {
-    let start = two_agents(rt.alloc())?;
+    let start = two_agents(rt.alloc()).ok_or("a start")?;
     start.lawful();
     assert_eq!(rt; start.agents(), 2);
     assert_eq!(rt; start.kinds(), [Kind::Gamma, Kind::Delta].as_slice());
@@ -62,7 +31,7 @@ fn a_start_shows_its_agents(rt: HostRuntime) -> Result<(), Fail> {
 
 #[test]
 fn a_start_shows_the_kind_of_an_agent(rt: HostRuntime) -> Result<(), Fail> {
-    let start = two_agents(rt.alloc())?;
+    let start = two_agents(rt.alloc()).ok_or("a start")?;
     assert_eq!(rt; start.kind(1), Some(Kind::Delta));
     assert_eq!(rt; start.kind(2), None);
     Ok(())
@@ -70,31 +39,35 @@ fn a_start_shows_the_kind_of_an_agent(rt: HostRuntime) -> Result<(), Fail> {
 
 /// Whether this is the last name of a start.
 fn is_last_name(start: &Start, text: &[u8]) -> bool {
-    match start.names().last() {
-        Some(name) => name.as_slice() == text,
+    let names = start.names();
+    match names.len().checked_sub(1) {
+        Some(last) => names.get(last) == Some(text),
         None => false,
     }
 }
 
 #[test]
 fn a_start_shows_its_links_and_names(rt: HostRuntime) -> Result<(), Fail> {
-    let start = two_agents(rt.alloc())?;
+    let start = two_agents(rt.alloc()).ok_or("a start")?;
     assert_eq!(rt; start.links().len(), 5);
     assert_eq!(rt; start.profile(), Profile::Straight);
     assert!(rt; is_last_name(&start, b"b"));
     Ok(())
 }
 
-/// Whether a start made twice is the same.
-fn is_the_same_again(alloc: Global) -> Result<bool, AllocError> {
+/// Whether the start of a text is that of the first one.
+fn is_the_same(alloc: Global, text: &[u8]) -> Option<bool> {
     let start = two_agents(alloc)?;
-    let again = two_agents(alloc)?;
-    Ok(start.same(&again))
+    let other = read_net(alloc, text).ok()?;
+    Some(start.same(&other))
 }
 
 #[test]
-fn a_start_made_twice_is_the_same(rt: HostRuntime) {
-    assert_eq!(rt; is_the_same_again(rt.alloc()), Ok(true));
+fn a_start_read_twice_is_the_same_and_no_other_is(rt: HostRuntime) {
+    assert_eq!(rt; is_the_same(rt.alloc(), TWO_AGENTS), Some(true));
+    for other in OTHERS {
+        assert_eq!(rt; is_the_same(rt.alloc(), other), Some(false));
+    }
 }
 
 #[test]

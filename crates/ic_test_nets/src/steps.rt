@@ -1,10 +1,9 @@
-ghost use Rattle.std.specs.Prelude.{◌≡◌, [], ◌∷◌, map, IfOk};
-
 use crate::nets::is_of_kind;
-use crate::starts::{link, port, two_agents};
-use ic_name::{AgentName, Event, Port, Spot};
+use crate::starts::two_agents;
+use ic_name::{AgentName, Event, Port};
 use ic_net::{Kind, Net, Profile, Start, StepFault};
-use std::alloc::{AllocError, Global};
+use ic_text::read_net;
+use std::alloc::Global;
 use std::test::Fail;
 
 /// The event of the first two start agents, of these kinds.
@@ -31,7 +30,7 @@ fn stepped(alloc: Global, start: &Start, lead: Kind, other: Kind) -> Option<Net>
 
 /// The net of a gamma and a delta after they met.
 fn passed(alloc: Global) -> Option<Net> {
-    let start = two_agents(alloc).ok()?;
+    let start = two_agents(alloc)?;
     stepped(alloc, &start, Kind::Gamma, Kind::Delta)
 }
 
@@ -91,7 +90,7 @@ fn a_step_wires_up_its_children(rt: HostRuntime) -> Result<(), Fail> {
 
 /// What is wrong with the step of two agents as epsilons, if the net stays as it was.
 fn refused_step(alloc: Global) -> Option<StepFault> {
-    let start = two_agents(alloc).ok()?;
+    let start = two_agents(alloc)?;
     let mut net = Net::of_start(alloc, &start).ok()?;
     let fault = step(alloc, &mut net, Kind::Eps, Kind::Eps)?.err()?;
     let again = Net::of_start(alloc, &start).ok()?;
@@ -104,33 +103,14 @@ fn agents_of_other_kinds_make_no_step(rt: HostRuntime) {
     assert_eq!(rt; StepFault::NotActive.number(), 21);
 }
 
-/// The names `x` and `y`.
-fn two_names(alloc: Global) -> Result<Vec<Vec<u8>>, AllocError>
-    ensures { IfOk result (λ names. map (λ t. t.items) names.items ≡ (120 ∷ []) ∷ (121 ∷ []) ∷ []) }
-{
-    let mut names = Vec::new(alloc);
-    names.push(vec![in alloc; b'x']?)?;
-    names.push(vec![in alloc; b'y']?)?;
-    Ok(names)
-}
-
-/// The start of `G(x,y) = G(x,y);`.
-fn two_gammas(alloc: Global) -> Result<Start, AllocError> {
-    let names = two_names(alloc)?;
-    let kinds = vec![in alloc; Kind::Gamma, Kind::Gamma]?;
-    let links = vec![in alloc;
-        link(0, port(0, 1), Spot::Name(0)),
-        link(1, port(0, 2), Spot::Name(1)),
-        link(2, port(0, 0), port(1, 0)),
-        link(3, port(1, 1), Spot::Name(0)),
-        link(4, port(1, 2), Spot::Name(1)),
-    ]?;
-    Start::make(alloc, kinds, links, names, Profile::Straight)
+/// The start of `G(x,y) = G(x,y);`, where gammas are wired straight.
+fn two_gammas(alloc: Global) -> Option<Start> {
+    read_net(alloc, b"@straight; G(x,y) = G(x,y);").ok()
 }
 
 /// The net of two gammas after they met.
 fn annihilated(alloc: Global) -> Option<Net> {
-    let start = two_gammas(alloc).ok()?;
+    let start = two_gammas(alloc)?;
     stepped(alloc, &start, Kind::Gamma, Kind::Gamma)
 }
 

@@ -5,6 +5,7 @@ use Rattle.std.proofs.lemmas.Bool.{eqb-true}
 use Rattle.std.proofs.lemmas.Bool.Decides.{nat_tests}
 use Rattle.ic_name.specs.declared.ids.Link.{Link}
 use Rattle.ic_theory.specs.Starts.{Start}
+use Rattle.ic_start.specs.Links.{AreNumbered}
 use Rattle.ic_start.specs.Starts.{join_of, IsStart, start_of}
 use Rattle.ic_grammar.specs.declared.limits.TheConstants.{MAX_TEXT, MAX_FREE_NAMES}
 use Rattle.ic_grammar.specs.Tokens.{items, between}
@@ -12,7 +13,6 @@ use Rattle.ic_grammar.proofs.Proper.{proper}
 use Rattle.ic_text.specs.declared.builder.Frame.{Frame}
 use Rattle.ic_text.specs.Sides.{Side}
 use Rattle.ic_text.specs.Names.{Entry, is_free, is_reserved_free}
-use Rattle.ic_text.specs.Links.{AreOfStart}
 use Rattle.ic_text.specs.Table.{first_of}
 use Rattle.ic_text.specs.Reading.{State, initial, run, is_at_rest, finish, IsWithin}
 use Rattle.ic_text.proofs.StartLinks.{are_start_links}
@@ -47,14 +47,14 @@ finishes len s links names rest none few joins texts =
 
 -- the parts of that start are those of one
 pub makes_start : (text : List ℕ) (s : State) (links : List Link) (names : List (List ℕ)) → run initial (items between 0 text) ≡ Ok s → IsWithin s (length text) → length text ≤ MAX_TEXT
-    → finish (length text) s ≡ Ok (start_of s.kinds links names s.profile) → AreOfStart 0 links → names ≡ map (λ n. n.text) s.seen
+    → finish (length text) s ≡ Ok (start_of s.kinds links names s.profile) → AreNumbered 0 links → names ≡ map (λ n. n.text) s.seen
     → IsStart s.kinds links names s.profile
-makes_start text s links names read within short end of_start texts =
+makes_start text s links names read within short end numbered texts =
     let d = sound_tokens (items between 0 text) s (length text) (start_of s.kinds links names s.profile) read end in
     let p = proper text (start_of s.kinds links names s.profile) (record { profile = d.profile; equations = d.equations; grammar = d.grammar; allowed = d.allowed; start = d.start }) in
     record {
       few_agents = within.agents;
       few_names = omega (arith, ap length texts, length_texts s.seen, within.names, short);
-      placed = are_start_links s.kinds links names s.profile of_start p;
+      placed = are_start_links s.kinds links names s.profile numbered p;
       proper = p;
     }

@@ -2,6 +2,7 @@ pub mod Lexing
 pub mod Table
 pub mod NameSlots
 pub mod StartLinks
+pub mod LinkPorts
 pub mod Steps
 pub mod Pending
 pub mod Sound

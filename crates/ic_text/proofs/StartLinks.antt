@@ -1,5 +1,5 @@
--- Links that the start made: one more, and that they are links of a proper start.
-use Rattle.std.proofs.Common.{◌≡◌, ℕ, ◌+◌, ◌≤◌, ◌<◌, ◌&&◌, Bool, true, false, List, [], ◌∷◌, ◌++◌, length, map, None, refl, sym, ap, ◌∙◌, arith, leb, inl, inr}
+-- Links that the start made are links of a proper start.
+use Rattle.std.proofs.Common.{◌≡◌, ℕ, ◌+◌, ◌≤◌, ◌<◌, ◌&&◌, Bool, true, false, List, [], ◌∷◌, length, map, None, refl, ap, arith, leb, inl, inr}
 use Rattle.std.proofs.lemmas.Bool.{cases_lt, and_parts}
 use Rattle.std.proofs.lemmas.Bool.Decides.{nat_tests}
 use Rattle.ic_name.specs.Names.{Name, start_name}
@@ -11,33 +11,14 @@ use Rattle.ic_name.specs.declared.kinds.Kind.TheVariants.{Gamma, Delta, Eps}
 use Rattle.ic_name.specs.declared.rules.Profile.{Profile}
 use Rattle.ic_name.specs.declared.ids.Spot.{Spot}
 use Rattle.ic_name.specs.declared.ids.Spot.TheVariants as spots
-use Rattle.ic_name.specs.declared.ids.MakerId.TheVariants as makers
 use Rattle.ic_name.specs.declared.ids.Link.{Link}
-use Rattle.ic_name.specs.declared.ids.LinkId.{LinkId}
 use Rattle.ic_name.specs.declared.ports.Port.{Port}
 use Rattle.ic_path.specs.Links.{degree}
 use Rattle.ic_theory.specs.Born.{named}
 use Rattle.ic_theory.specs.Starts.{Start, IsProper, net_shape, start_links, port_times}
+use Rattle.ic_start.specs.Links.{IsOfStart, AreNumbered}
 use Rattle.ic_start.specs.Starts.{port_at, join_of, IsStartSpot, AreStartLinks, start_of}
 use Rattle.ic_grammar.proofs.LinkEnds.{hit, ends, degree_is}
-use Rattle.ic_text.specs.Links.{IsOfStart, AreOfStart}
-
--- equal places
-place_is : (m n : ℕ) → m ≡ n → ◌≡◌ {A = LinkId} (record { maker = makers.Start; place = n }) (record { maker = makers.Start; place = m })
-place_is m n e = λ i. record { maker = makers.Start; place = (sym e) i }
-
--- one link more, behind others
-one_more : (k : ℕ) (ls : List Link) (l : Link) → AreOfStart k ls → l.id ≡ record { maker = makers.Start; place = k + length ls } → IsOfStart l.a → IsOfStart l.b → AreOfStart k (ls ++ l ∷ [])
-one_more k [] l h e a b = (e ∙ place_is k (k + 0) (omega arith), a, b, tt)
-one_more k (x ∷ xs) l h e a b =
-    (h.0, h.1, h.2, one_more (k + 1) xs l h.3 (e ∙ place_is ((k + 1) + length xs) (k + length (x ∷ xs)) (omega arith)) a b)
-
--- one link more, with the next place
-pub of_start_more : (ls : List Link) (n : ℕ) (a b : Spot) → AreOfStart 0 ls → n ≡ length ls → IsOfStart a → IsOfStart b
-    → AreOfStart 0 (ls ++ record { id = record { maker = makers.Start; place = n }; a = a; b = b } ∷ [])
-of_start_more ls n a b h e p q =
-    let z : n ≡ 0 + length ls = omega (arith, e) in
-    one_more 0 ls (record { id = record { maker = makers.Start; place = n }; a = a; b = b }) h (λ i. record { maker = makers.Start; place = z i }) p q
 
 -- no symbol has more than three ports
 few_ports : (k : Kind) → arity k ≤ 2
@@ -78,7 +59,7 @@ hit_self : (p : Port) → hit p p ≡ 1
 hit_self p = rw (same_port_self p) refl
 
 -- links whose ends are among those of the start
-links_are_in : (s : Start) → IsProper s → (k : ℕ) (ls : List Link) → AreOfStart k ls → ((p : Port) → ends p (map join_of ls) ≤ degree net_shape (start_links s) p)
+links_are_in : (s : Start) → IsProper s → (k : ℕ) (ls : List Link) → AreNumbered k ls → ((p : Port) → ends p (map join_of ls) ≤ degree net_shape (start_links s) p)
     → AreStartLinks (length s.kinds) (length s.names) k ls
 links_are_in s proper k [] h few = tt
 links_are_in s proper k (l ∷ ls) h few = (
@@ -89,6 +70,6 @@ links_are_in s proper k (l ∷ ls) h few = (
 )
 
 -- links that the start made, which make it proper, are links of a start
-pub are_start_links : (kinds : List Kind) (links : List Link) (names : List (List ℕ)) (profile : Profile) → AreOfStart 0 links → IsProper (start_of kinds links names profile) → AreStartLinks (length kinds) (length names) 0 links
+pub are_start_links : (kinds : List Kind) (links : List Link) (names : List (List ℕ)) (profile : Profile) → AreNumbered 0 links → IsProper (start_of kinds links names profile) → AreStartLinks (length kinds) (length names) 0 links
 are_start_links kinds links names profile h proper =
     links_are_in (start_of kinds links names profile) proper 0 links h (λ p. omega (arith, degree_is None 0 (map join_of links) p))

@@ -7,13 +7,13 @@ ghost use Rattle.ic_text.specs.Views.{token_of, side_of, state_of, GoesOn};
 
 use crate::fault::TextFault;
 use crate::lexer::Lexeme;
-use crate::links::{End, Links};
+use crate::links::Links;
 use crate::names::Names;
 use ic_grammar::Refusal;
 use ic_grammar::limits::{MAX_FREE_NAMES, MAX_NAME, MAX_NESTING};
 use ic_name::limits::MAX_START_AGENTS;
 use ic_name::{Kind, Profile};
-use ic_start::Start;
+use ic_start::{End, Start};
 use std::alloc::{AllocError, Global};
 
 /// What comes next in the parentheses of a symbol.
@@ -92,7 +92,13 @@ impl<'a> Builder<'a> {
             },
             Some(Frame { agent, phase }) => match phase {
                 Phase::First => {
-                    self.links.push(End::Agent(agent, 1), root)?;
+                    self.links.push(
+                        End::Agent {
+                            port: 1,
+                            number: agent,
+                        },
+                        root,
+                    )?;
                     self.stack.push(Frame {
                         agent,
                         phase: Phase::Comma,
@@ -100,7 +106,13 @@ impl<'a> Builder<'a> {
                     Ok(true)
                 }
                 Phase::Second => {
-                    self.links.push(End::Agent(agent, 2), root)?;
+                    self.links.push(
+                        End::Agent {
+                            port: 2,
+                            number: agent,
+                        },
+                        root,
+                    )?;
                     self.stack.push(Frame {
                         agent,
                         phase: Phase::Closing,
@@ -161,7 +173,10 @@ impl<'a> Builder<'a> {
         let depth = self.stack.len();
         let agent = number as u32;
         self.kinds.push(kind)?;
-        if !self.put(End::Agent(agent, 0))? {
+        if !self.put(End::Agent {
+            port: 0,
+            number: agent,
+        })? {
             return Err(TextFault::Refused(Refusal::Syntax(at)));
         }
         if number >= MAX_START_AGENTS {
@@ -263,7 +278,8 @@ impl<'a> Builder<'a> {
             return Err(TextFault::Refused(Refusal::TooManyFree));
         }
         let names = self.names.texts(alloc)?;
-        let links = self.links.into_vec();
+        let links = self.links.into_start();
+        links.lawful();
         Ok(Start::make(alloc, self.kinds, links, names, self.profile)?)
     }
 }

@@ -6,6 +6,7 @@ ghost use Rattle.ic_text.specs.Table.{first_of};
 use crate::name_slots::{keep, look_up, slot_for, slots_for};
 use crate::seen::{Occurrence, Seen};
 use ic_slots::SlotIndex;
+use ic_start::Texts;
 use std::alloc::{AllocError, Global};
 use std::collections::BTreeMap;
 use std::marker::Model;
@@ -95,10 +96,10 @@ impl<'a> Names<'a> {
         first_reserved(&self.seen)
     }
 
-    /// The texts of the names by number.
+    /// The texts of the names by number, in no more memory than they need.
     #[tactic(auto, using(crate::proofs::Table::texts_are))]
-    pub fn texts(&self, alloc: Global) -> Result<Vec<Vec<u8>>, AllocError>
-        ensures { IfOk result (λ v. map (λ t. t.items) v.items ≡ map (λ n. n.text) self.now) }
+    pub fn texts(&self, alloc: Global) -> Result<Texts, AllocError>
+        ensures { IfOk result (λ texts. texts ≡ map (λ n. n.text) self.now) }
     {
         texts_of(alloc, &self.seen)
     }
@@ -114,13 +115,14 @@ fn first_reserved(seen: &[Seen<'_>]) -> Option<usize>
 }
 
 /// Copies of the names' bytes.
-fn texts_of(alloc: Global, seen: &[Seen<'_>]) -> Result<Vec<Vec<u8>>, AllocError>
-    ensures { IfOk result (λ v. map (λ t. t.items) v.items ≡ map (λ n. n.text.now) seen.now) }
+fn texts_of(alloc: Global, seen: &[Seen<'_>]) -> Result<Texts, AllocError>
+    ensures { IfOk result (λ texts. texts ≡ map (λ n. n.text.now) seen.now) }
 {
-    let mut texts = Vec::new(alloc);
+    let mut texts = Texts::new(alloc);
     for n in seen {
-        texts.push(Vec::from_slice(alloc, n.text)?)?;
+        texts.push(n.text)?;
     }
+    texts.shrink_to_fit();
     Ok(texts)
 }
 

@@ -1,9 +1,8 @@
 -- Workers with their seats and passes.
-use Rattle.std.specs.Prelude.{◌≡◌, ◌≢◌, ◌+◌, ◌≤◌, ℕ, List, [], length, Option, Some, None, All}
+use Rattle.std.specs.Prelude.{◌≡◌, ◌≢◌, ◌+◌, ◌≤◌, ℕ, List, [], length, None, All}
 use Rattle.atomic_table.specs.Seated.{TableId}
 use Rattle.ic_claim.specs.Seats.{SeatValue}
 use Rattle.ic_shared.specs.Passes.{PassView, added_by, added_by_all}
-use Rattle.ic_name.specs.declared.ids.AgentId.{AgentId}
 
 -- all that the caller of a pass added it added by runs of firings
 abbrev pub AreFires : PassView → Type 0
@@ -20,11 +19,6 @@ pub record Keeps (old new : SeatValue) : Type 0 where
   pub number : new.view.number ≡ old.view.number
   pub budget : new.view.budget ≡ old.view.budget
   pub tickets : new.view.tickets ≡ old.view.tickets
-
--- a word is held for the hint in hand, and none without a hint
-abbrev pub Grips : Option AgentId → Option ℕ → Type 0
-Grips None held = held ≡ None
-Grips (Some hint) held = held ≢ None
 
 -- at most so many lines were added, each by a run of firings
 pub record MayFire (most : ℕ) (old new : PassView) : Type 0 where

@@ -1,6 +1,7 @@
-ghost use Rattle.std.specs.Prelude.{◌≡◌, None};
-ghost use Rattle.ic_work.specs.Workers.{Grips, Keeps};
-ghost use Rattle.ic_work.specs.Hands.{Stays};
+ghost use Rattle.std.specs.Prelude.{◌≡◌, ◌≢◌, None, IsTrue, IsFalse};
+ghost use Rattle.ic_work.specs.declared.hand.InHand.TheVariants as in_hand;
+ghost use Rattle.ic_work.specs.Workers.{Keeps};
+ghost use Rattle.ic_work.specs.Hands.{Grips, Stays};
 
 use crate::hints::put_out;
 use crate::limits::IN_A_ROW;
@@ -10,82 +11,90 @@ use ic_name::AgentId;
 use ic_shared::Chooser;
 use std::collections::VecDeque;
 
-/// What a worker chooses by in a run: the agents that it follows, of whom it has one in hand, or none; its seat holds the word
-/// of that one, and else no word.
+/// What a worker has in hand in a run.
+#[derive(Clone, Copy)]
+pub(crate) enum InHand {
+    Nothing,
+    /// A hint, whose word its seat holds.
+    Hint(AgentId),
+    /// A pair that was fired; the seat holds the word of its hint.
+    Fired,
+}
+
+/// What a worker chooses by in a run: the agents that it follows, of whom it has one in hand, or none.
 #[derive(Drop)]
 pub(crate) struct Hand<'a> {
     pub claims: &'a Claims,
     pub seat: &'a mut Seat,
     pub near: &'a mut VecDeque<AgentId>,
-    pub hint: Option<AgentId>,
-    /// Whether the pair of the hint in hand was fired.
-    pub fired: bool,
+    pub in_hand: InHand,
     /// How many firings in a row had the pairs that they made active put first.
     pub in_a_row: u32,
 }
 
-/// Claims the word of a hint, which comes back where the word was free.
-pub(crate) fn claim(claims: &Claims, seat: &mut Seat, hint: AgentId) -> Option<AgentId>
+/// Claims the word of a hint. It tells whether the word was free.
+pub(crate) fn claim(claims: &Claims, seat: &mut Seat, hint: AgentId) -> bool
     requires table { seat.old.table ≡ claims.now.table }
     requires free { seat.old.view.held ≡ None }
     ensures seat { Keeps seat.old seat.new }
-    ensures grips { Grips result seat.new.view.held }
+    ensures taken { IsTrue result → seat.new.view.held ≢ None }
+    ensures busy { IsFalse result → seat.new.view.held ≡ None }
 {
     let word = u64::from(hint.slot) % CLAIM_WORDS;
-    match claims.take(seat, word) {
-        Ok(()) => Some(hint),
-        Err(_) => None,
-    }
+    claims.take(seat, word).is_ok()
 }
 
 impl Hand<'_> {
-    /// Takes this hint in hand, and not the one that was, if its word is free; where another worker holds it, the hint goes behind
-    /// the others, and none is in hand.
-    fn reach(&mut self, hint: AgentId)
+    /// Takes this hint in hand, and not what was, if its word is free; where another worker holds it, the hint goes behind the
+    /// others, and nothing is in hand. It tells whether the word was free.
+    fn reach(&mut self, hint: AgentId) -> bool
         requires table { self.old.seat.now.table ≡ self.old.claims.now.table }
-        requires grips { Grips self.old.hint self.old.seat.now.view.held }
-        ensures grips { Grips self.new.hint self.new.seat.now.view.held }
+        requires grips { Grips self.old.in_hand self.old.seat.now.view.held }
+        ensures grips { Grips self.new.in_hand self.new.seat.now.view.held }
         ensures stays { Stays self.old self.new }
     {
         self.let_go();
-        self.hint = claim(self.claims, self.seat, hint);
-        self.fired = false;
-        if self.hint.is_none() {
+        let free = claim(self.claims, self.seat, hint);
+        if free {
+            self.in_hand = InHand::Hint(hint);
+        } else {
             let _ = self.near.push_back(hint);
         }
+        free
     }
 
-    /// Leaves the word of the hint in hand, if there is one.
+    /// Leaves the word of what is in hand, if anything is.
     pub fn let_go(&mut self)
         requires table { self.old.seat.now.table ≡ self.old.claims.now.table }
-        requires grips { Grips self.old.hint self.old.seat.now.view.held }
-        ensures empty { (self.new.hint ≡ None) × (self.new.seat.now.view.held ≡ None) }
+        requires grips { Grips self.old.in_hand self.old.seat.now.view.held }
+        ensures empty { (self.new.in_hand ≡ in_hand.Nothing) × (self.new.seat.now.view.held ≡ None) }
         ensures stays { Stays self.old self.new }
     {
-        if self.hint.take().is_some() {
-            self.claims.leave(self.seat);
+        match self.in_hand {
+            InHand::Nothing => {}
+            InHand::Hint(_) | InHand::Fired => {
+                self.claims.leave(self.seat);
+                self.in_hand = InHand::Nothing;
+            }
         }
     }
 }
 
 impl Chooser for Hand<'_> {
     ghost use Rattle.std.specs.Prelude.{◌≡◌};
-    ghost use Rattle.ic_work.specs.Workers.{Grips};
-    ghost use Rattle.ic_work.specs.Hands.{Stays};
+    ghost use Rattle.ic_work.specs.Hands.{Grips, Stays};
 
-    ghost holds = { λ h. (h.seat.now.table ≡ h.claims.now.table) × Grips h.hint h.seat.now.view.held };
+    ghost holds = { λ h. (h.seat.now.table ≡ h.claims.now.table) × Grips h.in_hand h.seat.now.view.held };
 
     ghost chooses = { λ h bench pair k. Stays h k };
 
     ghost hears = { λ h answer k. Stays h k };
 
-    /// The pair of the hint in hand, if it wasn't fired, or else of the next that is of one and whose word is free. None comes once
-    /// each was tried. A pair is looked up before the word is claimed: that is an atomic step, which waits for all that the last
-    /// firing wrote, and the look gives it the time.
+    /// The pair of the hint in hand, or else of the next that is of one and whose word is free. None comes once each was tried.
+    /// A pair is looked up before the word is claimed: that is an atomic step, which waits for all that the last firing wrote,
+    /// and the look gives it the time.
     fn choose(&mut self, bench: &Bench<Store>) -> Option<ActivePair> {
-        if let Some(hint) = self.hint
-            && !self.fired
-        {
+        if let InHand::Hint(hint) = self.in_hand {
             let pair = bench.pair_with(hint);
             if pair.is_some() {
                 return pair;
@@ -94,11 +103,8 @@ impl Chooser for Hand<'_> {
         for _tried in 0..self.near.len() {
             let hint = self.near.pop_front()?;
             let pair = bench.pair_with(hint);
-            if pair.is_some() {
-                self.reach(hint);
-                if self.hint.is_some() {
-                    return pair;
-                }
+            if pair.is_some() && self.reach(hint) {
+                return pair;
             }
         }
         None
@@ -108,7 +114,9 @@ impl Chooser for Hand<'_> {
     /// one firing in so many, lest a run follow one part of the net alone. The word of what was fired is left before the next one
     /// is claimed.
     fn hear(&mut self, answer: &Result<Fired, PairFault>) {
-        self.fired = true;
+        if let InHand::Hint(_) = self.in_hand {
+            self.in_hand = InHand::Fired;
+        }
         if let Ok(fired) = answer {
             let first = self.in_a_row < IN_A_ROW;
             let any = put_out(self.near, fired.awoken, first);

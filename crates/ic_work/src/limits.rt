@@ -7,5 +7,6 @@ pub(crate) const BLOCK: usize = 64;
 /// After how many firings, each of a pair that the one before made active, a run goes on with its other hints.
 pub(crate) const IN_A_ROW: u32 = 16;
 
-/// How many hints in a row a worker finds busy before it goes home. They stay among its own, where others find them.
+/// How many busy hints in a row a worker passes by; at the next one it goes home. They stay among its own, where others find
+/// them.
 pub(crate) const MAX_BUSY: u32 = 16;

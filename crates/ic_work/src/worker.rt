@@ -2,7 +2,7 @@ ghost use Rattle.std.specs.Prelude.{◌≡◌, ◌≢◌, ◌+◌, ◌≤◌, No
 ghost use Rattle.ic_work.specs.Workers.{DrawsMore, IsFree, Keeps, MayFire, Works, WorksOn};
 
 use crate::floor::Floor;
-use crate::hand::{Hand, claim};
+use crate::hand::{Hand, InHand, claim};
 use crate::hints::{Hint, agent_of, find_hint, gather, put_back};
 use crate::limits::{MAX_BUSY, MOST};
 use crate::tickets::Unused;
@@ -74,13 +74,11 @@ impl<B: Ledger> Worker<B> {
         let Some(agent) = agent_of(&mut self.hints, floor.leads, found) else {
             return Then::GoOn;
         };
-        match claim(floor.claims, &mut self.seat, agent) {
-            Some(hint) => self.follow(rt, floor, unused, hint),
-            None => {
-                let _ = self.hints.push(Hint::Agent(agent));
-                Then::TurnToOthers
-            }
+        if claim(floor.claims, &mut self.seat, agent) {
+            return self.follow(rt, floor, unused, agent);
         }
+        let _ = self.hints.push(Hint::Agent(agent));
+        Then::TurnToOthers
     }
 
     /// Draws tickets and fires by them, beginning with a hint whose word the seat holds.
@@ -152,8 +150,7 @@ impl<B: Ledger> Worker<B> {
             claims: floor.claims,
             seat,
             near,
-            hint: Some(hint),
-            fired: false,
+            in_hand: InHand::Hint(hint),
             in_a_row: 0,
         };
         let ran = floor.shared.fire_run(rt, pass, &mut hand, most);

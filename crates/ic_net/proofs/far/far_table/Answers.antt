@@ -1,22 +1,23 @@
-use Rattle.std.proofs.Common.{ℕ, ◌∙◌, ◌+◌, ◌-◌, arith, length, sym, ap, refl}
+use Rattle.std.proofs.Common.{◌≡◌, ℕ, ◌∙◌, ◌+◌, ◌-◌, Some, slice_get, arith, sym, ap}
 use Rattle.ic_name.specs.Spots.{same_spot}
 use Rattle.ic_net.specs.FarTables.{end_at}
-use Rattle.std.specs.Prelude.{if◌then◌else◌, slice_index_or}
+use Rattle.std.specs.Prelude.{if◌then◌else◌}
 use Rattle.ic_net.proofs.FarTableFacts.{link_inside, one_more, table_more, rings_more, at_most_one}
 use Rattle.ic_net.proofs.far.far_table.Goals as goal
 
 pub join-requires-clause-left : goal.join-requires-clause-left
-join-requires-clause-left c = (link_inside _ _ _ _ _ _ c.requires.links (omega arith)).0
+join-requires-clause-left c = (link_inside _ _ _ _ _ _ c.requires.links (sym c.get.ensures ∙ c.in-Some.is)).0
 
 pub join-requires-clause-right : goal.join-requires-clause-right
-join-requires-clause-right c = (link_inside _ _ _ _ _ _ c.requires.links (omega arith)).1
+join-requires-clause-right c = (link_inside _ _ _ _ _ _ c.requires.links (sym c.get.ensures ∙ c.in-Some.is)).1
 
 pub loop-done-preserved : goal.loop-done-preserved
 loop-done-preserved c =
     let i = c.loop-done.invariant in
-    let more = one_more c.args.links.now c.loop-done.done (length c.args.links.now) _ (omega arith) refl in
-    let inside = link_inside _ _ _ c.args.links.now _ _ c.requires.links (omega arith) in
-    let link = slice_index_or c.args.links.now (length c.args.links.now - 1 - c.loop-done.done) _ in
+    let link = c.in-Some.link in
+    let at : slice_get c.args.links.now (c.len-count.result - 1 - c.loop-done.done) ≡ Some link = sym c.get.ensures ∙ c.in-Some.is in
+    let more = one_more c.args.links.now c.loop-done.done c.len-count.result link (omega arith) at in
+    let inside = link_inside _ _ _ c.args.links.now _ _ c.requires.links at in
     let closes = same_spot (end_at c.args.agents c.loop-done.table.ends.items link.a) link.b in
     let one : ℕ = if closes then 1 else 0 in
     record {

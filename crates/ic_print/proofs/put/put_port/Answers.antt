@@ -1,6 +1,5 @@
 use Rattle.std.proofs.Common.{◌++◌, ◌∙◌, ap, sym}
 use Rattle.std.proofs.lemmas.Result.{IfOk-equal}
-use Rattle.ic_print.specs.Lines.{texts}
 use Rattle.ic_print.specs.NetText.{numbered, port_label}
 use Rattle.ic_print.specs.NumberedWires.{wires_in}
 use Rattle.ic_sheet.specs.Views.{shown_agent}
@@ -9,7 +8,7 @@ use Rattle.ic_print.proofs.put.put_port.Goals as goal
 
 pub returns-in-Of : goal.returns-in-Of
 returns-in-Of c =
-    let names = texts c.args.names.now in
+    let names = c.args.names.now in
     let wires = wires_in c.args.sheet.now in
     let agent = shown_agent c.args.agent.now.view in
     let out = c.args.out.now.items in

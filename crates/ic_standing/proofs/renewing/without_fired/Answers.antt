@@ -1,7 +1,7 @@
 use Rattle.std.proofs.Common.{◌≡◌, inl, inr, sym, ap, arith, ◌∙◌}
 use Rattle.std.proofs.lemmas.List.{take_all}
 use Rattle.ic_path.proofs.Picks.{none_in}
-use Rattle.ic_roster.proofs.Options.{at_some}
+use Rattle.ic_roster.proofs.Options.{at_none, at_some}
 use Rattle.ic_names.specs.Tables.{name_at}
 use Rattle.ic_set.proofs.QueuedLeads.{still_queued}
 use Rattle.ic_standing.proofs.LeadsLeft.{one_more_queued, pair_unled}
@@ -9,7 +9,15 @@ use Rattle.ic_standing.proofs.renewing.without_fired.Goals as goal
 use Rattle.ic_standing.proofs.renewing.without_fired.Goals.{then-is_none, else-is_none}
 
 pub loop-lead-init : goal.loop-lead-init
-loop-lead-init g c = record { heap = c.in_ok-fresh.ensures.heap; led = λ e p h q. absurd (none_in q.2); room = c.in_ok-fresh.ensures.room }
+loop-lead-init g c =
+    let made = c.in_ok-fresh.ensures in
+    let space = made.room in
+    record {
+      heap = made.heap;
+      led = λ e p h q. elim (none_in q.2) [ ];
+      unled = λ n k x there same. none_in (rw made.empty at k);
+      room = omega arith;
+    }
 
 pub loop-lead-preserved : goal.loop-lead-preserved
 loop-lead-preserved g c =
@@ -21,6 +29,7 @@ loop-lead-preserved g c =
       | then-is_none w ↦
           let names : w.names.result.now ≡ ns = w.names.ensures ∙ c.roster-roster.ensures.names in
           let entered = w.put.ensures.entered in
+          let absent = at_none c.led_by.result w.if-is_none.ensures (rw (c.roster-roster.ensures.events, c.roster-roster.ensures.names) at c.led_by.ensures.absent) in
           let before = i.room in
           let after = w.put.ensures.room in
           rw w.fresh-is (record {
@@ -28,6 +37,10 @@ loop-lead-preserved g c =
             led = λ e p h q. elim (split e q) [
               | inl k ↦ still_queued ns c.loop-lead.fresh.leads w.put.new.self.leads (λ n j. (entered n).1 (inr j)) e.lead (i.led e p h k)
               | inr last ↦ (last.0.0, last.0.1, (entered last.0.0).1 (inl last.1))
+            ];
+            unled = λ n k x there same. elim ((entered n).0 k) [
+              | inl new ↦ absent x there (same ∙ ap (name_at ns) new)
+              | inr old ↦ i.unled n old x there same
             ];
             room = omega arith;
           })
@@ -41,6 +54,7 @@ loop-lead-preserved g c =
                   let x = at_some c.led_by.result w.if-is_none.ensures found in
                   absurd (pair_unled c.args.set.now e p h last.0.0 (sym last.0.1.named) x.1.0 x.1.1 (x.1.3 ∙ sym (ap (name_at ns) last.1))))
             ];
+            unled = i.unled;
             room = i.room;
           })
     ]

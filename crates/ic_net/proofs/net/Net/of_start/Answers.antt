@@ -20,16 +20,16 @@ name_ends-requires-clause-few c = few_ends c.args.start.now c.links-links.result
 pub invariant_of-result : goal.invariant_of-result
 invariant_of-result c =
     let few : length c.kinds.result.now ≤ MAX_START_AGENTS = rw c.kinds.ensures c.lawful.ensures.few_agents in
-    let names : length c.names.result.now ≡ length c.args.start.now.names = sym (length-map c.names.result.now _) ∙ ap length c.names.ensures in
-    let times : length c.as_slice.result.now ≡ length c.names.result.now = ap length c.as_slice.ensures.value ∙ c.in_ok-times.ensures.long in
+    let names : c.len-names.result ≡ length c.args.start.now.names = c.len-names.ensures ∙ ap length c.names.ensures in
+    let times : length c.as_slice.result.now ≡ c.len-names.result = ap length c.as_slice.ensures.value ∙ c.in_ok-times.ensures.long in
     let short : length c.as_slice.result.now < 2 ^ 32 = let s = c.lawful.ensures.few_names in omega arith in
     let seldom : c.in_ok-table.table.rings < 2 ^ 63 =
-    (let most = rings-le c.links-links.result.now in let r = c.in_ok-table.ensures.rings in let fits = c.links-links.type_inv in omega arith) in
+    (let most = rings-le c.links-links.result.now in let r = c.in_ok-table.ensures.rings in let fits = c.lawful-2.ensures.few in omega arith) in
     let ends = c.as_slice-ends.result.now in
-    let table : HasFarEnds c.agents-count.result (length c.names.result.now) ends (far shape c.links-links.result.now) = rw c.as_slice-ends.ensures.value c.in_ok-table.ensures.ends in
-    let counted : (j : ℕ) → j < length c.names.result.now → slice_index c.as_slice.result.now j ≡ degree shape c.links-links.result.now (spots.Name j) = rw c.as_slice.ensures.value c.in_ok-times.ensures.counted in
+    let table : HasFarEnds c.agents-count.result c.len-names.result ends (far shape c.links-links.result.now) = rw c.as_slice-ends.ensures.value c.in_ok-table.ensures.ends in
+    let counted : (j : ℕ) → j < c.len-names.result → slice_index c.as_slice.result.now j ≡ degree shape c.links-links.result.now (spots.Name j) = rw c.as_slice.ensures.value c.in_ok-times.ensures.counted in
     let same =
-    start_net_by c.args.start.now c.links-links.result.now ends c.as_slice.result.now (record { agents = map listed_agent c.in_ok-agents.agents.entries; frees = c.in_ok-frees.frees.entries; rings = c.in_ok-table.table.rings; profile = c.profile.result }) c.kinds.result.now c.agents-count.result (length c.names.result.now) c.kinds.ensures c.agents-count.ensures names
+    start_net_by c.args.start.now c.links-links.result.now ends c.as_slice.result.now (record { agents = map listed_agent c.in_ok-agents.agents.entries; frees = c.in_ok-frees.frees.entries; rings = c.in_ok-table.table.rings; profile = c.profile.result }) c.kinds.result.now c.agents-count.result c.len-names.result c.kinds.ensures c.agents-count.ensures names
     c.lawful.ensures.proper c.links-links.ensures.joins c.links-links.ensures.placed table times counted c.in_ok-agents.ensures.listed c.in_ok-frees.ensures.listed c.in_ok-table.ensures.rings c.profile.ensures in
     start_is_net _ _ _ _ (agent_partner (length c.kinds.result.now) ends) c.kinds.result.now _ _ _ c.in_ok-agents.ensures.listed c.in_ok-agents.ensures.ordered c.in_ok-frees.ensures.listed c.in_ok-frees.ensures.ordered few short seldom
     (record { start = c.args.start.now; events = []; proper = c.lawful.ensures.proper; fired = nothing; net = same })
@@ -38,11 +38,11 @@ pub returns-clause-net : goal.returns-clause-net
 returns-clause-net c =
     let ends = c.as_slice-ends.result.now in
     let times = c.as_slice.result.now in
-    let names : length c.names.result.now ≡ length c.args.start.now.names = sym (length-map c.names.result.now _) ∙ ap length c.names.ensures in
-    let table : HasFarEnds c.agents-count.result (length c.names.result.now) ends (far shape c.links-links.result.now) = rw c.as_slice-ends.ensures.value c.in_ok-table.ensures.ends in
-    let long : length times ≡ length c.names.result.now = ap length c.as_slice.ensures.value ∙ c.in_ok-times.ensures.long in
-    let counted : (j : ℕ) → j < length c.names.result.now → slice_index times j ≡ degree shape c.links-links.result.now (spots.Name j) = rw c.as_slice.ensures.value c.in_ok-times.ensures.counted in
-    start_net_by c.args.start.now c.links-links.result.now ends times _ c.kinds.result.now c.agents-count.result (length c.names.result.now) c.kinds.ensures c.agents-count.ensures names
+    let names : c.len-names.result ≡ length c.args.start.now.names = c.len-names.ensures ∙ ap length c.names.ensures in
+    let table : HasFarEnds c.agents-count.result c.len-names.result ends (far shape c.links-links.result.now) = rw c.as_slice-ends.ensures.value c.in_ok-table.ensures.ends in
+    let long : length times ≡ c.len-names.result = ap length c.as_slice.ensures.value ∙ c.in_ok-times.ensures.long in
+    let counted : (j : ℕ) → j < c.len-names.result → slice_index times j ≡ degree shape c.links-links.result.now (spots.Name j) = rw c.as_slice.ensures.value c.in_ok-times.ensures.counted in
+    start_net_by c.args.start.now c.links-links.result.now ends times _ c.kinds.result.now c.agents-count.result c.len-names.result c.kinds.ensures c.agents-count.ensures names
     c.lawful.ensures.proper c.links-links.ensures.joins c.links-links.ensures.placed table long counted c.in_ok-agents.ensures.listed c.in_ok-frees.ensures.listed c.in_ok-table.ensures.rings c.profile.ensures
 
 pub returns-clause-agents : goal.returns-clause-agents

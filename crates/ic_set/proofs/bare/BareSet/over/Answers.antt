@@ -14,31 +14,31 @@ enter_all-requires g c =
       can = rw (c.deref.ensures.value, named.agents, ap (λ (r : RosterView). r.agents) c.reserve_events.ensures ∙ c.new-roster.ensures.agents, named.named, c.kinds.ensures) (can_enter_start c.args.start);
     }
 
-pub links_of_start-requires : goal.links_of_start-requires
-links_of_start-requires g c =
+pub add_start-requires-clause-numbers : goal.add_start-requires-clause-numbers
+add_start-requires-clause-numbers g c =
     let named = c.in_ok-entering.ensures in
     let entered = rw (c.deref.ensures.value, named.agents, ap (λ (r : RosterView). r.agents) c.reserve_events.ensures ∙ c.new-roster.ensures.agents, named.named, c.kinds.ensures) at c.in_ok-ids.ensures.entered in
     rw c.as_slice.ensures (start_numbers c.args.start c.lawful.ensures.proper _ _ c.links.result.now entered c.lawful-2.ensures.names c.links.ensures.joins c.links.ensures.placed)
 
-pub add_all-requires-clause-slim : goal.add_all-requires-clause-slim
-add_all-requires-clause-slim g c =
+pub add_start-requires-clause-slim : goal.add_start-requires-clause-slim
+add_start-requires-clause-slim g c =
     let named = c.in_ok-entering.ensures in
     let entered = rw (c.deref.ensures.value, named.agents, ap (λ (r : RosterView). r.agents) c.reserve_events.ensures ∙ c.new-roster.ensures.agents, named.named, c.kinds.ensures) at c.in_ok-ids.ensures.entered in
     let all = append-nil (map (moved_link c.in_ok-ids.ids.items) c.links.result.now) in
-    rw (c.deref-2.ensures.value, c.in_ok-links.ensures, c.as_slice.ensures, c.empty-store.ensures, all)
+    rw (c.as_slice.ensures, c.empty-store.ensures, all)
     (start_slim c.args.start c.lawful.ensures.proper _ _ c.links.result.now entered c.lawful-2.ensures.names c.links.ensures.joins c.links.ensures.placed)
 
-pub add_all-requires-clause-own_ids : goal.add_all-requires-clause-own_ids
-add_all-requires-clause-own_ids g c =
+pub add_start-requires-clause-own_ids : goal.add_start-requires-clause-own_ids
+add_start-requires-clause-own_ids g c =
     let all = append-nil (map (moved_link c.in_ok-ids.ids.items) c.links.result.now) in
-    rw (c.deref-2.ensures.value, c.in_ok-links.ensures, c.as_slice.ensures, c.empty-store.ensures, all) (own_moved _ _ _ 0 c.links.result.now c.links.ensures.placed)
+    rw (c.as_slice.ensures, c.empty-store.ensures, all) (own_moved _ _ _ 0 c.links.result.now c.links.ensures.placed)
 
 pub invariant_of-result : goal.invariant_of-result
 invariant_of-result g c =
     let named = c.in_ok-entering.ensures in
     let entered = rw (c.deref.ensures.value, named.agents, ap (λ (r : RosterView). r.agents) c.reserve_events.ensures ∙ c.new-roster.ensures.agents, named.named, c.kinds.ensures) at c.in_ok-ids.ensures.entered in
     let all = append-nil (map (moved_link c.in_ok-ids.ids.items) c.links.result.now) in
-    let added = rw (c.deref-2.ensures.value, c.in_ok-links.ensures, c.as_slice.ensures, c.empty-store.ensures, all) at c.in_ok-add_all.ensures.added in
+    let added = rw (c.as_slice.ensures, c.empty-store.ensures, all) at c.in_ok-add_start.ensures.added in
     rw (c.in_ok-ids.ensures.events ∙ named.events ∙ ap (λ (r : RosterView). r.events) c.reserve_events.ensures ∙ c.new-roster.ensures.events)
     (start_kept c.args.start c.lawful.ensures.proper _ _ c.links.result.now entered c.lawful-2.ensures.names c.links.ensures.joins c.links.ensures.placed _ added)
 

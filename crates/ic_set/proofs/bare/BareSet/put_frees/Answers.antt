@@ -1,5 +1,4 @@
 use Rattle.std.proofs.Common.{◌≡◌, ◌+◌, length, refl, sym, ap, arith, subst, ◌∙◌}
-use Rattle.std.proofs.lemmas.List.{length-map}
 use Rattle.ic_sheet.specs.Makings.{NetParts}
 use Rattle.ic_set.specs.Views.{NamedView}
 use Rattle.ic_set.proofs.ReadNets.{AreFreesTo, no_frees, free_passes, free_comes, all_frees, none_unless}
@@ -31,7 +30,7 @@ loop-number-preserved g c =
 
 pub returns-clause-frees : goal.returns-clause-frees
 returns-clause-frees g c =
-    let names : length c.names-number-end.result.now ≡ length c.self.inside.start.names = sym (length-map c.names-number-end.result.now _) ∙ ap length c.names-number-end.ensures in
-    let seen = subst (λ (w : NamedView). length c.names-number-end.result.now ≡ length w.set.start.names) c.self.view_is names in
+    let names : c.len-number-end.result ≡ length c.self.inside.start.names = c.len-number-end.ensures ∙ ap length c.names.ensures in
+    let seen = subst (λ (w : NamedView). c.len-number-end.result ≡ length w.set.start.names) c.self.view_is names in
     let past = c.loop-number-test.false in
     all_frees c.args.self.now.set c.lawful.ensures.set c.loop-number.number c.loop-number.maker.frees (omega (arith, seen, past)) c.loop-number.invariant.frees

@@ -1,4 +1,4 @@
-use Rattle.std.proofs.Common.{◌≡◌, ◌≤◌, None, Ok, length, map, true, option_map, sym, ap, ◌∙◌, arith}
+use Rattle.std.proofs.Common.{◌≡◌, ◌≤◌, None, Ok, length, true, option_map, sym, ap, ◌∙◌, arith}
 use Rattle.std.specs.Prelude.{count_by, find}
 use Rattle.ic_grammar.specs.declared.limits.TheConstants.{MAX_FREE_NAMES}
 use Rattle.ic_text.specs.Names.{is_free, is_reserved_free}
@@ -15,10 +15,10 @@ make-requires c =
     rests c.args.self.stack.items _ s.side c.args.self.stack.ok.0 (sym c.is_empty.ensures ∙ c.if-not-is_empty.false) (sym c.is_at_rest.ensures ∙ c.if-not-is_at_rest.false) in
     let none : option_map first_of (find is_reserved_free s.seen) ≡ None = sym c.reserved.ensures ∙ c.in_default.is in
     let few : count_by is_free s.seen ≤ MAX_FREE_NAMES = omega (arith, c.free.ensures, c.if-free-gt-MAX_FREE_NAMES.false) in
-    let joins = c.into_vec-links.ensures.joins in
+    let joins = c.into_start-links.ensures in
     let texts = c.in_ok-names.ensures in
-    let done = finishes (length c.args.text.now) s c.into_vec-links.result.items (map (λ t. t.items) c.in_ok-names.names.items) rest none few joins texts in
-    makes_start c.args.text.now s c.into_vec-links.result.items (map (λ t. t.items) c.in_ok-names.names.items) c.requires.read c.requires.within c.requires.short done c.into_vec-links.ensures.of_start texts
+    let done = finishes (length c.args.text.now) s c.into_start-links.result c.in_ok-names.names rest none few joins texts in
+    makes_start c.args.text.now s c.into_start-links.result c.in_ok-names.names c.requires.read c.requires.within c.requires.short done c.lawful.ensures.numbered texts
 
 pub returns : goal.returns
 returns c =
@@ -27,7 +27,7 @@ returns c =
     rests c.args.self.stack.items _ s.side c.args.self.stack.ok.0 (sym c.is_empty.ensures ∙ c.if-not-is_empty.false) (sym c.is_at_rest.ensures ∙ c.if-not-is_at_rest.false) in
     let none : option_map first_of (find is_reserved_free s.seen) ≡ None = sym c.reserved.ensures ∙ c.in_default.is in
     let few : count_by is_free s.seen ≤ MAX_FREE_NAMES = omega (arith, c.free.ensures, c.if-free-gt-MAX_FREE_NAMES.false) in
-    let joins = c.into_vec-links.ensures.joins in
+    let joins = c.into_start-links.ensures in
     let texts = c.in_ok-names.ensures in
-    let done = finishes (length c.args.text.now) s c.into_vec-links.result.items (map (λ t. t.items) c.in_ok-names.names.items) rest none few joins texts in
+    let done = finishes (length c.args.text.now) s c.into_start-links.result c.in_ok-names.names rest none few joins texts in
     done ∙ ap Ok (sym c.in_ok-make.ensures)

@@ -1,8 +1,13 @@
-use Rattle.std.proofs.Common.{◌≡◌, arith, length}
-use Rattle.ic_text.proofs.StartLinks.{of_start_more}
+use Rattle.std.proofs.Common.{◌<◌, ◌^◌, map, length, arith}
+use Rattle.std.proofs.lemmas.List.{length-map}
+use Rattle.ic_start.specs.Starts.{join_of}
+use Rattle.ic_text.proofs.LinkPorts.{one_more}
 use Rattle.ic_text.proofs.links.Links.push.Goals as goal
 
-pub invariant_of-self-2 : goal.invariant_of-self-2
-invariant_of-self-2 c =
-    let place : c.len.result ≡ length c.self.inside.links.items = omega (arith, c.len.ensures, c.self.inside.links.ok.0) in
-    rw c.in_ok-push.ensures.items (of_start_more c.self.inside.links.items c.len.result c.spot.result c.spot-2.result c.self.invariant place c.spot.ensures.of_start c.spot-2.ensures.of_start)
+pub push-requires : goal.push-requires
+push-requires c =
+    let few : length (map join_of c.self.inside.links) < 2 ^ 32 = rw c.self.view_is c.requires in
+    omega (arith, few, length-map c.self.inside.links join_of)
+
+pub returns : goal.returns
+returns c = rw (c.in_ok-push.ensures.link, ← c.self.view_is) (one_more c.self.inside.links _ c.args.a c.args.b)
