@@ -3,10 +3,10 @@
 
 Prints, for each kind of net and each number of workers, how many events are fired, the seconds that the reduction takes,
 how much longer that is than with one worker, and which share of the workers' instructions is made under the lock of the
-bench. Seconds are those from a command to its answer, in a session that has read its net, each the least of twelve, whose
-sessions are interleaved, so that a busy machine slows all of them down alike. The share is counted by valgrind, with two
-workers, on a smaller net: it is that of the calls into the crates of the bench, so that what the compiler put into the
-worker's own code isn't in it.
+bench. Seconds are those from a command to its answer, in a session that has read its net, each the least of forty, whose
+sessions are interleaved, so that a busy machine slows all of them down alike; and they are so many that some are hardly
+disturbed. The share is counted by valgrind, with two workers, on a smaller net: it is that of the calls into the crates of
+the bench, so that what the compiler put into the worker's own code isn't in it.
 
 All events that a net comes to are fired, so that each number of workers fires the same ones.
 
@@ -25,7 +25,7 @@ import time
 
 from reduce import COPY, COPY_EVENTS, PROGRAM, erasers, self_wired
 
-ROUNDS = 12
+ROUNDS = 40
 WORKERS = (1, 2, 4)
 KINDS = {
     "erasures": (lambda pairs: (erasers(pairs), pairs), 32_767),
