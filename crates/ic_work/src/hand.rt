@@ -51,6 +51,8 @@ impl Hand<'_> {
         requires table { self.old.seat.now.table ≡ self.old.claims.now.table }
         requires grips { Grips self.old.in_hand self.old.seat.now.view.held }
         ensures grips { Grips self.new.in_hand self.new.seat.now.view.held }
+        ensures taken { IsTrue result → self.new.in_hand ≡ in_hand.Hint hint }
+        ensures busy { IsFalse result → self.new.in_hand ≡ in_hand.Nothing }
         ensures stays { Stays self.old self.new }
     {
         self.let_go();
