@@ -1,12 +1,14 @@
 #!/usr/bin/env python3
 """Times a reduction by one worker, by two and by four: python3 bench/workers.py [PROGRAM [KIND..]].
 
-Prints, for each kind of net and each number of workers, how many events are fired, the seconds that the reduction takes,
-how much longer that is than with one worker, and which share of the workers' instructions is made under the lock of the
-bench. Seconds are those from a command to its answer, in a session that has read its net, each the least of forty, whose
-sessions are interleaved, so that a busy machine slows all of them down alike; and they are so many that some are hardly
-disturbed. The share is counted by valgrind, with two workers, on a smaller net: it is that of the calls into the crates of
-the bench, so that what the compiler put into the worker's own code isn't in it.
+Prints, for each kind of net and each number of workers, how many events are fired, the least of the seconds that the reduction
+takes, how much longer it takes than by one worker, and which share of the workers' instructions is made under the lock of
+the bench. Seconds are those from a command to its answer, in a session that has read its net. There are forty rounds of
+one session each, interleaved, and how much longer is told in three ways: by the least of all; by the best of each five in a
+row, of which the middle one is told; and by the mean of all. A reduction by many workers is undisturbed only where all
+their cores are at once, and one by one worker where its own is: so where a host lets others disturb a core now and then,
+bests favour one worker, and means don't. The share is counted by valgrind, with two workers, on a smaller net: it is that of
+the calls into the crates of the bench, so that what the compiler put into the worker's own code isn't in it.
 
 All events that a net comes to are fired, so that each number of workers fires the same ones.
 
@@ -18,6 +20,7 @@ copies: independent nets of nine events, of which one makes the next active
 import pathlib
 import re
 import shutil
+import statistics
 import subprocess
 import sys
 import tempfile
@@ -26,6 +29,7 @@ import time
 from reduce import COPY, COPY_EVENTS, PROGRAM, erasers, self_wired
 
 ROUNDS = 40
+GROUP = 5
 WORKERS = (1, 2, 4)
 KINDS = {
     "erasures": (lambda pairs: (erasers(pairs), pairs), 32_767),
@@ -63,12 +67,23 @@ def reduction(command, net, events):
 
 
 def seconds(program, net, events):
-    """Seconds of the reduction, by each number of workers."""
+    """Seconds of the reduction, by each number of workers, round by round."""
     took = {workers: [] for workers in WORKERS}
     for _ in range(ROUNDS):
         for workers, taken in took.items():
             taken.append(reduction([program, "--workers", str(workers)], net, events))
-    return {workers: min(taken) for workers, taken in took.items()}
+    return took
+
+
+def bests(taken):
+    """The least of each so many in a row."""
+    return [min(taken[first : first + GROUP]) for first in range(0, len(taken), GROUP)]
+
+
+def beside(taken, others):
+    """How much longer some seconds are than others: by the least, by the bests of each five, and by the mean."""
+    fives = [best / other for best, other in zip(bests(taken), bests(others))]
+    return min(taken) / min(others), statistics.median(fives), sum(taken) / sum(others)
 
 
 def under_lock(program, net, events):
@@ -99,7 +114,8 @@ def under_lock(program, net, events):
 
 def main():
     program = sys.argv[1] if len(sys.argv) > 1 else str(PROGRAM)
-    print(f"{'net':<14}{'events':>8}{'workers':>9}{'seconds':>10}{'beside one':>12}{'under lock':>12}", flush=True)
+    ways = f"{'by least':>10}{'by fives':>10}{'by mean':>9}"
+    print(f"{'net':<14}{'events':>8}{'workers':>9}{'seconds':>9}{ways}{'under lock':>12}", flush=True)
     for kind in sys.argv[2:] or KINDS:
         make, size = KINDS[kind]
         share = under_lock(program, *make(size // SMALLER))
@@ -107,8 +123,9 @@ def main():
         took = seconds(program, net, events)
         for workers, taken in took.items():
             shown = share if workers > 1 else ""
-            beside = taken / took[1]
-            print(f"{kind:<14}{events:>8}{workers:>9}{taken:>10.3f}{beside:>12.2f}{shown:>12}", flush=True)
+            least, fives, mean = beside(taken, took[1])
+            ways = f"{least:>10.2f}{fives:>10.2f}{mean:>9.2f}"
+            print(f"{kind:<14}{events:>8}{workers:>9}{min(taken):>9.3f}{ways}{shown:>12}", flush=True)
 
 
 if __name__ == "__main__":

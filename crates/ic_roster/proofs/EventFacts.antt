@@ -1,5 +1,5 @@
 -- What the records of standing events and their index tell of the events.
-use Rattle.std.proofs.Common.{◌≡◌, ◌≢◌, ℕ, List, [], ◌∷◌, map, Option, Some, None, refl, sym, ap, subst, ◌∙◌}
+use Rattle.std.proofs.Common.{◌≡◌, ◌≢◌, ◌↔◌, ℕ, List, [], ◌∷◌, map, Option, Some, None, refl, sym, ap, subst, ◌∙◌}
 use Rattle.std.specs.Prelude.{IsSome}
 use Rattle.slab.specs.Slab.{entries_from}
 use Rattle.ic_slots.specs.Slots.{slot_of, Gives}
@@ -11,7 +11,7 @@ use Rattle.ic_roster.specs.Placed.{PlacedEvent, HaveOwnKeys, IsNewKey}
 use Rattle.ic_roster.specs.Slots.{slot_at, HoldsOneMore}
 use Rattle.ic_roster.specs.EventSlots.{event_at, events_in, event_line, event_lead, AreIndexed}
 use Rattle.ic_roster.proofs.Slots.{ShowsAt, slot_from_shown, shown_from_slot, shown_apart, shown_emptied}
-use Rattle.ic_roster.proofs.Indexes.{held_number, none_numbered, lacks_number, one_slot, index_entered, index_taken}
+use Rattle.ic_roster.proofs.Indexes.{held_number, not_vacant, none_numbered, lacks_number, one_slot, index_entered, index_taken}
 use Rattle.ic_roster.proofs.OwnNumbers.{one_owner, own_entered, own_taken}
 
 -- the slot of an event is that of its id
@@ -103,6 +103,22 @@ pub lead_absent : (slots : List (Option EventRecord)) (leads : List (Option ℕ)
 lead_absent slots leads t place lacks x i e =
     let s = slot_from_shown event_at slots x i in
     none_numbered event_lead slots leads t.led place lacks s.key s.value s.holds (lead_shown slots x s ∙ e)
+
+-- the index has a slot for a place just where an event is led from there
+pub lead_indexed : (slots : List (Option EventRecord)) (leads : List (Option ℕ)) → AreIndexed slots leads → (lead : NameId)
+    → IsSome (slot_of leads lead.place) ↔ ((x : PlacedEvent) × IsIn x (events_in slots) × (x.interaction.lead ≡ lead))
+lead_indexed slots leads t lead = by (slot_of leads lead.place) refl
+  where
+    IsLed : Type 0
+    IsLed = (x : PlacedEvent) × IsIn x (events_in slots) × (x.interaction.lead ≡ lead)
+
+    held : (k : ℕ) (r : Option EventRecord) → slot_of leads lead.place ≡ Some k → slot_at slots k ≡ r → IsLed
+    held k None found e = absurd (not_vacant event_lead slots leads t.led lead.place k found e)
+    held k (Some r) found e = let l = lead_found slots leads t lead k r found e in (l.0, l.1, l.3)
+
+    by : (o : Option ℕ) → slot_of leads lead.place ≡ o → IsSome o ↔ IsLed
+    by None e = (λ h. absurd cc, λ l. absurd (lead_absent slots leads t lead.place e l.0 l.1 (ap (λ (n : NameId). n.place) l.2)))
+    by (Some k) e = (λ h. held k (slot_at slots k) e refl, λ l. refl)
 
 -- an event of a new line and a new lead is entered
 pub keys_entered : (old new : List (Option EventRecord)) (leads leads' : List (Option ℕ)) (k : ℕ) (r : EventRecord) → AreIndexed old leads → HoldsOneMore old new k r

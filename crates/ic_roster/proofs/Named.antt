@@ -1,5 +1,5 @@
 -- Agents and events with the names at their places.
-use Rattle.std.proofs.Common.{◌≡◌, ◌≢◌, ℕ, ◌<◌, List, ◌∷◌, [], map, length, Option, Some, None, Result, Ok, Err, inl, inr, refl, sym, ap, subst, ◌∙◌}
+use Rattle.std.proofs.Common.{◌≡◌, ◌≢◌, ◌↔◌, ℕ, ◌<◌, List, ◌∷◌, [], map, length, Option, Some, None, Result, Ok, Err, inl, inr, refl, sym, ap, subst, ◌∙◌}
 use Rattle.std.specs.Prelude.{IfOk, OnErr}
 use Rattle.ic_path.specs.Orders.{Alike, IsIn}
 use Rattle.ic_path.proofs.Picks.{in_picked, in-cons_cases}
@@ -14,7 +14,7 @@ use Rattle.ic_roster.specs.declared.interaction.Interaction.{Interaction}
 use Rattle.ic_roster.specs.declared.agent_records.PlacedAgent.{PlacedAgent}
 use Rattle.ic_roster.specs.Rosters.{HaveOwnNames, IsNewName, Stander, HaveOwnLines, IsNewEvent, event_in, IsNamed, IsHanded}
 use Rattle.ic_roster.specs.Placed.{PlacedEvent, HaveOwnPlaces, IsNewPlace, HaveOwnKeys, IsNewKey, IsGiven, member_in, stander_in, AreNamed}
-use Rattle.ic_roster.proofs.Images.{in-map, each_image, two_images, same_images}
+use Rattle.ic_roster.proofs.Images.{in-map, picked_image, each_image, two_images, same_images}
 
 -- each name stands where it stood
 abbrev pub KeepsPlaces : List Name → List Name → Type 0
@@ -89,6 +89,21 @@ module _ (ns : List Name) (table : IsTable ns) (xs : List PlacedAgent) (es : Lis
   -- a place from which no event is led is that of a name that leads none
   pub new_lead : (place : ℕ) → place < length ns → ((x : PlacedEvent) → IsIn x es → x.interaction.lead.place ≢ place) → (x : Stander) → IsIn x (map (stander_in ns) es) → x.event.lead ≢ name_at ns place
   new_lead place inside fresh = each_image (stander_in ns) es (λ x. x.event.lead ≢ name_at ns place) (λ x i e. fresh x i (table.once x.interaction.lead.place place (named.events x i).lead inside e))
+
+  -- a name leads an event just where one is led from its place
+  pub named_lead : (name : NameId) → name.place < length ns
+      → ((x : PlacedEvent) × IsIn x es × (x.interaction.lead ≡ name)) ↔ ((x : Stander) × IsIn x (map (stander_in ns) es) × (x.event.lead ≡ name_at ns name.place))
+  named_lead name inside = (forth, back)
+    where
+      forth : ((x : PlacedEvent) × IsIn x es × (x.interaction.lead ≡ name)) → (x : Stander) × IsIn x (map (stander_in ns) es) × (x.event.lead ≡ name_at ns name.place)
+      forth l = (stander_in ns l.0, in-map (stander_in ns) l.1, ap (λ (n : NameId). name_at ns n.place) l.2)
+
+      back : ((x : Stander) × IsIn x (map (stander_in ns) es) × (x.event.lead ≡ name_at ns name.place)) → (x : PlacedEvent) × IsIn x es × (x.interaction.lead ≡ name)
+      back l =
+          let p = picked_image (stander_in ns) es l.1.1 in
+          let same : name_at ns p.0.interaction.lead.place ≡ name_at ns name.place = ap (λ (x : Stander). x.event.lead) (sym p.3) ∙ l.2 in
+          let place : p.0.interaction.lead.place ≡ name.place = table.once p.0.interaction.lead.place name.place (named.events p.0 (p.1, p.2)).lead inside same in
+          (p.0, (p.1, p.2), λ i. record { place = place i })
 
 module _ (ns : List Name) (xs : List PlacedAgent) (es : List PlacedEvent) where
   -- no agent has a name that is absent

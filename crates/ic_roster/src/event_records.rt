@@ -1,4 +1,4 @@
-ghost use Rattle.std.specs.Prelude.{◌≡◌, ◌≢◌, ◌↔◌, ◌∷◌, [], length, map, IsNone, IfSome, IfNone, IfOk, OnErr};
+ghost use Rattle.std.specs.Prelude.{◌≡◌, ◌≢◌, ◌↔◌, ◌∷◌, [], length, map, IsNone, IsTrue, IfSome, IfNone, IfOk, OnErr};
 ghost use Rattle.ic_path.specs.Orders.{Alike, IsIn};
 ghost use Rattle.ic_roster.specs.Rosters.{IsOnce};
 ghost use Rattle.ic_roster.specs.declared.agent_records.PlacedAgent.{PlacedAgent as APlacedAgent};
@@ -133,6 +133,13 @@ impl EventRecords {
             slot,
             line: event.line,
         })
+    }
+
+    /// Whether an event stands whose lead has its name at this place, in constant time. It takes no memory.
+    pub fn is_lead(&self, name: NameId) -> bool
+        ensures { IsTrue result ↔ ((x : PlacedEvent) × IsIn x self.now × (x.interaction.lead ≡ name)) }
+    {
+        self.leads.get(name.place).is_some()
     }
 
     /// One event more, fired in this line, with its direct causes, which stand, in constant time for each but for growth. At an

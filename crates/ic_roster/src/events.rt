@@ -1,4 +1,4 @@
-ghost use Rattle.std.specs.Prelude.{◌≡◌, ◌≢◌, ◌<◌, ◌↔◌, ◌∷◌, [], length, map, All, IsNone, IfSome, IfNone, IfOk, OnErr};
+ghost use Rattle.std.specs.Prelude.{◌≡◌, ◌≢◌, ◌<◌, ◌↔◌, ◌∷◌, [], length, map, All, IsNone, IsTrue, IfSome, IfNone, IfOk, OnErr};
 ghost use Rattle.ic_path.specs.Orders.{Alike, IsIn};
 ghost use Rattle.ic_name.specs.Events.{pair};
 ghost use Rattle.ic_names.specs.Tables.{name_at};
@@ -75,6 +75,15 @@ impl Roster {
     {
         self.names.lawful();
         self.events.led_by(lead)
+    }
+
+    /// Whether the agent whose name is at this place leads a standing event, in constant time. It takes no memory.
+    pub fn is_lead(&self, name: NameId) -> bool
+        requires { name.place < length self.now.names }
+        ensures { IsTrue result ↔ ((x : Stander) × IsIn x self.now.events × (x.event.lead ≡ name_at self.now.names name.place)) }
+    {
+        self.names.lawful();
+        self.events.is_lead(name)
     }
 
     /// The id of the event of this name, if it stands. It takes no memory.

@@ -1,5 +1,6 @@
 -- Which agents' principal ports a wire joins, read off the links by ids.
-use Rattle.std.proofs.Common.{◌≡◌, ◌≢◌, ◌≤◌, List, inl, inr, refl, sym, ap, arith, subst, ◌∙◌}
+use Rattle.std.proofs.Common.{◌≡◌, ◌≢◌, ◌↔◌, ◌≤◌, Bool, true, false, List, inl, inr, refl, sym, ap, arith, subst, ◌∙◌}
+use Rattle.std.specs.Prelude.{IsTrue}
 use Rattle.ic_name.specs.Names.{Name}
 use Rattle.ic_name.specs.Events.{Event}
 use Rattle.ic_name.specs.declared.ids.AgentId.{AgentId}
@@ -38,6 +39,10 @@ use Rattle.ic_set.proofs.Unled.{unled_pair, unconsumed_unled}
 -- no standing event has this lead
 abbrev pub LeadsNone : SetView → Name → Type 0
 LeadsNone v m = (x : Stander) → IsIn x v.events → x.event.lead ≢ m
+
+-- nor has one where a look finds none
+pub none_led : (xs : List Stander) (m : Name) (b : Bool) → IsTrue b ↔ ((x : Stander) × IsIn x xs × (x.event.lead ≡ m)) → b ≡ false → (x : Stander) → IsIn x xs → x.event.lead ≢ m
+none_led xs m b told none x i q = let led : b ≡ true = told.1 (x, i, q) in absurd cc
 
 module _ (v : SetView) (set : IsStandingSet v) where
   -- the two agents of a wire are two

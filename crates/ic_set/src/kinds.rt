@@ -31,14 +31,14 @@ impl<L: LinkStore> BareSet<L> {
         requires there { (kind : AKind) × IsIn (record { id = agent; name = name_at self.now.names name.place; kind = kind }) self.now.set.agents }
         ensures { IsTrue result ↔ (consumed_times (name_at self.now.names name.place) (standing self.now.set) ≢ 0) }
     {
-        if self.roster.led_by(name).is_some() {
+        if self.roster.is_lead(name) {
             return true;
         }
         let Some(partner) = principal_end(self.store.far(Spot::Agent(agent, 0))) else {
             return false;
         };
         match self.roster.agent(partner) {
-            Some(entry) => self.roster.led_by(entry.name).is_some(),
+            Some(entry) => self.roster.is_lead(entry.name),
             None => false,
         }
     }

@@ -81,7 +81,7 @@ impl<L: LinkStore> BareSet<L> {
         ensures absent { IfNone result ((partner : AnAgentId) → AreJoined self.now.set agent partner → ⊥) }
     {
         let entry = self.roster.agent(agent)?;
-        if self.roster.led_by(entry.name).is_some() {
+        if self.roster.is_lead(entry.name) {
             return None;
         }
         Some(entry)

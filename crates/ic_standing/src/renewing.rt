@@ -70,7 +70,7 @@ fn without_fired<L: LinkStore>(
     let roster = set.roster();
     let mut fresh = empty_queue(alloc, set)?;
     for lead in queue.leads() {
-        if roster.led_by(lead.name).is_none() {
+        if !roster.is_lead(lead.name) {
             fresh.put(roster.names(), lead.name);
         }
     }

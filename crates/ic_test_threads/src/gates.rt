@@ -88,12 +88,23 @@ fn a_worker_goes_on_while_another_is_held(rt: HostRuntime) -> Result<(), Fail> {
     Ok(())
 }
 
-/// Puts so many agents in, none of whose principal ports meets another's.
-fn push_idle(text: &mut Vec<u8>, agents: usize) -> Result<(), Fail> {
-    for number in 0..agents / 3 {
-        let name = [b'a' + (number / 26 % 26) as u8, b'a' + (number % 26) as u8];
-        text.extend_from_slice(b"G(E,E) = ")?;
-        text.extend_from_slice(&name)?;
+/// Puts the name with this number in.
+fn push_name(text: &mut Vec<u8>, number: usize) -> Result<(), Fail> {
+    text.extend_from_slice(&[
+        b'a' + (number / 676 % 26) as u8,
+        b'a' + (number / 26 % 26) as u8,
+        b'a' + (number % 26) as u8,
+    ])?;
+    Ok(())
+}
+
+/// Puts so many agents in, none of whose principal ports meets another's, on wires with names from this number on.
+fn push_idle(text: &mut Vec<u8>, first: usize, agents: usize) -> Result<(), Fail> {
+    for number in first..first.saturating_add(agents / 2) {
+        text.extend_from_slice(b"G(E,")?;
+        push_name(text, number.saturating_add(1))?;
+        text.extend_from_slice(b") = ")?;
+        push_name(text, number)?;
         text.extend_from_slice(b";\n")?;
     }
     Ok(())
@@ -102,7 +113,7 @@ fn push_idle(text: &mut Vec<u8>, agents: usize) -> Result<(), Fail> {
 /// Four pairs that meet, of which the first and the third have leads that lie so far apart that one word stands for both.
 fn colliding(alloc: Global) -> Result<Vec<u8>, Fail> {
     let mut text = Vec::from_slice(alloc, b"E = E; E = E;\n")?;
-    push_idle(&mut text, 1_020)?;
+    push_idle(&mut text, 0, 1_020)?;
     text.extend_from_slice(b"E = E; E = E;\n")?;
     Ok(text)
 }
@@ -111,5 +122,22 @@ fn colliding(alloc: Global) -> Result<Vec<u8>, Fail> {
 fn a_worker_whose_word_is_busy_fires_what_others_have(rt: HostRuntime) -> Result<(), Fail> {
     let text = colliding(rt.alloc())?;
     assert!(rt; goes_on(&rt, rt.alloc(), &text, 2, 4)?);
+    Ok(())
+}
+
+/// Pairs that meet, whose leads lie so evenly that one word stands for each eighth one.
+fn even(alloc: Global) -> Result<Vec<u8>, Fail> {
+    let mut text = Vec::new(alloc);
+    for pair in 0..256 {
+        text.extend_from_slice(b"E = E;\n")?;
+        push_idle(&mut text, pair * 63, 126)?;
+    }
+    Ok(text)
+}
+
+#[test]
+fn a_worker_passes_busy_words_by_where_pairs_lie_evenly(rt: HostRuntime) -> Result<(), Fail> {
+    let text = even(rt.alloc())?;
+    assert!(rt; goes_on(&rt, rt.alloc(), &text, 224, 256)?);
     Ok(())
 }

@@ -1,3 +1,4 @@
+use crate::limits::MAX_OWN_BUSY;
 use crossbeam_deque::{Steal, Stealer, Worker as Deque};
 use ic_journal::ActivePair;
 use ic_name::AgentId;
@@ -13,16 +14,18 @@ pub(crate) enum Hint {
     Leads { from: usize, to: usize },
 }
 
-/// A hint of the worker's own, or one that is stolen from another; it looks twice before it finds none. Those of the others
-/// come first where the worker's last hint found its word busy.
+/// A hint of the worker's own, or one that is stolen from another; it looks twice before it finds none. So many in a row were busy,
+/// each of which went behind the others of its own: where these are all that it has, or several, those of other workers come first.
 pub(crate) fn find_hint<R: Wait>(
     rt: &R,
     own: &mut Deque<Hint>,
-    others: &[Stealer<Hint>],
-    others_first: bool,
+    all: &[Stealer<Hint>],
+    place: usize,
+    busy: u32,
 ) -> Option<Hint> {
+    let others_first = busy > 0 && own.len().min(MAX_OWN_BUSY) <= busy as usize;
     for _ in 0..2u32 {
-        let hint = look(rt, own, others, others_first);
+        let hint = look(rt, own, all, place, others_first);
         if hint.is_some() {
             return hint;
         }
@@ -34,22 +37,30 @@ pub(crate) fn find_hint<R: Wait>(
 fn look<R: Wait>(
     rt: &R,
     own: &mut Deque<Hint>,
-    others: &[Stealer<Hint>],
+    all: &[Stealer<Hint>],
+    place: usize,
     others_first: bool,
 ) -> Option<Hint> {
     if others_first {
-        return steal(rt, own, others).or_else(|| own.pop());
+        return steal(rt, own, all, place).or_else(|| own.pop());
     }
     let hint = own.pop();
     if hint.is_some() {
         return hint;
     }
-    steal(rt, own, others)
+    steal(rt, own, all, place)
 }
 
-/// A hint that is stolen from one of these, with others that come among the worker's own.
-fn steal<R: Wait>(rt: &R, own: &mut Deque<Hint>, others: &[Stealer<Hint>]) -> Option<Hint> {
-    for other in others {
+/// A hint that is stolen from another worker than the one whose hints have this place, with others that come among its own. The next
+/// one is looked at first, so that not all steal from one.
+fn steal<R: Wait>(
+    rt: &R,
+    own: &mut Deque<Hint>,
+    all: &[Stealer<Hint>],
+    place: usize,
+) -> Option<Hint> {
+    let behind = all.iter().skip(place).skip(1);
+    for other in behind.chain(all.iter().take(place)) {
         for _ in rt.forever() {
             match other.steal_batch_and_pop(own) {
                 Steal::Success(hint) => return Some(hint),

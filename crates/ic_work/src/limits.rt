@@ -1,11 +1,14 @@
 /// How many events a worker fires under one lock, at most.
 pub(crate) const MOST: usize = 4096;
 
-/// How many leads a block of first hints has, at most.
-pub(crate) const BLOCK: usize = 64;
+/// How many leads a block of first hints has, at most. It is odd.
+pub(crate) const BLOCK: usize = 63;
 
 /// After how many firings, each of a pair that the one before made active, a run goes on with its other hints.
 pub(crate) const IN_A_ROW: u32 = 16;
+
+/// How many of its own hints in a row may be busy before a worker looks at those of others first.
+pub(crate) const MAX_OWN_BUSY: usize = 4;
 
 /// How many busy hints in a row a worker passes by; at the next one it goes home. They stay among its own, where others find
 /// them.

@@ -86,10 +86,12 @@ fn deal(hints: &mut [Deque<Hint>], leads: usize) -> Result<(), AllocError>
     Ok(())
 }
 
-/// Puts the places from one to before another out as hints, in blocks, of which there are some even where the places are few. The
-/// first block goes last, so that the lead at the front of the queue stays there for long.
+/// Puts the places from one to before another out as hints, in blocks, of which there are some even where the places are few. Each
+/// has an odd number of leads, so that the first ones of blocks differ in their claim words as other leads do, however evenly
+/// a net has its pairs. The first block goes last, so that the lead at the front of the queue stays there for long.
 fn put_blocks(own: &mut Deque<Hint>, from: usize, to: usize) -> Result<(), AllocError> {
-    let size = (to.saturating_sub(from) / MIN_BLOCKS).clamp(1, BLOCK);
+    let half = (to.saturating_sub(from) / MIN_BLOCKS / 2).min(BLOCK / 2);
+    let size = 2 * half + 1;
     let second = from.saturating_add(size).min(to);
     for start in (second..to).step_by(size) {
         put_block(own, start, start.saturating_add(size).min(to))?;

@@ -80,7 +80,7 @@ fn useful(hints: usize, budget: u32) -> u32
 fn most_in_a_run(workers: u32, budget: u32) -> usize
     requires { (0 < workers) × (workers ≤ MAX_WORKERS) }
 {
-    (budget / (4 * workers)).clamp(1, MOST as u32) as usize
+    (budget / (2 * workers)).clamp(1, MOST as u32) as usize
 }
 
 /// The sweep over a ledger of its own, where these agents are the first hints.
@@ -124,6 +124,7 @@ fn sweep_as<B: Ledger + Send + Sync, G: Gate, R: Threads + Wait + Sync>(
     let first = Worker {
         number: 0,
         hints,
+        place: 0,
         near: VecDeque::new(alloc),
         seat,
         pass,
@@ -188,6 +189,7 @@ fn split_off_others<B: Ledger>(
         others.push_reserved(Worker {
             number,
             hints: own,
+            place: hints.len(),
             near: VecDeque::new(alloc),
             seat: claims.split(seat),
             pass,

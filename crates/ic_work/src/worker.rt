@@ -15,12 +15,14 @@ use std::collections::VecDeque;
 use std::sync::Wait;
 use std::sync::ledger::Ledger;
 
-/// A worker of a sweep, with what is its own: its number, hints of what may be active, a seat at the claims, and a pass
-/// for its calls on the bench.
+/// A worker of a sweep, with what is its own: the number that the gate knows it by, hints of what may be active, a seat at the
+/// claims, and a pass for its calls on the bench.
 #[derive(Drop)]
 pub(crate) struct Worker<B: Ledger> {
     pub number: usize,
     pub hints: Deque<Hint>,
+    /// The place of its hints among those of all.
+    pub place: usize,
     /// The agents that a run follows; none between runs.
     pub near: VecDeque<AgentId>,
     pub seat: Seat,
@@ -31,8 +33,8 @@ pub(crate) struct Worker<B: Ledger> {
 enum Then {
     /// It takes the next hint.
     GoOn,
-    /// Its hint's word was busy: it takes one of another worker's hints, if there is one.
-    TurnToOthers,
+    /// Its hint's word was busy: it takes another hint.
+    PassBy,
     /// There is no hint or no ticket, or all were asked to stop.
     GoHome,
 }
@@ -46,21 +48,22 @@ impl<B: Ledger> Worker<B> {
         let mut unused = Unused::none();
         let mut busy = 0u32;
         for _ in rt.forever() {
-            match self.turn(rt, floor, &mut unused, busy > 0) {
+            match self.turn(rt, floor, &mut unused, busy) {
                 Then::GoOn => busy = 0,
-                Then::TurnToOthers if busy < MAX_BUSY => busy += 1,
-                Then::TurnToOthers | Then::GoHome => return,
+                Then::PassBy if busy < MAX_BUSY => busy += 1,
+                Then::PassBy | Then::GoHome => return,
             }
         }
     }
 
-    /// Takes a hint, claims its word, and fires what it and the worker's own hints name. Tickets that aren't used are kept.
+    /// Takes a hint, claims its word, and fires what it and the worker's own hints name. Tickets that aren't used are kept. So many
+    /// hints in a row were busy before.
     fn turn<G: Gate, R: Wait>(
         &mut self,
         rt: &R,
         floor: &Floor<'_, B, G>,
         unused: &mut Unused,
-        others_first: bool,
+        busy: u32,
     ) -> Then
         requires { IsFree floor.now.claims.now.table self.old.seat }
         ensures { WorksOn unused.old.count self.old.seat self.old.pass unused.new.count self.new.seat self.new.pass }
@@ -68,7 +71,7 @@ impl<B: Ledger> Worker<B> {
         if floor.claims.is_stopped(&mut self.seat) {
             return Then::GoHome;
         }
-        let Some(found) = find_hint(rt, &mut self.hints, floor.hints, others_first) else {
+        let Some(found) = find_hint(rt, &mut self.hints, floor.hints, self.place, busy) else {
             return Then::GoHome;
         };
         let Some(agent) = agent_of(&mut self.hints, floor.leads, found) else {
@@ -78,7 +81,7 @@ impl<B: Ledger> Worker<B> {
             return self.follow(rt, floor, unused, agent);
         }
         let _ = self.hints.push(Hint::Agent(agent));
-        Then::TurnToOthers
+        Then::PassBy
     }
 
     /// Draws tickets and fires by them, beginning with a hint whose word the seat holds.

@@ -1,12 +1,12 @@
 use Rattle.std.proofs.Common.{◌≡◌, inl, inr, sym, ap, arith, ◌∙◌}
 use Rattle.std.proofs.lemmas.List.{take_all}
 use Rattle.ic_path.proofs.Picks.{none_in}
-use Rattle.ic_roster.proofs.Options.{at_none, at_some}
 use Rattle.ic_names.specs.Tables.{name_at}
+use Rattle.ic_set.proofs.Partners.{none_led}
 use Rattle.ic_set.proofs.QueuedLeads.{still_queued}
 use Rattle.ic_standing.proofs.LeadsLeft.{one_more_queued, pair_unled}
 use Rattle.ic_standing.proofs.renewing.without_fired.Goals as goal
-use Rattle.ic_standing.proofs.renewing.without_fired.Goals.{then-is_none, else-is_none}
+use Rattle.ic_standing.proofs.renewing.without_fired.Goals.{then-not-is_lead, else-not-is_lead}
 
 pub loop-lead-init : goal.loop-lead-init
 loop-lead-init g c =
@@ -25,11 +25,11 @@ loop-lead-preserved g c =
     let ns = c.args.set.now.names in
     let leads = c.leads-lead-items.result.now in
     let split = one_more_queued c.args.set.now leads c.loop-lead.lead-index c.loop-lead-test.true in
-    elim c.if-is_none.branch [
-      | then-is_none w ↦
+    elim c.if-not-is_lead.branch [
+      | then-not-is_lead w ↦
           let names : w.names.result.now ≡ ns = w.names.ensures ∙ c.roster-roster.ensures.names in
           let entered = w.put.ensures.entered in
-          let absent = at_none c.led_by.result w.if-is_none.ensures (rw (c.roster-roster.ensures.events, c.roster-roster.ensures.names) at c.led_by.ensures.absent) in
+          let absent = none_led _ _ c.is_lead.result (rw (c.roster-roster.ensures.events, c.roster-roster.ensures.names) at c.is_lead.ensures) w.if-not-is_lead.true in
           let before = i.room in
           let after = w.put.ensures.room in
           rw w.fresh-is (record {
@@ -44,15 +44,15 @@ loop-lead-preserved g c =
             ];
             room = omega arith;
           })
-      | else-is_none w ↦
+      | else-not-is_lead w ↦
           rw w.fresh-is (record {
             heap = i.heap;
             led = λ e p h q. elim (split e q) [
               | inl k ↦ i.led e p h k
               | inr last ↦ (
-                  let found = rw (c.roster-roster.ensures.events, c.roster-roster.ensures.names) at c.led_by.ensures.found in
-                  let x = at_some c.led_by.result w.if-is_none.ensures found in
-                  absurd (pair_unled c.args.set.now e p h last.0.0 (sym last.0.1.named) x.1.0 x.1.1 (x.1.3 ∙ sym (ap (name_at ns) last.1))))
+                  let told = rw (c.roster-roster.ensures.events, c.roster-roster.ensures.names) at c.is_lead.ensures in
+                  let x = told.0 w.if-not-is_lead.false in
+                  absurd (pair_unled c.args.set.now e p h last.0.0 (sym last.0.1.named) x.0 x.1 (x.2 ∙ sym (ap (name_at ns) last.1))))
             ];
             unled = i.unled;
             room = i.room;
