@@ -1,4 +1,4 @@
-use crate::limits::MAX_OWN_BUSY;
+use crate::limits::BUSY_BEFORE_OTHERS;
 use crossbeam_deque::{Steal, Stealer, Worker as Deque};
 use ic_journal::ActivePair;
 use ic_name::AgentId;
@@ -14,62 +14,56 @@ pub(crate) enum Hint {
     Leads { from: usize, to: usize },
 }
 
-/// A hint of the worker's own, or one that is stolen from another; it looks twice before it finds none. So many in a row were busy,
-/// each of which went behind the others of its own: where these are all that it has, or several, those of other workers come first.
-pub(crate) fn find_hint<R: Wait>(
-    rt: &R,
-    own: &mut Deque<Hint>,
-    all: &[Stealer<Hint>],
-    place: usize,
-    busy: u32,
-) -> Option<Hint> {
-    let others_first = busy > 0 && own.len().min(MAX_OWN_BUSY) <= busy as usize;
-    for _ in 0..2u32 {
-        let hint = look(rt, own, all, place, others_first);
+/// Where a worker looks for hints: among its own, and among those of all, of which its own have this place.
+#[derive(Drop)]
+pub(crate) struct Sources<'a> {
+    pub own: &'a mut Deque<Hint>,
+    pub all: &'a [Stealer<Hint>],
+    pub place: usize,
+}
+
+impl Sources<'_> {
+    /// A hint of the worker's own, or one that is stolen from another; it looks twice before it finds none. So many in a row were
+    /// busy, each of which went behind the others of its own: where these are all that it has, or `BUSY_BEFORE_OTHERS`, those of
+    /// other workers come first.
+    pub fn find<R: Wait>(&mut self, rt: &R, busy: u32) -> Option<Hint> {
+        let others_first = busy > 0 && self.own.len().min(BUSY_BEFORE_OTHERS) <= busy as usize;
+        for _ in 0..2u32 {
+            let hint = self.look(rt, others_first);
+            if hint.is_some() {
+                return hint;
+            }
+        }
+        None
+    }
+
+    /// A hint, if one is found at this moment.
+    fn look<R: Wait>(&mut self, rt: &R, others_first: bool) -> Option<Hint> {
+        if others_first {
+            return self.steal(rt).or_else(|| self.own.pop());
+        }
+        let hint = self.own.pop();
         if hint.is_some() {
             return hint;
         }
+        self.steal(rt)
     }
-    None
-}
 
-/// A hint of these, if one is found at this moment.
-fn look<R: Wait>(
-    rt: &R,
-    own: &mut Deque<Hint>,
-    all: &[Stealer<Hint>],
-    place: usize,
-    others_first: bool,
-) -> Option<Hint> {
-    if others_first {
-        return steal(rt, own, all, place).or_else(|| own.pop());
-    }
-    let hint = own.pop();
-    if hint.is_some() {
-        return hint;
-    }
-    steal(rt, own, all, place)
-}
-
-/// A hint that is stolen from another worker than the one whose hints have this place, with others that come among its own. The next
-/// one is looked at first, so that not all steal from one.
-fn steal<R: Wait>(
-    rt: &R,
-    own: &mut Deque<Hint>,
-    all: &[Stealer<Hint>],
-    place: usize,
-) -> Option<Hint> {
-    let behind = all.iter().skip(place).skip(1);
-    for other in behind.chain(all.iter().take(place)) {
-        for _ in rt.forever() {
-            match other.steal_batch_and_pop(own) {
-                Steal::Success(hint) => return Some(hint),
-                Steal::Empty => break,
-                Steal::Retry => {}
+    /// A hint that is stolen from another worker, with others that come among its own. The next worker is looked at first, so that
+    /// not all steal from one.
+    fn steal<R: Wait>(&mut self, rt: &R) -> Option<Hint> {
+        let behind = self.all.iter().skip(self.place).skip(1);
+        for other in behind.chain(self.all.iter().take(self.place)) {
+            for _ in rt.forever() {
+                match other.steal_batch_and_pop(self.own) {
+                    Steal::Success(hint) => return Some(hint),
+                    Steal::Empty => break,
+                    Steal::Retry => {}
+                }
             }
         }
+        None
     }
-    None
 }
 
 /// The agent of a hint, if it tells one: of a block the first one, and the others go back among the worker's own hints.

@@ -7,8 +7,9 @@ pub(crate) const BLOCK: usize = 63;
 /// After how many firings, each of a pair that the one before made active, a run goes on with its other hints.
 pub(crate) const IN_A_ROW: u32 = 16;
 
-/// How many of its own hints in a row may be busy before a worker looks at those of others first.
-pub(crate) const MAX_OWN_BUSY: usize = 4;
+/// After how many busy hints in a row, its own or stolen, a worker looks at those of others before its own. Where it has fewer
+/// hints, it does so after as many as it has.
+pub(crate) const BUSY_BEFORE_OTHERS: usize = 4;
 
 /// How many busy hints in a row a worker passes by; at the next one it goes home. They stay among its own, where others find
 /// them.

@@ -3,7 +3,7 @@ ghost use Rattle.ic_work.specs.Workers.{DrawsMore, IsFree, Keeps, MayFire, Works
 
 use crate::floor::Floor;
 use crate::hand::{Hand, InHand, claim};
-use crate::hints::{Hint, agent_of, find_hint, gather, put_back};
+use crate::hints::{Hint, Sources, agent_of, gather, put_back};
 use crate::limits::{MAX_BUSY, MOST};
 use crate::tickets::Unused;
 use crossbeam_deque::Worker as Deque;
@@ -71,7 +71,12 @@ impl<B: Ledger> Worker<B> {
         if floor.claims.is_stopped(&mut self.seat) {
             return Then::GoHome;
         }
-        let Some(found) = find_hint(rt, &mut self.hints, floor.hints, self.place, busy) else {
+        let mut sources = Sources {
+            own: &mut self.hints,
+            all: floor.hints,
+            place: self.place,
+        };
+        let Some(found) = sources.find(rt, busy) else {
             return Then::GoHome;
         };
         let Some(agent) = agent_of(&mut self.hints, floor.leads, found) else {
