@@ -13,3 +13,4 @@ pub mod FiredLines
 pub mod LedEvents
 pub mod Reversed
 pub mod ClearedBenches
+pub mod FirstElements

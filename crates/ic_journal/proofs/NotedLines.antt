@@ -1,7 +1,7 @@
 -- Kept lines as they are seen.
-use Rattle.std.proofs.Common.{◌≡◌, ◌≢◌, zero, suc, ℕ, List, [], ◌∷◌, ◌++◌, length, map, option_map, slice_get, get_or, None, Some, true, false, ltb, ltb-true, ltb-false, refl, sym, ap, subst, arith, ◌∙◌, All}
-use Rattle.std.proofs.lemmas.List.{map-append, get_or_push, get_or_append_left}
-use Rattle.std.proofs.lemmas.Option.{same_Some, slice_get-map, slice_get_read, slice_get_past, slice_get_within, get_or_from_slice_get}
+use Rattle.std.proofs.Common.{◌≡◌, ◌≢◌, zero, suc, ℕ, List, [], ◌∷◌, ◌++◌, length, map, option_map, slice_get, get_or, Option, None, Some, true, false, ltb, ltb-true, ltb-false, refl, sym, ap, subst, arith, ◌∙◌, ◌<◌, ◌↔◌, All}
+use Rattle.std.proofs.lemmas.List.{map-append, length-map, get_or_push, get_or_append_left}
+use Rattle.std.proofs.lemmas.Option.{same_Some, slice_get-get_or, slice_get-map, slice_get_read, slice_get_past, slice_get_within, get_or_from_slice_get}
 use Rattle.ic_name.specs.Names.{Name}
 use Rattle.ic_name.specs.Events.{Event}
 use Rattle.ic_roster.specs.declared.interaction.Interaction.{Interaction}
@@ -90,3 +90,14 @@ pub inactive_noted : (inactive : List Event) (ls : List KeptLine) (r : Event) (p
 inactive_noted inactive ls r place placed count =
     let last : inactive_at (inactive ++ r ∷ []) place ≡ r = get_or_push inactive r _ place count in
     map-append (line_of (inactive ++ r ∷ [])) ls (kept.NotActive place ∷ []) ∙ ap (λ xs. xs ++ NotActive (inactive_at (inactive ++ r ∷ []) place) ∷ []) (lines_still_noted inactive (r ∷ []) ls placed) ∙ ap (λ x. map (line_of inactive) ls ++ NotActive x ∷ []) last
+
+-- a line that is read within a history stands at its place
+pub line_within : (inactive : List Event) (ls : List KeptLine) (k : ℕ) (l : KeptLine) → k < length (map (line_of inactive) ls) → l ≡ get_or ls k l → slice_get ls k ≡ Some l
+line_within inactive ls k l within is =
+    let count = length-map ls (line_of inactive) in
+    let low : k < length ls = omega (arith, count, within) in
+    slice_get-get_or ls k l low ∙ ap Some (sym is)
+
+-- what stands at two places is one where what was found there is
+pub found_same : {A P : Type 0} (x y : Option A) (a b : A) → x ≡ Some a → y ≡ Some b → P ↔ (a ≡ b) → P ↔ (x ≡ y)
+found_same x y a b at_x at_y same = (λ p. at_x ∙ ap Some (same.0 p) ∙ sym at_y, λ e. same.1 (same_Some a b (sym at_x ∙ e ∙ at_y)))

@@ -9,6 +9,7 @@ ghost use Rattle.ic_journal.specs.Notes.{noted_of, IsOfAPair};
 
 use crate::kept::KeptLine;
 use crate::notes::PairNote;
+use crate::now_and_then::NowAndThen;
 use crate::proposal::Proposal;
 use ic_name::limits::MAX_LINES;
 use ic_name::{AgentName, Call, EventId, Line, Reply};
@@ -74,6 +75,37 @@ impl History {
             Some(line) => { line.has_call(&self.inactive, names, call) && line.reply() == reply }
             None => false,
         }
+    }
+
+    /// The lines once more, with room for no others. At an error memory ran out.
+    pub fn copy(&self, alloc: Global) -> Result<History, AllocError>
+        ensures { IfOk result (λ copy. copy.lines ≡ self.now.lines) }
+    {
+        let mut inactive = Vec::with_capacity(alloc, self.inactive.len())?;
+        for proposal in &self.inactive {
+            inactive.push(proposal.copy()?)?;
+        }
+        Ok(History {
+            lines: Vec::from_slice(alloc, &self.lines)?,
+            inactive,
+        })
+    }
+
+    /// Whether the line with this number is that of an earlier history. It takes no memory.
+    pub fn is_line_of(&self, names: &NowAndThen<'_>, earlier: &History, number: usize) -> bool
+        requires now { AreLinesNamed names.now.table.now self.now.lines }
+        requires then { AreLinesNamed names.now.known.now earlier.now.lines }
+        requires within { number < length self.now.lines }
+        requires within_then { number < length earlier.now.lines }
+        ensures { IsTrue result ↔ (slice_get (map (line_in names.now.table.now) self.now.lines) number ≡ slice_get (map (line_in names.now.known.now) earlier.now.lines) number) }
+    {
+        let line = &self.lines[number];
+        line.is_same(
+            &self.inactive,
+            names,
+            &earlier.lines[number],
+            &earlier.inactive,
+        )
     }
 
     /// The note of the line with this number; `None` where there is none, or it isn't a call to fire an active pair.

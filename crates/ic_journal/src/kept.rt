@@ -8,6 +8,7 @@ ghost use Rattle.ic_journal.specs.Notes.{noted_of, IsOfAPair};
 
 use crate::limit::Limit;
 use crate::notes::PairNote;
+use crate::now_and_then::NowAndThen;
 use crate::proposal::Proposal;
 use ic_name::{Call, Event, Kind, Line, Reply};
 use ic_names::{NameId, NameTable};
@@ -119,6 +120,53 @@ impl KeptLine {
                 KeptLine::Undone(line) | KeptLine::NotStanding(line) | KeptLine::Held { line, .. },
                 Call::Undo(another),
             ) => line == another,
+            _ => false,
+        }
+    }
+
+    /// Whether it tells the line that another one told then, each beside its list of proposals. It takes no memory.
+    pub fn is_same(
+        &self,
+        inactive: &[Proposal],
+        names: &NowAndThen<'_>,
+        then: &KeptLine,
+        inactive_then: &[Proposal],
+    ) -> bool
+        requires placed { IsPlaced inactive.now self.now }
+        requires placed_then { IsPlaced inactive_then.now then.now }
+        requires named { IsLineNamed names.now.table.now (line_of inactive.now self.now) }
+        requires named_then { IsLineNamed names.now.known.now (line_of inactive_then.now then.now) }
+        ensures { IsTrue result ↔ (line_in names.now.table.now (line_of inactive.now self.now) ≡ line_in names.now.known.now (line_of inactive_then.now then.now)) }
+    {
+        match (self, then) {
+            (KeptLine::Fired(kinds, places), KeptLine::Fired(kinds_then, places_then)) =>
+                names.is_event(
+                    interaction(*kinds, *places),
+                    interaction(*kinds_then, *places_then),
+                ),
+            (
+                KeptLine::Limited(limit, kinds, places),
+                KeptLine::Limited(limit_then, kinds_then, places_then),
+            ) => {
+                limit == limit_then
+                    && names.is_event(
+                        interaction(*kinds, *places),
+                        interaction(*kinds_then, *places_then),
+                    )
+            }
+            (KeptLine::NotActive(place), KeptLine::NotActive(place_then)) => {
+                let event = inactive[*place as usize].event();
+                event.is(inactive_then[*place_then as usize].event())
+            }
+            (KeptLine::Undone(line), KeptLine::Undone(line_then))
+            | (KeptLine::NotStanding(line), KeptLine::NotStanding(line_then)) => line == line_then,
+            (
+                KeptLine::Held { line, by },
+                KeptLine::Held {
+                    line: line_then,
+                    by: by_then,
+                },
+            ) => line == line_then && by == by_then,
             _ => false,
         }
     }

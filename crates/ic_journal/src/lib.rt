@@ -4,6 +4,7 @@
 
 pub mod bench;
 pub mod changed;
+pub mod earlier;
 pub mod faults;
 mod firing;
 mod history;
@@ -12,10 +13,12 @@ pub mod laws;
 mod limit;
 pub mod lines;
 pub mod notes;
+mod now_and_then;
 pub mod proposal;
 pub mod reading;
 
 pub use bench::Bench;
+pub use earlier::EarlierLines;
 pub use faults::{FireFault, PairFault, ProposeFault, ReserveFault, UndoFault};
 pub use ic_link::LinkStore;
 pub use ic_set::{ActivePair, Fired};

@@ -1,7 +1,8 @@
-ghost use Rattle.std.specs.Prelude.{◌≡◌, ◌≢◌, ◌↔◌, IsSome, IfSome};
+ghost use Rattle.std.specs.Prelude.{◌≡◌, ◌≢◌, ◌↔◌, IsSome, IfSome, IfOk};
 ghost use Rattle.ic_name.specs.Events.{event_of};
 
 use ic_name::{AgentName, Event, Kind};
+use std::alloc::AllocError;
 use std::marker::Model;
 
 /// An event that is to be fired. It is made of names and kinds alone, so a thread can make it before it takes a lock.
@@ -28,6 +29,15 @@ impl Proposal {
             Some(event) => Some(Proposal { event }),
             None => None,
         }
+    }
+
+    /// The proposal once more. At an error memory ran out.
+    pub fn copy(&self) -> Result<Proposal, AllocError>
+        ensures { IfOk result (λ copy. copy ≡ self.now) }
+    {
+        Ok(Proposal {
+            event: self.event.copy()?,
+        })
     }
 
     /// The event.

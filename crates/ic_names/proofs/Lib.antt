@@ -12,3 +12,4 @@ pub mod Fronted
 pub mod DigitOrders
 pub mod Growing
 pub mod SameNames
+pub mod KnownOrigins

@@ -2,3 +2,4 @@ pub mod Keys
 pub mod Blocks
 pub mod Tables
 pub mod Rows
+pub mod Known

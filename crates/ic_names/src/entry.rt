@@ -5,7 +5,7 @@ use crate::key::NameKey;
 use ic_slots::OptionalSlot;
 
 /// Where a name comes from: a start agent by its number, or a parent by its place, and the digit of the child.
-#[derive(Clone, Copy)]
+#[derive(Clone, Copy, PartialEq, Eq)]
 pub enum Origin {
     Start(u16),
     Child { digit: u8, parent: u32 },

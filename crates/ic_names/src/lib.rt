@@ -4,9 +4,11 @@
 mod block;
 mod entry;
 mod key;
+pub mod known;
 pub mod laws;
 mod rows;
 pub mod table;
 
 pub use key::NameKey;
+pub use known::KnownNames;
 pub use table::{NameId, NameTable};

@@ -1,9 +1,10 @@
-ghost use Rattle.std.specs.Prelude.{◌≡◌, ◌<◌, ◌↔◌, ◌++◌, ◌∷◌, [], length, slice_get, Some, None, IsTrue, IfSome, IfNone, IfOk, IsErrOf, OnErr};
+ghost use Rattle.std.specs.Prelude.{◌≡◌, ◌<◌, ◌≤◌, ◌↔◌, ◌++◌, ◌∷◌, [], ℕ, length, slice_get, Some, None, IsTrue, IfSome, IfNone, IfOk, IsErrOf, OnErr};
 ghost use Rattle.ic_name.specs.Names.{depth as depth_of, name_cmp, child_name};
 ghost use Rattle.ic_names.specs.Keys.{key_of};
 ghost use Rattle.ic_names.specs.Tables.{name_at, StandsAt, IsAbsent, IsTable, Enters, GrowsUpTo};
 
 use crate::key::NameKey;
+use crate::known::KnownNames;
 use crate::rows::Rows;
 use ic_name::limits::MAX_DEPTH;
 use ic_name::{AgentName, ChildFault};
@@ -183,5 +184,34 @@ impl NameTable {
             return Ordering::Equal;
         }
         self.rows.digit_order(a.place, b.place)
+    }
+
+    /// The names that the table has now. At an error memory ran out.
+    pub fn known(&self, alloc: Global) -> Result<KnownNames, AllocError>
+        ensures { IfOk result (λ known. known ≡ self.now) }
+    {
+        KnownNames::of(&self.rows, alloc)
+    }
+
+    /// How many places from the first one on have the same names as then, in time that grows as their number. It takes no
+    /// memory.
+    pub fn same_as(&self, known: &KnownNames) -> usize
+        ensures here { result ≤ length self.now }
+        ensures then { result ≤ length known.now }
+        ensures same { (k : ℕ) → k < result → name_at self.now k ≡ name_at known.now k }
+    {
+        known.same(&self.rows)
+    }
+
+    /// Whether the name at a place is that at another place then, where so many places from the first one on have the same
+    /// names: in constant time where the place then is one of these, and else in time that grows as the depth. It takes no
+    /// memory.
+    pub fn is_known(&self, id: NameId, known: &KnownNames, then: NameId, same: usize) -> bool
+        requires here { id.place < length self.now }
+        requires then { then.place < length known.now }
+        requires same { (k : ℕ) → k < same → name_at self.now k ≡ name_at known.now k }
+        ensures { IsTrue result ↔ (name_at self.now id.place ≡ name_at known.now then.place) }
+    {
+        known.is(then.place, &self.rows, id.place, same)
     }
 }

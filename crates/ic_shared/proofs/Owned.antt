@@ -4,20 +4,11 @@ use Rattle.std.specs.Prelude.{slice_get, slice_index, slice_set, nat_eq, replica
 use mathlib.Core.Logic.{dite}
 use native.Mathlib.Decide.{ℕ_discrete, dec_lt}
 use Rattle.ic_name.specs.declared.lines.Line.{Line}
+use Rattle.ic_journal.proofs.FirstElements.{take_next}
 use Rattle.ic_shared.specs.Passes.{Told, IsFor}
 use Rattle.ic_shared.specs.Settles.{owned, AreFor, Settles, SettlesTo, NumberAt, IsNext, WrongAt, differs, early, twice, unclaimed}
 
 module _ {A : Type 0} where
-  -- so many elements and the next one
-  take_snoc : (xs : List A) (i : ℕ) (x : A) → slice_get xs i ≡ Some x → take (suc i) xs ≡ take i xs ++ x ∷ []
-  take_snoc [] i x e = absurd (cc (e))
-  take_snoc (y ∷ ys) zero x e = let s : y ≡ x = cc in λ k. s k ∷ []
-  take_snoc (y ∷ ys) (suc i) x e = ap (λ zs. y ∷ zs) (take_snoc ys i x e)
-
-  -- the same by one more
-  take_next : (xs : List A) (i : ℕ) (x : A) → slice_get xs i ≡ Some x → take (i + 1) xs ≡ take i xs ++ x ∷ []
-  take_next xs i x e = ap (λ n. take n xs) (add-one i) ∙ take_snoc xs i x e
-
   -- an element that stands at a place is within the list
   pub get_length : (xs : List A) (i : ℕ) (x : A) → slice_get xs i ≡ Some x → i < length xs
   get_length [] i x e = absurd (cc (e))
@@ -185,15 +176,6 @@ ends_more columns cursors b xs old there here q ys lt there' = dite (ℕ_discret
     let same : xs ≡ ys = (let x : Some xs ≡ Some ys = sym there ∙ ap (slice_get columns) (sym e) ∙ there' in cc) in
     subst (λ (z : ℕ × List Told). length z.1 ≤ slice_index cursors z.0) (λ i. (sym e i, same i)) here)
     (λ (ne : q ≢ b). old q ys (omega arith) there')
-
--- two lists with the same first elements and the same next one
-take_both : {A : Type 0} (xs ys : List A) (k : ℕ) (l : A) → take k xs ≡ take k ys → slice_get xs k ≡ Some l → slice_get ys k ≡ Some l → take (k + 1) xs ≡ take (k + 1) ys
-take_both xs ys k l e x y = take_next xs k l x ∙ ap (λ zs. zs ++ l ∷ []) e ∙ sym (take_next ys k l y)
-
--- the same where what stands at the next place is the same
-pub take_same : {A : Type 0} (xs ys : List A) (k : ℕ) → take k xs ≡ take k ys → k < length ys → slice_get xs k ≡ slice_get ys k → take (k + 1) xs ≡ take (k + 1) ys
-take_same xs [] k e h s = absurd (omega arith)
-take_same xs (y ∷ ys) k e h s = let t = get_at (y ∷ ys) k y (get_or (y ∷ ys) k y) h refl in take_both xs (y ∷ ys) k (get_or (y ∷ ys) k y) e (s ∙ t) t
 
 -- each line of a column has a number of these lines
 owned_below : (b n : ℕ) (os : List ℕ) (ls : List Line) (i : ℕ) (r : ℕ × Line) → length os ≡ length ls → slice_get (owned b n os ls) i ≡ Some r → r.0 < n + length ls

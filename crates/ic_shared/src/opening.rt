@@ -1,7 +1,7 @@
 ghost use Rattle.std.specs.Prelude.{◌≡◌, ◌+◌, ◌<◌, ◌≤◌};
 ghost use Rattle.ic_shared.specs.declared.limits.TheConstants.{MAX_PASSES};
 
-use ic_name::Line;
+use ic_journal::EarlierLines;
 use ic_start::Start;
 use std::marker::{Model, PhantomData};
 use std::sync::ledger::{Ledger, Share};
@@ -33,7 +33,7 @@ impl<B: Ledger> Count<B> {
 #[derive(Drop)]
 pub struct Opening<B: Ledger> {
     pub(crate) start: Start,
-    pub(crate) lines: Vec<Line>,
+    pub(crate) lines: EarlierLines,
     pub(crate) count: Count<B>,
     pub(crate) share: Share<B>,
 }
@@ -44,7 +44,7 @@ impl<B: Ledger> Model for Opening<B> {
 
     ghost Value = { OpeningView };
 
-    ghost view = { λ o. opened o.start o.lines.items o.count.passes };
+    ghost view = { λ o. opened o.start o.lines o.count.passes };
 
     ghost invariant = { λ o. (o.share.parts ≡ 1) × (o.share.amount ≡ 0) };
 }

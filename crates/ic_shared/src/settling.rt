@@ -1,5 +1,5 @@
 // What is compared once all threads are done.
-ghost use Rattle.std.specs.Prelude.{◌≡◌, ◌≢◌, ◌+◌, ◌^◌, ◌++◌, ◌<◌, ◌≤◌, length, drop, slice_get, IfOk, IfErr, IfSome, IfNone};
+ghost use Rattle.std.specs.Prelude.{◌≡◌, ◌+◌, ◌<◌, length, IfOk, IfErr};
 ghost use Rattle.ic_shared.specs.Passes.{added_by_all};
 ghost use Rattle.ic_shared.specs.Agrees.{Agrees};
 ghost use Rattle.ic_shared.specs.Faults.{FaultIs};
@@ -10,8 +10,6 @@ use crate::merging::merge;
 use crate::opening::Opening;
 use crate::passes::Pass;
 use crate::shared::Shared;
-use ic_journal::{Bench, Store};
-use ic_name::Line;
 use std::sync::ledger::{Book, Ledger, Share};
 
 /// Lends the part of each pass to `all` in turn, and reads the book once every part is there. It shows that the callers
@@ -38,22 +36,6 @@ fn audit<B: Ledger>(book: &mut Book<B>, all: &mut Share<B>, passes: &mut [Pass<B
             all.give(share, 1, count);
         }
     }
-}
-
-/// The first line of the opening that isn't the history's.
-fn first_other(bench: &Bench<Store>, lines: &[Line]) -> Option<u32>
-    requires within { length lines.now ≤ length bench.now.lines }
-    requires few { length lines.now < 2 ^ 32 }
-    ensures none { IfNone result (bench.now.lines ≡ lines.now ++ drop (length lines.now) bench.now.lines) }
-    ensures some { IfSome result (λ k. (k < length lines.now) × (slice_get bench.now.lines k ≢ slice_get lines.now k)) }
-{
-    for k in 0..lines.len() {
-        let line = &lines[k];
-        if !bench.line_is(k as u32, &line.call, line.reply) {
-            return Some(k as u32);
-        }
-    }
-    None
 }
 
 /// Compares the opening and all passes with the history, once nobody shares the bench any more. It takes no memory.
@@ -94,7 +76,7 @@ pub fn settle<B: Ledger>(
     if base as usize != lines.len() {
         return Err(SettleFault::Mismatch(number, bench));
     }
-    match first_other(&bench, lines.as_slice()) {
+    match bench.first_other(&lines) {
         Some(other) => return Err(SettleFault::Mismatch(other, bench)),
         None => {}
     }

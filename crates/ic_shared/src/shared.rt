@@ -41,7 +41,7 @@ pub fn share<B: Ledger>(
     let Ok(start) = bench.start().copy() else {
         return Err(bench);
     };
-    let Ok(lines) = bench.history() else {
+    let Ok(lines) = bench.lines_so_far() else {
         return Err(bench);
     };
     let Ok(mut all) = Vec::with_capacity(alloc, passes as usize) else {

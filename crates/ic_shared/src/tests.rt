@@ -14,17 +14,22 @@ use std::test::Fail;
 /// An event that never stood.
 const NOTHING: EventId = EventId { slot: 0, line: 0 };
 
+/// Another one.
+const NOTHING_ELSE: EventId = EventId { slot: 0, line: 1 };
+
 /// The start without agents.
 fn empty_start(alloc: Global, profile: Profile) -> Result<Start, AllocError> {
     let (links, names) = (StartLinks::new(alloc), Texts::new(alloc));
     Start::make(alloc, Vec::new(alloc), links, names, profile)
 }
 
-/// A bench with one line in its history: an undo that was refused.
-fn begun(alloc: Global) -> Option<Bench<Store>> {
+/// A bench with a line in its history for each of these undos, all of which were refused.
+fn begun(alloc: Global, undos: &[EventId]) -> Option<Bench<Store>> {
     let start = empty_start(alloc, Profile::Classic).ok()?;
     let mut bench = Bench::over(alloc, start).ok()?;
-    let _ = bench.undo(NOTHING);
+    for id in undos {
+        let _ = bench.undo(*id);
+    }
     Some(bench)
 }
 
@@ -33,6 +38,7 @@ fn begun(alloc: Global) -> Option<Bench<Store>> {
 enum Change {
     OtherReply,
     OtherStart,
+    OtherLine,
     DroppedLine,
 }
 
@@ -46,7 +52,10 @@ fn change_one<B: Ledger>(
     match change {
         Change::OtherReply => pass.receipts.last_mut()?.reply = Reply::Undone,
         Change::OtherStart => opening.start = empty_start(alloc, Profile::Straight).ok()?,
-        Change::DroppedLine => opening.lines.clear(),
+        Change::OtherLine => {
+            opening.lines = begun(alloc, &[NOTHING_ELSE])?.lines_so_far().ok()?;
+        }
+        Change::DroppedLine => opening.lines = begun(alloc, &[])?.lines_so_far().ok()?,
     }
     Some(())
 }
@@ -89,7 +98,7 @@ fn mismatch_after<B: Ledger, R: Wait>(
 }
 
 fn mismatch<R: Wait>(rt: &R, alloc: Global, change: Change) -> Option<(u32, u32)> {
-    let bench = begun(alloc)?;
+    let bench = begun(alloc, &[NOTHING])?;
     mismatch_after::<Brand, R>(rt, alloc, bench, Blank::new(3), change)
 }
 
@@ -98,6 +107,7 @@ fn a_change_is_found(rt: HostRuntime) -> Result<(), Fail> {
     for (change, at) in [
         (Change::OtherReply, 2),
         (Change::OtherStart, 3),
+        (Change::OtherLine, 0),
         (Change::DroppedLine, 3),
     ] {
         assert_eq!(rt; mismatch(&rt, rt.alloc(), change), Some((at, 3)));

@@ -22,7 +22,7 @@ pub fn bench_over(alloc: Global, text: &[u8]) -> Option<Bench<Store>> {
 }
 
 /// A proposal that the start agents with these numbers meet.
-fn proposal(alloc: Global, gamma: u16, delta: u16) -> Option<Proposal> {
+pub fn proposal(alloc: Global, gamma: u16, delta: u16) -> Option<Proposal> {
     let left = AgentName::start(alloc, gamma)?;
     let right = AgentName::start(alloc, delta)?;
     Proposal::make(left, Kind::Gamma, right, Kind::Delta)

@@ -6,6 +6,8 @@ mod benches;
 #[cfg(test)]
 mod claims;
 #[cfg(test)]
+mod earlier;
+#[cfg(test)]
 mod gates;
 #[cfg(test)]
 mod missing;

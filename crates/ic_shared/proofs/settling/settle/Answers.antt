@@ -14,12 +14,12 @@ returns-in-Ok-clause-ok g c =
     let same = ap added_by_all c.as_mut_slice.ensures.value in
     let kept = c.into_locked-bench.result.counted in
     let number = c.lines-number.ensures in
-    agrees c.args.opening c.args.passes.items c.as_slice-2.result.now c.into_locked-bench.result.bench c.as_slice.result.now c.into_locked-bench.result.base c.lines-number.result
-    (c.as_slice-2.ensures.value ∙ put_back c.audit.new.passes c.args.passes.items c.args.passes.len (c.audit.ensures.passes ∙ c.as_mut_slice.ensures.value) len)
+    agrees c.args.opening c.args.passes.items c.as_slice.result.now c.into_locked-bench.result.bench c.opening.inside.lines c.into_locked-bench.result.base c.lines-number.result
+    (c.as_slice.ensures.value ∙ put_back c.audit.new.passes c.args.passes.items c.args.passes.len (c.audit.ensures.passes ∙ c.as_mut_slice.ensures.value) len)
     (len ∙ sym c.len.ensures ∙ c.if-len-count.false ∙ ap (λ o. o.passes) v)
     (sym c.start-2.ensures ∙ c.if-not-same.ensures.0 refl ∙ ap (λ o. o.start) v)
-    (c.as_slice.ensures.value ∙ items)
-    (c.if-base-len.false ∙ c.len-2.ensures ∙ sym c.as_slice.ensures.len)
+    items
+    (c.if-base-len.false ∙ c.len-2.ensures)
     c.in-None.ensures.none
     c.lines-number.ensures
     (omega arith)
@@ -34,11 +34,11 @@ returns-in-Some-clause-err g c =
     let none = c.opening.invariant.1 in
     let same = ap added_by_all c.as_mut_slice.ensures.value in
     let kept = c.into_locked-bench.result.counted in
-    line_false_at c.args.opening c.args.passes.items c.into_locked-bench.result.bench c.as_slice.result.now c.into_locked-bench.result.base c.in-Some.other
+    line_false_at c.args.opening c.args.passes.items c.into_locked-bench.result.bench c.opening.inside.lines c.into_locked-bench.result.base c.in-Some.other
     (len ∙ sym c.len.ensures ∙ c.if-len-count.false ∙ ap (λ o. o.passes) v)
     (sym c.start-2.ensures ∙ c.if-not-same.ensures.0 refl ∙ ap (λ o. o.start) v)
-    (c.as_slice.ensures.value ∙ items)
-    (c.if-base-len.false ∙ c.len-2.ensures ∙ sym c.as_slice.ensures.len)
+    items
+    (c.if-base-len.false ∙ c.len-2.ensures)
     (omega arith)
     c.in-Some.ensures.some
 
@@ -51,14 +51,14 @@ returns-clause-err g c =
     let none = c.opening.invariant.1 in
     let same = ap added_by_all c.as_mut_slice.ensures.value in
     let kept = c.into_locked-bench.result.counted in
-    false_at c.args.opening c.args.passes.items c.into_locked-bench.result.bench c.as_slice.result.now c.into_locked-bench.result.base c.in-Err.wrong
+    false_at c.args.opening c.args.passes.items c.into_locked-bench.result.bench c.opening.inside.lines c.into_locked-bench.result.base c.in-Err.wrong
     (len ∙ sym c.len.ensures ∙ c.if-len-count.false ∙ ap (λ o. o.passes) v)
     (sym c.start-2.ensures ∙ c.if-not-same.ensures.0 refl ∙ ap (λ o. o.start) v)
-    (c.as_slice.ensures.value ∙ items)
-    (c.if-base-len.false ∙ c.len-2.ensures ∙ sym c.as_slice.ensures.len)
+    items
+    (c.if-base-len.false ∙ c.len-2.ensures)
     (omega arith)
-    c.as_slice-2.result.now
-    (c.as_slice-2.ensures.value ∙ put_back c.audit.new.passes c.args.passes.items c.args.passes.len (c.audit.ensures.passes ∙ c.as_mut_slice.ensures.value) len)
+    c.as_slice.result.now
+    (c.as_slice.ensures.value ∙ put_back c.audit.new.passes c.args.passes.items c.args.passes.len (c.audit.ensures.passes ∙ c.as_mut_slice.ensures.value) len)
     c.in-Err.ensures.err
 
 pub returns-then-not-same-clause-err : goal.returns-then-not-same-clause-err
