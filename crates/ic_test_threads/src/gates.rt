@@ -1,5 +1,7 @@
+ghost use Rattle.std.specs.Prelude.{◌<◌, ◌≤◌};
+
 use crate::benches::{FOUR_COPIES, bench_over};
-use ic_work::{End, Gate, sweep};
+use ic_work::{End, Gate, MAX_BUDGET, MAX_WORKERS, sweep};
 use std::alloc::Global;
 use std::sync::Wait;
 use std::sync::atomic::{AtomicBool, AtomicU64, Ordering};
@@ -9,20 +11,20 @@ use std::thread::Threads;
 /// How often a worker that is held back looks, at most.
 const TURNS: u32 = 50_000_000;
 
-/// Holds the first commit of worker 0 until so many of the other's were answered, and each of the other's until worker
-/// 0 has asked for its first.
+/// Holds the first commit of each of the first workers, so many of them, until so many of the others' were answered, and each
+/// of the others' until all of those have asked for their first.
 #[derive(Drop)]
 struct HoldsFirst {
+    held: usize,
     others: u64,
+    budget: u32,
     asked: AtomicU64,
     answered: AtomicU64,
-    /// Whether worker 0 saw all these answers while it was held.
-    seen: AtomicBool,
-    /// Whether all tickets were below the budget.
+    /// How many workers saw all these answers while they were held.
+    seen: AtomicU64,
+    /// Whether a ticket was past the budget.
     late: AtomicBool,
 }
-
-const BUDGET: u32 = 1_000;
 
 /// Waits until the number is so great; whether it was in the end.
 fn await_number(number: &AtomicU64, least: u64) -> bool {
@@ -36,55 +38,79 @@ fn await_number(number: &AtomicU64, least: u64) -> bool {
 
 impl Gate for HoldsFirst {
     fn before_commit(&self, worker: usize, ticket: u64) {
-        if ticket >= u64::from(BUDGET) {
+        if ticket >= u64::from(self.budget) {
             self.late.store(true, Ordering::SeqCst);
         }
-        if worker != 0 {
-            await_number(&self.asked, 1);
-        } else if self.asked.fetch_add(1, Ordering::SeqCst) == 0 {
-            let seen = await_number(&self.answered, self.others);
-            self.seen.store(seen, Ordering::SeqCst);
+        let held = self.held as u64;
+        if worker >= self.held {
+            await_number(&self.asked, held);
+        } else if self.asked.fetch_add(1, Ordering::SeqCst) < held
+            && await_number(&self.answered, self.others)
+        {
+            self.seen.fetch_add(1, Ordering::SeqCst);
         }
     }
 
     fn after_commit(&self, worker: usize, _ticket: u64) {
-        if worker != 0 {
+        if worker >= self.held {
             self.answered.fetch_add(1, Ordering::SeqCst);
         }
     }
 }
 
-/// A gate that holds worker 0 until so many commits of the other's were answered.
-fn holding(others: u64) -> HoldsFirst {
+/// How many workers are held until one more has fired so many events, of how many that there are, and the budget.
+#[derive(Clone, Copy)]
+struct Hold {
+    held: u32,
+    others: u64,
+    events: u32,
+    budget: u32,
+}
+
+/// A gate that holds workers so.
+fn holding(hold: Hold) -> HoldsFirst {
     HoldsFirst {
-        others,
+        held: hold.held as usize,
+        others: hold.others,
+        budget: hold.budget,
         asked: AtomicU64::new(0),
         answered: AtomicU64::new(0),
-        seen: AtomicBool::new(false),
+        seen: AtomicU64::new(0),
         late: AtomicBool::new(false),
     }
 }
 
-/// Whether two workers over the net of this text fire so many events, of which so many while the first one is held.
+/// Whether all events over the net of this text are fired where workers are held so.
 fn goes_on<R: Threads + Wait + Sync>(
     rt: &R,
     alloc: Global,
     text: &[u8],
-    others: u64,
-    fired: u32,
-) -> Result<bool, Fail> {
-    let gate = holding(others);
+    hold: Hold,
+) -> Result<bool, Fail>
+    requires workers { hold.held < MAX_WORKERS }
+    requires budget { hold.budget ≤ MAX_BUDGET }
+{
+    let gate = holding(hold);
+    let workers = hold.held + 1;
     let bench = bench_over(alloc, text).ok_or("a bench")?;
-    let swept = sweep(rt, alloc, bench, 2, BUDGET, &gate)
+    let swept = sweep(rt, alloc, bench, workers, hold.budget, &gate)
         .ok()
         .ok_or("a sweep that settles")?;
-    let held = gate.seen.load(Ordering::SeqCst) && !gate.late.load(Ordering::SeqCst);
-    Ok(held && swept.ran == 2 && swept.fired == fired && swept.end == End::Normal)
+    let held = gate.seen.load(Ordering::SeqCst) == u64::from(hold.held);
+    let early = !gate.late.load(Ordering::SeqCst);
+    let whole = swept.fired == hold.events && swept.end == End::Normal;
+    Ok(held && early && whole && swept.ran == workers)
 }
 
 #[test]
 fn a_worker_goes_on_while_another_is_held(rt: HostRuntime) -> Result<(), Fail> {
-    assert!(rt; goes_on(&rt, rt.alloc(), FOUR_COPIES, 12, 16)?);
+    let hold = Hold {
+        held: 1,
+        others: 12,
+        events: 16,
+        budget: 1_000,
+    };
+    assert!(rt; goes_on(&rt, rt.alloc(), FOUR_COPIES, hold)?);
     Ok(())
 }
 
@@ -98,22 +124,27 @@ fn push_name(text: &mut Vec<u8>, number: usize) -> Result<(), Fail> {
     Ok(())
 }
 
-/// Puts so many agents in, none of whose principal ports meets another's, on wires with names from this number on.
-fn push_idle(text: &mut Vec<u8>, first: usize, agents: usize) -> Result<(), Fail> {
-    for number in first..first.saturating_add(agents / 2) {
+/// Puts so many agents in, none of whose principal ports meets another's, between the wires with this number and the next one.
+fn push_idle(text: &mut Vec<u8>, number: usize, agents: usize) -> Result<(), Fail> {
+    for _ in 0..agents / 2 {
         text.extend_from_slice(b"G(E,")?;
-        push_name(text, number.saturating_add(1))?;
-        text.extend_from_slice(b") = ")?;
-        push_name(text, number)?;
-        text.extend_from_slice(b";\n")?;
     }
+    push_name(text, number.saturating_add(1))?;
+    for _ in 0..agents / 2 {
+        text.push(b')')?;
+    }
+    text.extend_from_slice(b" = ")?;
+    push_name(text, number)?;
+    text.extend_from_slice(b";\n")?;
     Ok(())
 }
 
 /// Four pairs that meet, of which the first and the third have leads that lie so far apart that one word stands for both.
 fn colliding(alloc: Global) -> Result<Vec<u8>, Fail> {
     let mut text = Vec::from_slice(alloc, b"E = E; E = E;\n")?;
-    push_idle(&mut text, 0, 1_020)?;
+    for number in 0..10 {
+        push_idle(&mut text, number, 102)?;
+    }
     text.extend_from_slice(b"E = E; E = E;\n")?;
     Ok(text)
 }
@@ -121,23 +152,37 @@ fn colliding(alloc: Global) -> Result<Vec<u8>, Fail> {
 #[test]
 fn a_worker_whose_word_is_busy_fires_what_others_have(rt: HostRuntime) -> Result<(), Fail> {
     let text = colliding(rt.alloc())?;
-    assert!(rt; goes_on(&rt, rt.alloc(), &text, 2, 4)?);
+    let hold = Hold {
+        held: 1,
+        others: 2,
+        events: 4,
+        budget: 1_000,
+    };
+    assert!(rt; goes_on(&rt, rt.alloc(), &text, hold)?);
     Ok(())
 }
 
-/// Pairs that meet, whose leads lie so evenly that one word stands for each eighth one.
+/// Pairs that meet, whose leads lie so evenly that one word stands for each sixty-fourth one.
 fn even(alloc: Global) -> Result<Vec<u8>, Fail> {
     let mut text = Vec::new(alloc);
-    for pair in 0..256 {
+    for pair in 0..4_095 {
         text.extend_from_slice(b"E = E;\n")?;
-        push_idle(&mut text, pair * 63, 126)?;
+        push_idle(&mut text, pair, 14)?;
     }
     Ok(text)
 }
 
 #[test]
-fn a_worker_passes_busy_words_by_where_pairs_lie_evenly(rt: HostRuntime) -> Result<(), Fail> {
+fn a_worker_fires_on_while_three_are_held_where_pairs_lie_evenly(
+    rt: HostRuntime,
+) -> Result<(), Fail> {
     let text = even(rt.alloc())?;
-    assert!(rt; goes_on(&rt, rt.alloc(), &text, 224, 256)?);
+    let hold = Hold {
+        held: 3,
+        others: 3_400,
+        events: 4_095,
+        budget: 10_000,
+    };
+    assert!(rt; goes_on(&rt, rt.alloc(), &text, hold)?);
     Ok(())
 }
