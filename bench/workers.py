@@ -9,7 +9,9 @@ Each number of workers has the same cores: a round is a session of one worker on
 half of them, and one of four on all, and a round's seconds by a number of workers are the mean of its sessions. For where a host
 lends a core to others now and then, one worker that may choose the best of cores and of times meets none of it, and four
 that need all cores at once nearly always do. There are thirty rounds, and how much longer is told in three ways: by the least of
-all; by the best of each five in a row, of which the middle one is told; and by the mean of all. The share is counted by
+all; by the best of each five in a row, of which the middle one is told; and by the mean of all. The mean alone leans to no side:
+a round of one worker is a mean of four sessions and varies less than one of four workers, which is a single session, so that the
+least and the bests of rounds favour many workers. The share is counted by
 valgrind, with two workers, on a smaller net: it is that of the calls into the crates of the bench, so that what the compiler
 put into the worker's own code isn't in it.
 
