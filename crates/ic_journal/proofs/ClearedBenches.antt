@@ -19,8 +19,8 @@ use Rattle.ic_roster.specs.Rosters.{Stander, HaveOwnLines}
 use Rattle.ic_set.specs.Cleared.{AreAll, Clears}
 use Rattle.ic_set.specs.Views.{NamedView, standing, events_of}
 use Rattle.ic_set.proofs.Namings.{same_stander}
-use Rattle.ic_journal.specs.Noted.{Undone, line_in, AreLinesNamed, IsLineNamed}
-use Rattle.ic_journal.specs.Histories.{HistoryView}
+use Rattle.ic_history.specs.Noted.{Undone, line_in, AreLinesNamed, IsLineNamed}
+use Rattle.ic_history.specs.Histories.{HistoryView}
 use Rattle.ic_journal.specs.Views.{BenchView, set_of, view_of}
 use Rattle.ic_journal.specs.Benches.{fired_in, IsAt, IsKept}
 use Rattle.ic_journal.specs.Undone.{undoing, AreFree, AreIdsOfFree, AreUndoneFrom}

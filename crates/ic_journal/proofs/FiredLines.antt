@@ -17,13 +17,13 @@ use Rattle.ic_roster.specs.Rosters.{Stander, HaveOwnLines, event_in}
 use Rattle.ic_roster.specs.declared.interaction.Interaction.{Interaction}
 use Rattle.ic_set.specs.Views.{NamedView}
 use Rattle.ic_set.proofs.Namings.{same_lead}
-use Rattle.ic_journal.specs.Noted.{Fired}
-use Rattle.ic_journal.specs.Histories.{HistoryView}
+use Rattle.ic_history.specs.Noted.{Fired}
+use Rattle.ic_history.specs.Histories.{HistoryView}
 use Rattle.ic_journal.specs.Views.{BenchView, view_of}
 use Rattle.ic_journal.specs.Benches.{fired_in, IsAt, IsKept}
-use Rattle.ic_journal.specs.Changed.{IsFiredIn}
-use Rattle.ic_journal.proofs.NotedLines.{noted_named}
-use Rattle.ic_journal.proofs.ChangedLines.{firing_at}
+use Rattle.ic_history.specs.Changed.{IsFiredIn}
+use Rattle.ic_history.proofs.NotedLines.{noted_named}
+use Rattle.ic_history.proofs.ChangedLines.{firing_at}
 
 -- what comes first behind a list stands at its length
 pub first_behind : {A : Type 0} (xs : List A) (x : A) (others : List A) → slice_get (xs ++ x ∷ others) (length xs) ≡ Some x

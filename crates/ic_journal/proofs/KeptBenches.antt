@@ -19,9 +19,9 @@ use Rattle.ic_set.specs.Entering.{GrowsBy}
 use Rattle.ic_set.specs.Removal.{IsFree}
 use Rattle.ic_set.specs.Views.{NamedView, standing}
 use Rattle.ic_set.proofs.GrownNames.{Keeps, grown_keeps, kept_event}
-use Rattle.ic_journal.specs.Noted as seen
-use Rattle.ic_journal.specs.Noted.{NotedLine, line_in, IsLineNamed, AreLinesNamed}
-use Rattle.ic_journal.specs.Histories.{HistoryView}
+use Rattle.ic_history.specs.Noted as seen
+use Rattle.ic_history.specs.Noted.{NotedLine, line_in, IsLineNamed, AreLinesNamed}
+use Rattle.ic_history.specs.Histories.{HistoryView}
 use Rattle.ic_journal.specs.Views.{BenchView, set_of, view_of}
 use Rattle.ic_journal.specs.Benches.{IsAt, IsKept}
 use Rattle.ic_journal.specs.Calls.{Steps, Refuses, Stays, FiresPair}

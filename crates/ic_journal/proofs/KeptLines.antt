@@ -9,8 +9,8 @@ use Rattle.ic_name.specs.declared.lines.Reply.TheVariants as reply
 use Rattle.ic_roster.specs.declared.interaction.Interaction.{Interaction}
 use Rattle.ic_roster.specs.Rosters.{IsNamed}
 use Rattle.ic_set.proofs.GrownNames.{Keeps, kept_name, kept_event}
-use Rattle.ic_journal.specs.Noted.{NotedLine, Fired, Limited, NotActive, Undone, NotStanding, Held, line_in, IsLineNamed, AreLinesNamed}
-use Rattle.ic_journal.specs.Limits.{reply_of}
+use Rattle.ic_history.specs.Noted.{NotedLine, Fired, Limited, NotActive, Undone, NotStanding, Held, line_in, IsLineNamed, AreLinesNamed}
+use Rattle.ic_history.specs.Limits.{reply_of}
 
 -- a firing still has its places among the names
 pub still_named : (old new : List Name) → Keeps old new → (i : Interaction) → IsNamed old i → IsNamed new i

@@ -2,15 +2,11 @@ pub mod SameSets
 pub mod MachineSteps
 pub mod Answering
 pub mod ThereAndBack
-pub mod NotedLines
-pub mod PairNotes
 pub mod KeptLines
 pub mod KeptBenches
 pub mod PairLimits
 pub mod NamedPairs
-pub mod ChangedLines
 pub mod FiredLines
 pub mod LedEvents
 pub mod Reversed
 pub mod ClearedBenches
-pub mod FirstElements

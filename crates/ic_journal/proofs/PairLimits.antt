@@ -8,13 +8,14 @@ use Rattle.ic_theory.proofs.Normal.{active-alike}
 use Rattle.ic_roster.specs.Rosters.{event_in}
 use Rattle.ic_roster.specs.declared.interaction.Interaction.{Interaction}
 use Rattle.ic_set.specs.Views.{NamedView, standing}
-use Rattle.ic_journal.specs.declared.limit.Limit.{Limit}
-use Rattle.ic_journal.specs.declared.limit.Limit.TheVariants.{Deep, Full}
-use Rattle.ic_journal.specs.Histories.{HistoryView}
+use Rattle.ic_history.specs.declared.limit.Limit.{Limit}
+use Rattle.ic_history.specs.declared.limit.Limit.TheVariants.{Deep, Full}
+use Rattle.ic_history.specs.Histories.{HistoryView}
 use Rattle.ic_journal.specs.Views.{BenchView, view_of}
 use Rattle.ic_journal.specs.Benches.{IsAt}
 use Rattle.ic_journal.specs.Calls.{Refuses, FiresPair}
-use Rattle.ic_journal.specs.Limits.{Meets, reply_of, fault_of}
+use Rattle.ic_history.specs.Limits.{reply_of}
+use Rattle.ic_journal.specs.Limits.{Meets, fault_of}
 use Rattle.ic_journal.proofs.MachineSteps.{events_at}
 use Rattle.ic_journal.proofs.SameSets.{full-alike}
 

@@ -8,8 +8,8 @@ use Rattle.ic_theory.specs.Machine.{Standing, State, IsHistory}
 use Rattle.ic_roster.specs.Rosters.{Member, Stander}
 use Rattle.ic_set.specs.Sets.{IsStandingSet}
 use Rattle.ic_set.specs.Views.{NamedView}
-use Rattle.ic_journal.specs.Noted.{AreLinesNamed}
-use Rattle.ic_journal.specs.Histories.{HistoryView}
+use Rattle.ic_history.specs.Noted.{AreLinesNamed}
+use Rattle.ic_history.specs.Histories.{HistoryView}
 use Rattle.ic_journal.specs.Views.{BenchView, set_of, view_of}
 
 -- an event with the line of its firing

@@ -1,9 +1,4 @@
 pub mod Views
-pub mod Noted
-pub mod Notes
-pub mod Kept
-pub mod Changed
-pub mod Histories
 pub mod Benches
 pub mod Calls
 pub mod Limits

@@ -1,19 +1,12 @@
 -- The limits that firing an event meets.
 use Rattle.std.specs.Prelude.{Option, None, Some}
 use Rattle.ic_name.specs.Events.{Event}
-use Rattle.ic_name.specs.declared.lines.Reply.{Reply}
-use Rattle.ic_name.specs.declared.lines.Reply.TheVariants as reply
 use Rattle.ic_theory.specs.Machine.{IsDeep, IsFull}
 use Rattle.ic_set.specs.Views.{SetView, standing}
 use Rattle.ic_journal.specs.declared.faults.PairFault.{PairFault}
 use Rattle.ic_journal.specs.declared.faults.PairFault.TheVariants as pair
-use Rattle.ic_journal.specs.declared.limit.Limit.{Limit}
-use Rattle.ic_journal.specs.declared.limit.Limit.TheVariants.{Deep, Full}
-
--- the reply in the history
-abbrev pub reply_of : Limit → Reply
-reply_of Deep = reply.Deep
-reply_of Full = reply.Full
+use Rattle.ic_history.specs.declared.limit.Limit.{Limit}
+use Rattle.ic_history.specs.declared.limit.Limit.TheVariants.{Deep, Full}
 
 -- the answer of the bench for an active pair
 abbrev pub fault_of : Limit → PairFault

@@ -5,8 +5,8 @@ use Rattle.ic_name.specs.declared.lines.Line.{Line}
 use Rattle.ic_theory.specs.Starts.{Start}
 use Rattle.ic_roster.specs.Rosters.{Member, Stander}
 use Rattle.ic_set.specs.Views.{SetView, NamedView}
-use Rattle.ic_journal.specs.Noted.{line_in}
-use Rattle.ic_journal.specs.Histories.{HistoryView}
+use Rattle.ic_history.specs.Noted.{line_in}
+use Rattle.ic_history.specs.Histories.{HistoryView}
 
 -- the start, the agents and the standing events under their ids, the history, the lines for which there is room, and the names
 -- that are known, by place

@@ -10,9 +10,7 @@ ghost use Rattle.ic_journal.specs.Calls.{id_answer, Fires, Undoes, Reserves};
 ghost use Rattle.ic_journal.specs.Undone.{AreIdsOfFree, AreUndoneFrom};
 
 use crate::faults::{FireFault, PairFault, ReserveFault, UndoFault};
-use crate::history::History;
-use crate::kept::KeptLine;
-use crate::proposal::Proposal;
+use ic_history::{History, KeptLine, Proposal};
 use ic_link::LinkStore;
 use ic_name::EventId;
 use ic_name::limits::MAX_LINES;

@@ -2,7 +2,7 @@ ghost use Rattle.std.specs.Prelude.{◌≡◌, ◌↔◌, IfOk};
 ghost use Rattle.ic_name.specs.Events.{Event as AnEvent};
 ghost use Rattle.ic_name.specs.Names.{Name};
 ghost use Rattle.ic_path.specs.Orders.{IsIn};
-ghost use Rattle.ic_journal.specs.Changed.{IsChanged};
+ghost use Rattle.ic_history.specs.Changed.{IsChanged};
 
 use crate::bench::Bench;
 use ic_link::LinkStore;
@@ -16,12 +16,6 @@ impl<L: LinkStore> Bench<L> {
         ensures { IfOk result (λ leads. (n : Name) → IsIn n leads.items ↔ ((e : AnEvent) × IsChanged self.now.lines line e × (e.lead ≡ n))) }
     {
         let names = self.set.bare().roster().names();
-        let mut leads = Vec::new(self.alloc);
-        for number in line..self.history.len() {
-            if let Some(lead) = self.history.changed_in(names, number)? {
-                leads.push(lead)?;
-            }
-        }
-        Ok(leads)
+        self.history.changed_leads_since(self.alloc, names, line)
     }
 }

@@ -1,7 +1,8 @@
 ghost use Rattle.std.specs.Prelude.{◌≡◌};
 ghost use Rattle.ic_journal.specs.Faults.{fire_number, pair_number, undo_number, reserve_number, propose_number};
+ghost use Rattle.ic_journal.specs.Limits.{fault_of};
 
-use crate::proposal::Proposal;
+use ic_history::{Limit, Proposal};
 use ic_name::{EventId, numbers};
 use thiserror::Error;
 
@@ -92,6 +93,16 @@ impl FireFault {
 }
 
 impl PairFault {
+    /// The answer where firing an active pair meets this limit.
+    pub(crate) fn of(limit: Limit) -> PairFault
+        ensures { result ≡ fault_of limit }
+    {
+        match limit {
+            Limit::Deep => PairFault::Deep,
+            Limit::Full => PairFault::Full,
+        }
+    }
+
     /// The number of the refusal: 22, 23, 24 or 25.
     pub fn number(self) -> u8
         ensures { result ≡ pair_number self }

@@ -7,8 +7,8 @@ ghost use Rattle.ic_journal.specs.Views.{set_of};
 
 use crate::bench::Bench;
 use crate::faults::PairFault;
-use crate::kept::KeptLine;
 use crate::limit::limit_of;
+use ic_history::KeptLine;
 use ic_link::LinkStore;
 use ic_name::limits::MAX_LINES;
 use ic_set::{ActivePair, Fired};
@@ -37,7 +37,7 @@ impl<L: LinkStore> Bench<L> {
         let event = set.interaction_of(pair);
         if let Some(limit) = limit_of(set, event) {
             self.history.note(KeptLine::limited(limit, event));
-            return Err(limit.fault());
+            return Err(PairFault::of(limit));
         }
         match self.admit_noted(pair) {
             Ok(fired) => Ok(fired),

@@ -3,45 +3,16 @@ ghost use Rattle.ic_theory.specs.Machine.{IsDeep, IsFull};
 ghost use Rattle.ic_theory.specs.Rules.{born_kinds};
 ghost use Rattle.ic_set.specs.Views.{standing};
 ghost use Rattle.ic_roster.specs.Rosters.{event_in, IsNamed};
-ghost use Rattle.ic_journal.specs.Limits.{Meets, reply_of, fault_of};
+ghost use Rattle.ic_journal.specs.Limits.{Meets};
 
-use crate::faults::PairFault;
+use ic_history::Limit;
 use ic_link::LinkStore;
+use ic_name::Profile;
 use ic_name::limits::{MAX_AGENTS, MAX_DEPTH};
-use ic_name::{Profile, Reply};
 use ic_names::NameTable;
 use ic_roster::Interaction;
 use ic_set::BareSet;
 use ic_start::outcome;
-
-/// A limit that firing an active pair meets.
-#[derive(Clone, Copy, Debug, PartialEq, Eq)]
-pub(crate) enum Limit {
-    Deep,
-    Full,
-}
-
-impl Limit {
-    /// The reply in the history.
-    pub fn reply(self) -> Reply
-        ensures { result ≡ reply_of self }
-    {
-        match self {
-            Limit::Deep => Reply::Deep,
-            Limit::Full => Reply::Full,
-        }
-    }
-
-    /// The answer of the bench.
-    pub fn fault(self) -> PairFault
-        ensures { result ≡ fault_of self }
-    {
-        match self {
-            Limit::Deep => PairFault::Deep,
-            Limit::Full => PairFault::Full,
-        }
-    }
-}
 
 /// The limit that firing the event meets over a standing set, if it meets one. It takes no memory.
 pub(crate) fn limit_of<L: LinkStore>(set: &BareSet<L>, event: Interaction) -> Option<Limit>

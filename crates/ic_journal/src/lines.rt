@@ -6,10 +6,10 @@ ghost use Rattle.ic_name.specs.declared.lines.Reply.{Reply as AReply};
 ghost use Rattle.ic_name.specs.declared.lines.Reply.TheVariants.{NotActive};
 ghost use Rattle.ic_path.specs.Orders.{IsIn};
 ghost use Rattle.ic_roster.specs.Rosters.{Stander};
-ghost use Rattle.ic_journal.specs.Notes.{line_read};
+ghost use Rattle.ic_history.specs.Notes.{line_read};
 
 use crate::bench::Bench;
-use crate::notes::PairNote;
+use ic_history::PairNote;
 use ic_link::LinkStore;
 use ic_name::{Call, EventId, Reply};
 

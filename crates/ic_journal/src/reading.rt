@@ -23,7 +23,7 @@ ghost use Rattle.ic_journal.specs.Reads.{IsKindOf, IsNameOf, IsEventUnder, IsRan
 
 use crate::bench::Bench;
 use crate::faults::ProposeFault;
-use crate::proposal::Proposal;
+use ic_history::Proposal;
 use ic_link::LinkStore;
 use ic_name::{AgentId, AgentName, Event, EventId, EventName, Kind, Line};
 use ic_names::NameTable;

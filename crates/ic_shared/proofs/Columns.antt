@@ -4,7 +4,7 @@ use Rattle.std.specs.Prelude.{slice_get}
 use Rattle.std.proofs.lemmas.Option.{slice_get-map, slice_get_read, slice_get_past}
 use Rattle.ic_name.specs.Names.{Name}
 use Rattle.ic_name.specs.declared.lines.Line.{Line}
-use Rattle.ic_journal.specs.Notes.{line_read}
+use Rattle.ic_history.specs.Notes.{line_read}
 use Rattle.ic_shared.specs.declared.receipts.Receipt.{Receipt}
 use Rattle.ic_shared.specs.declared.receipts.RunReceipt.{RunReceipt}
 use Rattle.ic_shared.specs.declared.passes.Column.TheVariants.{Calls, Runs}

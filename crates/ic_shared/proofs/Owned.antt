@@ -1,10 +1,10 @@
 -- The receipts for the lines so far.
-use Rattle.std.proofs.Common.{◌≡◌, ◌≢◌, ℕ, zero, suc, ◌+◌, ◌<◌, ◌≤◌, Bool, true, false, List, [], ◌∷◌, ◌++◌, length, take, drop, Some, cond, sym, refl, ap, ◌∙◌, subst, arith, add-one, length-append, get_or-set_same, get_or-set_other, get_or, length-drop, ◌-◌, append-nil, ne_eqb, eq-eqb}
+use Rattle.std.proofs.Common.{◌≡◌, ◌≢◌, ℕ, zero, suc, ◌+◌, ◌<◌, ◌≤◌, Bool, true, false, List, [], ◌∷◌, ◌++◌, length, take, drop, Some, cond, sym, refl, ap, ◌∙◌, subst, arith, length-append, get_or-set_same, get_or-set_other, get_or, length-drop, ◌-◌, append-nil, ne_eqb, eq-eqb}
 use Rattle.std.specs.Prelude.{slice_get, slice_index, slice_set, nat_eq, replicate}
 use mathlib.Core.Logic.{dite}
 use native.Mathlib.Decide.{ℕ_discrete, dec_lt}
 use Rattle.ic_name.specs.declared.lines.Line.{Line}
-use Rattle.ic_journal.proofs.FirstElements.{take_next}
+use Rattle.ic_history.proofs.FirstElements.{take_next}
 use Rattle.ic_shared.specs.Passes.{Told, IsFor}
 use Rattle.ic_shared.specs.Settles.{owned, AreFor, Settles, SettlesTo, NumberAt, IsNext, WrongAt, differs, early, twice, unclaimed}
 

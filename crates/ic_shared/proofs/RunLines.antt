@@ -11,7 +11,7 @@ use Rattle.ic_journal.specs.Calls.{FiresPair}
 use Rattle.ic_journal.specs.Views.{BenchView}
 use Rattle.ic_journal.specs.declared.faults.PairFault.{PairFault}
 use Rattle.ic_journal.specs.declared.faults.PairFault.TheVariants as pair
-use Rattle.ic_journal.specs.Notes.{line_read}
+use Rattle.ic_history.specs.Notes.{line_read}
 use Rattle.ic_journal.proofs.FiredLines.{first_behind}
 use Rattle.ic_shared.specs.declared.receipts.RunReceipt.{RunReceipt}
 use Rattle.ic_shared.specs.CallLines.{lines_of, pair_reply}

@@ -2,7 +2,7 @@
 use Rattle.std.specs.Prelude.{◌≡◌, ℕ, ◌+◌, List, [], ◌∷◌, Option, Some, length, map}
 use Rattle.ic_name.specs.Names.{Name}
 use Rattle.ic_name.specs.declared.lines.Line.{Line}
-use Rattle.ic_journal.specs.Notes.{line_read}
+use Rattle.ic_history.specs.Notes.{line_read}
 use Rattle.ic_shared.specs.declared.receipts.Receipt.{Receipt}
 use Rattle.ic_shared.specs.declared.receipts.RunReceipt.{RunReceipt}
 use Rattle.ic_shared.specs.declared.passes.Column.{Column}

@@ -1,10 +1,8 @@
-//! Tests of public calls: claims, benches that threads share, and sweeps.
+//! Tests of public calls: benches that threads share, and sweeps.
 #![tactic(auto)]
 
 #[cfg(test)]
 mod benches;
-#[cfg(test)]
-mod claims;
 #[cfg(test)]
 mod earlier;
 #[cfg(test)]

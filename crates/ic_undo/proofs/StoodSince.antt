@@ -13,7 +13,7 @@ use Rattle.ic_theory.specs.Machine.{Standing, State, events, MachineStep, not_ac
 use Rattle.ic_theory.proofs.Machines.{history_length}
 use Rattle.ic_roster.specs.Rosters.{Stander}
 use Rattle.ic_journal.specs.Benches.{IsBench}
-use Rattle.ic_journal.specs.Changed.{IsFiredIn, IsChanged}
+use Rattle.ic_history.specs.Changed.{IsFiredIn, IsChanged}
 use Rattle.ic_journal.specs.Views.{BenchView}
 use Rattle.ic_journal.proofs.FiredLines.{first_behind, AreFiredIn, fired_lines}
 use Rattle.ic_journal.proofs.MachineSteps.{events_at}

@@ -4,7 +4,7 @@ use Rattle.ic_cause.proofs.Errors.{at_error}
 use Rattle.ic_theory.specs.Machine.{IsDeep}
 use Rattle.ic_set.specs.Pairs.{IsPairOf}
 use Rattle.ic_set.proofs.GrownNames.{grown_keeps}
-use Rattle.ic_journal.specs.Noted.{Fired, line_in}
+use Rattle.ic_history.specs.Noted.{Fired, line_in}
 use Rattle.ic_journal.specs.Views.{set_of, view_of}
 use Rattle.ic_journal.specs.Limits.{Meets}
 use Rattle.ic_journal.specs.Calls.{FiresPair}

@@ -2,9 +2,9 @@ use Rattle.std.proofs.Common.{◌≡◌, ◌≤◌, ◌+◌, ◌∷◌, ◌++◌
 use Rattle.std.proofs.lemmas.List.{length-map}
 use Rattle.ic_name.specs.declared.lines.Call.TheVariants.{Fire}
 use Rattle.ic_set.specs.Pairs.{IsPairOf}
-use Rattle.ic_journal.specs.Noted.{NotedLine, Limited, line_in}
+use Rattle.ic_history.specs.Noted.{NotedLine, Limited, line_in}
 use Rattle.ic_journal.specs.Views.{set_of, view_of}
-use Rattle.ic_journal.specs.Limits.{reply_of}
+use Rattle.ic_history.specs.Limits.{reply_of}
 use Rattle.ic_journal.specs.Calls.{FiresPair}
 use Rattle.ic_journal.proofs.Answering.{same_set}
 use Rattle.ic_journal.proofs.KeptBenches.{keeps_self, same_kept, same_stays, refused_kept, refuses, roomier_fires}
@@ -51,8 +51,8 @@ returns-in-Some g c =
     let meets = meets_same c.interaction_of-event.result (Some c.in-Some.limit) c.bare-set.ensures its c.in-Some.ensures in
     let line : line_in s.names l ≡ record { call = Fire e; reply = answer } = λ u. record { call = Fire (its u); reply = answer } in
     let refused = refuses s h c.note.new.self c.self.invariant l (Fire e) answer more named line (limit_answer s h e c.in-Some.limit p.active meets) room in
-    let told = subst (λ f. FiresPair (view_of s h) e (Err f) (view_of s c.note.new.self)) (sym c.fault.ensures) (pair_refused (view_of s h) (view_of s c.note.new.self) e c.in-Some.limit refused) in
-    subst (λ v. FiresPair v e (Err c.fault.result) (view_of s c.note.new.self)) c.self.view_is told)
+    let told = subst (λ f. FiresPair (view_of s h) e (Err f) (view_of s c.note.new.self)) (sym c.of.ensures) (pair_refused (view_of s h) (view_of s c.note.new.self) e c.in-Some.limit refused) in
+    subst (λ v. FiresPair v e (Err c.of.result) (view_of s c.note.new.self)) c.self.view_is told)
 
 pub admit_noted-requires-clause-active : goal.admit_noted-requires-clause-active
 admit_noted-requires-clause-active g c =

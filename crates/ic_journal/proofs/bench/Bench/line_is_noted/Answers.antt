@@ -1,6 +1,6 @@
 use Rattle.std.proofs.Common.{◌≡◌, ◌↔◌, IsTrue, Some, rules, tests}
 use Rattle.ic_names.specs.Tables.{EachOnce}
-use Rattle.ic_journal.proofs.PairNotes.{found_note}
+use Rattle.ic_history.proofs.PairNotes.{found_note}
 use Rattle.ic_journal.proofs.bench.Bench.line_is_noted.Goals as goal
 
 pub returns : goal.returns

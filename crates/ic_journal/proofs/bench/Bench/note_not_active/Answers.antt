@@ -3,7 +3,7 @@ use Rattle.ic_name.specs.declared.lines.Call.TheVariants.{Fire}
 use Rattle.ic_name.specs.declared.lines.Reply.TheVariants as reply
 use Rattle.ic_theory.specs.Active.{IsActive}
 use Rattle.ic_set.specs.Views.{standing}
-use Rattle.ic_journal.specs.Noted.{NotActive}
+use Rattle.ic_history.specs.Noted.{NotActive}
 use Rattle.ic_journal.specs.Views.{view_of}
 use Rattle.ic_journal.specs.Calls.{Fires}
 use Rattle.ic_journal.proofs.Answering.{same_set}

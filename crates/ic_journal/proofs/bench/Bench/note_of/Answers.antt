@@ -1,5 +1,5 @@
 use Rattle.std.proofs.lemmas.Option.{IfSome_then}
-use Rattle.ic_journal.proofs.PairNotes.{found_read, none_of_a_pair}
+use Rattle.ic_history.proofs.PairNotes.{found_read, none_of_a_pair}
 use Rattle.ic_journal.proofs.bench.Bench.note_of.Goals as goal
 
 pub returns-clause-read : goal.returns-clause-read

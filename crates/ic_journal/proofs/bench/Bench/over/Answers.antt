@@ -1,6 +1,6 @@
 use Rattle.std.proofs.Common.{ap, map}
 use Rattle.std.proofs.lemmas.List.Elements.{All-nil}
-use Rattle.ic_journal.specs.Noted.{line_in, IsLineNamed}
+use Rattle.ic_history.specs.Noted.{line_in, IsLineNamed}
 use Rattle.ic_journal.specs.Views.{view_of}
 use Rattle.ic_journal.proofs.Answering.{opened}
 use Rattle.ic_journal.proofs.bench.Bench.over.Goals as goal

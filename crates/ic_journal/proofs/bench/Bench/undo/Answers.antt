@@ -4,7 +4,7 @@ use Rattle.ic_name.specs.declared.lines.Reply.TheVariants as reply
 use Rattle.ic_path.specs.Orders.{IsIn}
 use Rattle.ic_theory.specs.Machine.{State, noted, MachineStep}
 use Rattle.ic_roster.specs.Rosters.{Stander}
-use Rattle.ic_journal.specs.Noted as seen
+use Rattle.ic_history.specs.Noted as seen
 use Rattle.ic_journal.specs.Views.{view_of}
 use Rattle.ic_journal.specs.Benches.{IsAt}
 use Rattle.ic_journal.specs.Calls.{Steps}

@@ -1,0 +1,4 @@
+pub mod NotedLines
+pub mod PairNotes
+pub mod ChangedLines
+pub mod FirstElements

@@ -1,0 +1,5 @@
+//! Tests of public calls: claims, seats and tickets.
+#![tactic(auto)]
+
+#[cfg(test)]
+mod claims;
