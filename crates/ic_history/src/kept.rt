@@ -69,7 +69,7 @@ impl KeptLine {
     }
 
     /// The reply.
-    pub fn reply(&self) -> Reply
+    pub(crate) fn reply(&self) -> Reply
         ensures { (ns : List Name) (inactive : List AnEvent) → result ≡ (line_in ns (line_of inactive self.now)).reply }
     {
         match self {
@@ -83,7 +83,7 @@ impl KeptLine {
     }
 
     /// The note of it; `None` where it isn't a call to fire an active pair.
-    pub fn note(&self) -> Option<PairNote>
+    pub(crate) fn note(&self) -> Option<PairNote>
         ensures noted { IfSome result (λ note. (inactive : List AnEvent) → noted_of note ≡ line_of inactive self.now) }
         ensures none { IfNone result ((inactive : List AnEvent) → ¬ (IsOfAPair (line_of inactive self.now))) }
     {
@@ -103,7 +103,7 @@ impl KeptLine {
     }
 
     /// Whether its call is this one, by a table with the names. It takes no memory.
-    pub fn has_call(&self, inactive: &[Proposal], names: &NameTable, call: &Call) -> bool
+    pub(crate) fn has_call(&self, inactive: &[Proposal], names: &NameTable, call: &Call) -> bool
         requires placed { IsPlaced inactive.now self.now }
         requires named { IsLineNamed names.now (line_of inactive.now self.now) }
         ensures { IsTrue result ↔ ((line_in names.now (line_of inactive.now self.now)).call ≡ call.now) }
@@ -125,7 +125,7 @@ impl KeptLine {
     }
 
     /// Whether it tells the line that another one told then, each beside its list of proposals. It takes no memory.
-    pub fn is_same(
+    pub(crate) fn is_same(
         &self,
         inactive: &[Proposal],
         names: &NowAndThen<'_>,
@@ -191,7 +191,7 @@ impl KeptLine {
     }
 
     /// The line with the names of a roster. At an error memory ran out.
-    pub fn read(&self, inactive: &[Proposal], roster: &Roster) -> Result<Line, AllocError>
+    pub(crate) fn read(&self, inactive: &[Proposal], roster: &Roster) -> Result<Line, AllocError>
         requires placed { IsPlaced inactive.now self.now }
         requires named { IsLineNamed roster.now.names (line_of inactive.now self.now) }
         ensures { IfOk result (λ line. line ≡ line_in roster.now.names (line_of inactive.now self.now)) }

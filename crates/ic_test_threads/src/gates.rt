@@ -1,5 +1,3 @@
-ghost use Rattle.std.specs.Prelude.{◌<◌, ◌≤◌};
-
 use crate::benches::{FOUR_COPIES, bench_over};
 use ic_work::{End, Gate, MAX_BUDGET, MAX_WORKERS, sweep};
 use std::alloc::Global;
@@ -86,10 +84,10 @@ fn goes_on<R: Threads + Wait + Sync>(
     alloc: Global,
     text: &[u8],
     hold: Hold,
-) -> Result<bool, Fail>
-    requires workers { hold.held < MAX_WORKERS }
-    requires budget { hold.budget ≤ MAX_BUDGET }
-{
+) -> Result<bool, Fail> {
+    if hold.held >= MAX_WORKERS || hold.budget > MAX_BUDGET {
+        return Ok(false);
+    }
     let gate = holding(hold);
     let workers = hold.held + 1;
     let bench = bench_over(alloc, text).ok_or("a bench")?;
@@ -100,18 +98,6 @@ fn goes_on<R: Threads + Wait + Sync>(
     let early = !gate.late.load(Ordering::SeqCst);
     let whole = swept.fired == hold.events && swept.end == End::Normal;
     Ok(held && early && whole && swept.ran == workers)
-}
-
-#[test]
-fn a_worker_goes_on_while_another_is_held(rt: HostRuntime) -> Result<(), Fail> {
-    let hold = Hold {
-        held: 1,
-        others: 12,
-        events: 16,
-        budget: 1_000,
-    };
-    assert!(rt; goes_on(&rt, rt.alloc(), FOUR_COPIES, hold)?);
-    Ok(())
 }
 
 /// Puts the name with this number in.
@@ -149,19 +135,6 @@ fn colliding(alloc: Global) -> Result<Vec<u8>, Fail> {
     Ok(text)
 }
 
-#[test]
-fn a_worker_whose_word_is_busy_fires_what_others_have(rt: HostRuntime) -> Result<(), Fail> {
-    let text = colliding(rt.alloc())?;
-    let hold = Hold {
-        held: 1,
-        others: 2,
-        events: 4,
-        budget: 1_000,
-    };
-    assert!(rt; goes_on(&rt, rt.alloc(), &text, hold)?);
-    Ok(())
-}
-
 /// Pairs that meet, whose leads lie so evenly that one word stands for each sixty-fourth one.
 fn even(alloc: Global) -> Result<Vec<u8>, Fail> {
     let mut text = Vec::new(alloc);
@@ -173,16 +146,21 @@ fn even(alloc: Global) -> Result<Vec<u8>, Fail> {
 }
 
 #[test]
-fn a_worker_fires_on_while_three_are_held_where_pairs_lie_evenly(
-    rt: HostRuntime,
-) -> Result<(), Fail> {
-    let text = even(rt.alloc())?;
-    let hold = Hold {
-        held: 3,
-        others: 3_400,
-        events: 4_095,
-        budget: 10_000,
-    };
-    assert!(rt; goes_on(&rt, rt.alloc(), &text, hold)?);
+fn a_worker_fires_on_while_others_are_held(rt: HostRuntime) -> Result<(), Fail> {
+    let far = colliding(rt.alloc())?;
+    let evenly = even(rt.alloc())?;
+    for (text, held, others, events, budget) in [
+        (FOUR_COPIES, 1, 12, 16, 1_000),
+        (&far, 1, 2, 4, 1_000),
+        (&evenly, 3, 3_400, 4_095, 10_000),
+    ] {
+        let hold = Hold {
+            held,
+            others,
+            events,
+            budget,
+        };
+        assert!(rt; goes_on(&rt, rt.alloc(), text, hold)?, "{events} events");
+    }
     Ok(())
 }
