@@ -75,9 +75,9 @@ impl History {
         ensures none { IfNone result (map (line_in names.now) self.now.lines ≡ lines.now ++ drop (length lines.now) (map (line_in names.now) self.now.lines)) }
         ensures some { IfSome result (λ k. (k < length lines.now) × (slice_get (map (line_in names.now) self.now.lines) k ≢ slice_get lines.now k)) }
     {
-        let names = NowAndThen::of(names, &lines.names);
+        let both = NowAndThen::of(names, &lines.names);
         for number in 0..lines.history.len() {
-            if !self.is_line_of(&names, &lines.history, number) {
+            if !self.is_line_of(&both, &lines.history, number) {
                 return Some(number as u32);
             }
         }

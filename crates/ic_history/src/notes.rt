@@ -2,7 +2,7 @@ use crate::kept::{Kinds, Places};
 use crate::limit::Limit;
 use std::mem::size_of;
 
-/// What a line of a history tells of the firing of an active pair: its event, by the places of names in the table of the bench,
+/// What a line of a history tells of the firing of an active pair: its event, by the places of its names in a table,
 /// and the limit that the firing met, if it met one.
 #[derive(Clone, Copy, Debug, PartialEq, Eq)]
 pub struct PairNote {
