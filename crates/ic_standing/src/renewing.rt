@@ -77,7 +77,8 @@ fn without_fired<L: LinkStore>(
     Ok(fresh)
 }
 
-/// A queue without leads, with room for each name that is known and for those of the children of one event more.
+/// A queue without leads, with room for twice the names that are known, and for those of the children of one event more: so the
+/// children of further events don't make it grow at once.
 fn empty_queue<L: LinkStore>(alloc: Global, set: &BareSet<L>) -> Result<LeadQueue, AllocError>
     ensures empty { IfOk result (λ queue. queue.leads ≡ []) }
     ensures heap { IfOk result (λ queue. IsHeap set.now.names queue.leads) }
@@ -85,7 +86,7 @@ fn empty_queue<L: LinkStore>(alloc: Global, set: &BareSet<L>) -> Result<LeadQueu
 {
     set.lawful();
     let mut queue = LeadQueue::new(alloc);
-    queue.reserve(set.roster().names().len() + MAX_CHILDREN)?;
+    queue.reserve(2 * set.roster().names().len() + MAX_CHILDREN)?;
     Ok(queue)
 }
 
