@@ -3,17 +3,12 @@
 
 Prints, for each kind of net and each number of workers, how many events are fired, the least of the seconds that the reduction
 takes, how much longer it takes than by one worker, and which share of the workers' instructions is made under the lock of
-the bench. Seconds are those from a command to its answer, in a session that has read its net.
-
-Each number of workers has the same cores: a round is a session of one worker on each of four cores in turn, one of two on each
-half of them, and one of four on all, and a round's seconds by a number of workers are the mean of its sessions. For where a host
-lends a core to others now and then, one worker that may choose the best of cores and of times meets none of it, and four
-that need all cores at once nearly always do. There are thirty rounds, and how much longer is told in three ways: by the least of
-all; by the best of each five in a row, of which the middle one is told; and by the mean of all. The mean alone leans to no side:
-a round of one worker is a mean of four sessions and varies less than one of four workers, which is a single session, so that the
-least and the bests of rounds favour many workers. The share is counted by
-valgrind, with two workers, on a smaller net: it is that of the calls into the crates of the bench, so that what the compiler
-put into the worker's own code isn't in it.
+the bench. Seconds are those from a command to its answer, in a session that has read its net. There are forty rounds of
+one session each, interleaved, and how much longer is told in three ways: by the least of all; by the best of each five in a
+row, of which the middle one is told; and by the mean of all. A reduction by many workers is undisturbed only where all
+their cores are at once, and one by one worker where its own is: so where a host lets others disturb a core now and then,
+bests favour one worker, and means don't. The share is counted by valgrind, with two workers, on a smaller net: it is that of
+the calls into the crates of the bench, so that what the compiler put into the worker's own code isn't in it.
 
 All events that a net comes to are fired, so that each number of workers fires the same ones.
 
@@ -22,7 +17,6 @@ commutations: independent pairs, of whose children two pairs are active then, bo
 copies: independent nets of nine events, of which one makes the next active
 """
 
-import os
 import pathlib
 import re
 import shutil
@@ -34,10 +28,9 @@ import time
 
 from reduce import COPY, COPY_EVENTS, PROGRAM, erasers, self_wired
 
-ROUNDS = 30
+ROUNDS = 40
 GROUP = 5
 WORKERS = (1, 2, 4)
-CORES = sorted(os.sched_getaffinity(0))[: WORKERS[-1]]
 KINDS = {
     "erasures": (lambda pairs: (erasers(pairs), pairs), 32_767),
     "annihilations": (lambda pairs: (self_wired(pairs, "G", "G"), pairs), 32_767),
@@ -56,10 +49,9 @@ def wanted(command, answer, want):
         sys.exit(f"{command}: {answer[:80]}")
 
 
-def reduction(command, net, events, cores=CORES):
+def reduction(command, net, events):
     """Seconds from the command to reduce to its answer, once the answer to another tells that the net was read."""
-    keep = lambda: os.sched_setaffinity(0, cores)
-    with subprocess.Popen(command, stdin=subprocess.PIPE, stdout=subprocess.PIPE, preexec_fn=keep) as session:
+    with subprocess.Popen(command, stdin=subprocess.PIPE, stdout=subprocess.PIPE) as session:
         session.stdin.write(f"{net}---\nundo-all\n".encode())
         session.stdin.flush()
         wanted(command, session.stdout.readline(), "undone-all 0")
@@ -74,18 +66,12 @@ def reduction(command, net, events, cores=CORES):
     return taken
 
 
-def shares(workers):
-    """The cores in shares of as many as there are workers."""
-    return [CORES[first : first + workers] for first in range(0, len(CORES), workers)]
-
-
 def seconds(program, net, events):
     """Seconds of the reduction, by each number of workers, round by round."""
     took = {workers: [] for workers in WORKERS}
     for _ in range(ROUNDS):
         for workers, taken in took.items():
-            command = [program, "--workers", str(workers)]
-            taken.append(statistics.mean(reduction(command, net, events, cores) for cores in shares(workers)))
+            taken.append(reduction([program, "--workers", str(workers)], net, events))
     return took
 
 
