@@ -3,12 +3,15 @@
 
 Prints, for each kind of net and each number of workers, how many events are fired, the least of the seconds that the reduction
 takes, how much longer it takes than by one worker, and which share of the workers' instructions is made under the lock of
-the bench. Seconds are those from a command to its answer, in a session that has read its net. There are forty rounds of
-one session each, interleaved, and how much longer is told in three ways: by the least of all; by the best of each five in a
-row, of which the middle one is told; and by the mean of all. A reduction by many workers is undisturbed only where all
-their cores are at once, and one by one worker where its own is: so where a host lets others disturb a core now and then,
-bests favour one worker, and means don't. The share is counted by valgrind, with two workers, on a smaller net: it is that of
-the calls into the crates of the bench, so that what the compiler put into the worker's own code isn't in it.
+the bench. Seconds are those from a command to its answer, in a session that has read its net. A round is one session by each
+number of workers, one after the other, and how much longer is told in three ways: by the least of all; by the best of each five
+in a row, of which the middle one is told; and by the mean of all.
+
+Where others use a core, too, a session by one worker meets it now and then and one by four workers nearly always, so that a best
+of five tells of the host and not of the program. So a round counts where all of four cores were there: a loop of sums runs on
+each of them at once before and after each of its sessions, and none may take a quarter longer than the least that was
+seen. It ends with 40 rounds that count, or with 400. The share is counted by valgrind, with two workers, on a smaller
+net: it is that of the calls into the crates of the bench, so that what the compiler put into the worker's own code isn't in it.
 
 All events that a net comes to are fired, so that each number of workers fires the same ones.
 
@@ -17,6 +20,8 @@ commutations: independent pairs, of whose children two pairs are active then, bo
 copies: independent nets of nine events, of which one makes the next active
 """
 
+import multiprocessing
+import os
 import pathlib
 import re
 import shutil
@@ -29,7 +34,11 @@ import time
 from reduce import COPY, COPY_EVENTS, PROGRAM, erasers, self_wired
 
 ROUNDS = 40
+MOST_ROUNDS = 400
 GROUP = 5
+CORES = sorted(os.sched_getaffinity(0))[:4]
+SUMS = range(200_000)
+SLOWER = 1.25
 WORKERS = (1, 2, 4)
 KINDS = {
     "erasures": (lambda pairs: (erasers(pairs), pairs), 32_767),
@@ -66,13 +75,45 @@ def reduction(command, net, events):
     return taken
 
 
-def seconds(program, net, events):
-    """Seconds of the reduction, by each number of workers, round by round."""
-    took = {workers: [] for workers in WORKERS}
-    for _ in range(ROUNDS):
-        for workers, taken in took.items():
-            taken.append(reduction([program, "--workers", str(workers)], net, events))
-    return took
+def timed_sums(core):
+    """Seconds that a loop of sums takes on a core."""
+    os.sched_setaffinity(0, [core])
+    begun = time.perf_counter()
+    sum(SUMS)
+    return time.perf_counter() - begun
+
+
+class Cores:
+    """Processes that time a loop of sums on each of four cores when they are asked to."""
+
+    def __init__(self):
+        self.pool = multiprocessing.Pool(len(CORES))
+        self.least = min(min(self.times()) for _ in range(50))
+
+    def times(self):
+        """Seconds of the loop on each core, all at once."""
+        return self.pool.map(timed_sums, CORES, chunksize=1)
+
+    def are_there(self):
+        """Whether none takes a quarter longer than the least that was seen."""
+        times = self.times()
+        self.least = min(self.least, *times)
+        return max(times) <= SLOWER * self.least
+
+
+def seconds(program, net, events, cores):
+    """Seconds of the reduction, by each number of workers, round by round, and how many rounds there were."""
+    took, rounds = {workers: [] for workers in WORKERS}, 0
+    while len(took[1]) < ROUNDS and rounds < MOST_ROUNDS:
+        rounds += 1
+        row, there = {}, cores.are_there()
+        for workers in WORKERS:
+            row[workers] = reduction([program, "--workers", str(workers)], net, events)
+            there = cores.are_there() and there
+        if there:
+            for workers, taken in row.items():
+                took[workers].append(taken)
+    return took, rounds
 
 
 def bests(taken):
@@ -114,18 +155,22 @@ def under_lock(program, net, events):
 
 def main():
     program = sys.argv[1] if len(sys.argv) > 1 else str(PROGRAM)
+    cores = Cores()
     ways = f"{'by least':>10}{'by fives':>10}{'by mean':>9}"
-    print(f"{'net':<14}{'events':>8}{'workers':>9}{'seconds':>9}{ways}{'under lock':>12}", flush=True)
+    print(f"{'net':<14}{'events':>8}{'workers':>9}{'rounds':>9}{'seconds':>9}{ways}{'under lock':>12}", flush=True)
     for kind in sys.argv[2:] or KINDS:
         make, size = KINDS[kind]
         share = under_lock(program, *make(size // SMALLER))
         net, events = make(size)
-        took = seconds(program, net, events)
+        took, rounds = seconds(program, net, events, cores)
+        if len(took[1]) < GROUP:
+            sys.exit(f"{kind}: {len(took[1])} of {rounds} rounds count")
         for workers, taken in took.items():
             shown = share if workers > 1 else ""
             least, fives, mean = beside(taken, took[1])
             ways = f"{least:>10.2f}{fives:>10.2f}{mean:>9.2f}"
-            print(f"{kind:<14}{events:>8}{workers:>9}{min(taken):>9.3f}{ways}{shown:>12}", flush=True)
+            count = f"{len(taken)}/{rounds}"
+            print(f"{kind:<14}{events:>8}{workers:>9}{count:>9}{min(taken):>9.3f}{ways}{shown:>12}", flush=True)
 
 
 if __name__ == "__main__":
