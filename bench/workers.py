@@ -7,11 +7,12 @@ the bench. Seconds are those from a command to its answer, in a session that has
 number of workers, one after the other, and how much longer is told in three ways: by the least of all; by the best of each five
 in a row, of which the middle one is told; and by the mean of all.
 
-Where others use a core, too, a session by one worker meets it now and then and one by four workers nearly always, so that a best
-of five tells of the host and not of the program. So a round counts where all of four cores were there: a loop of sums runs on
-each of them at once before and after each of its sessions, and none may take a quarter longer than the least that was
-seen. It ends with 40 rounds that count, or with 400. The share is counted by valgrind, with two workers, on a smaller
-net: it is that of the calls into the crates of the bench, so that what the compiler put into the worker's own code isn't in it.
+Where others use a core, too, it is slower for that time: a session by one worker meets it now and then and one by four workers
+nearly always, so that a best of five tells of the host and not of the program. So a round counts where the four cores were
+alike throughout: a loop of sums runs on each of them at once before and after each of its sessions, and none of these loops may
+take a quarter longer than another. It ends with 40 rounds that count, or with 200. The share is
+counted by valgrind, with two workers, on a smaller net: it is that of the calls into the crates of the bench, so that what the
+compiler put into the worker's own code isn't in it.
 
 All events that a net comes to are fired, so that each number of workers fires the same ones.
 
@@ -34,7 +35,7 @@ import time
 from reduce import COPY, COPY_EVENTS, PROGRAM, erasers, self_wired
 
 ROUNDS = 40
-MOST_ROUNDS = 400
+MOST_ROUNDS = 200
 GROUP = 5
 CORES = sorted(os.sched_getaffinity(0))[:4]
 SUMS = range(200_000)
@@ -88,17 +89,10 @@ class Cores:
 
     def __init__(self):
         self.pool = multiprocessing.Pool(len(CORES))
-        self.least = min(min(self.times()) for _ in range(50))
 
     def times(self):
         """Seconds of the loop on each core, all at once."""
         return self.pool.map(timed_sums, CORES, chunksize=1)
-
-    def are_there(self):
-        """Whether none takes a quarter longer than the least that was seen."""
-        times = self.times()
-        self.least = min(self.least, *times)
-        return max(times) <= SLOWER * self.least
 
 
 def seconds(program, net, events, cores):
@@ -106,11 +100,11 @@ def seconds(program, net, events, cores):
     took, rounds = {workers: [] for workers in WORKERS}, 0
     while len(took[1]) < ROUNDS and rounds < MOST_ROUNDS:
         rounds += 1
-        row, there = {}, cores.are_there()
+        row, sums = {}, cores.times()
         for workers in WORKERS:
             row[workers] = reduction([program, "--workers", str(workers)], net, events)
-            there = cores.are_there() and there
-        if there:
+            sums += cores.times()
+        if max(sums) <= SLOWER * min(sums):
             for workers, taken in row.items():
                 took[workers].append(taken)
     return took, rounds
