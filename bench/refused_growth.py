@@ -84,15 +84,21 @@ class Refuser:
 
     def __init__(self, folder):
         self.asked = folder / "asked"
+        self.given = folder / "given"
         self.library = folder / "refuser.so"
         source = folder / "refuser.c"
         source.write_text(REFUSER)
         subprocess.run(["cc", "-O2", "-shared", "-fPIC", "-o", self.library, source], check=True)
 
     def run(self, command, refused, given=b""):
-        """Status and output with the allocation of this number refused, and how many there were; 0 refuses none."""
+        """Status and output with the allocation of this number refused, and how many there were; 0 refuses none.
+
+        The input is a file: of a pipe, less may be read at a time, and that changes how often memory is asked for.
+        """
         env = {**os.environ, "LD_PRELOAD": str(self.library), "REFUSED": str(refused), "ASKED": str(self.asked)}
-        ran = subprocess.run(command, input=given, capture_output=True, env=env, timeout=60)
+        self.given.write_bytes(given)
+        with self.given.open("rb") as read:
+            ran = subprocess.run(command, stdin=read, capture_output=True, env=env, timeout=60)
         return ran.returncode, ran.stdout, struct.unpack("l", self.asked.read_bytes())[0]
 
 

@@ -8,9 +8,9 @@ number of workers, one after the other, and how much longer is told in three way
 in a row, of which the middle one is told; and by the mean of all.
 
 Where others use a core, too, it is slower for that time: a session by one worker meets it now and then and one by four workers
-nearly always, so that a best of five tells of the host and not of the program. So a round counts where the four cores were
-alike throughout: a loop of sums runs on each of them at once before and after each of its sessions, and none of these loops may
-take a quarter longer than another. It ends with 40 rounds that count, or with 200. The share is
+nearly always, so that a best of five tells of the host and not of the program. So a session counts where the four cores were
+alike: a loop of sums runs on each of them at once before the session and after it, and none of these eight may take a quarter
+longer than another. It ends with 40 sessions that count by each number of workers, or with 200 rounds. The share is
 counted by valgrind, with two workers, on a smaller net: it is that of the calls into the crates of the bench, so that what the
 compiler put into the worker's own code isn't in it.
 
@@ -34,7 +34,7 @@ import time
 
 from reduce import COPY, COPY_EVENTS, PROGRAM, erasers, self_wired
 
-ROUNDS = 40
+SESSIONS = 40
 MOST_ROUNDS = 200
 GROUP = 5
 CORES = sorted(os.sched_getaffinity(0))[:4]
@@ -96,17 +96,16 @@ class Cores:
 
 
 def seconds(program, net, events, cores):
-    """Seconds of the reduction, by each number of workers, round by round, and how many rounds there were."""
-    took, rounds = {workers: [] for workers in WORKERS}, 0
-    while len(took[1]) < ROUNDS and rounds < MOST_ROUNDS:
+    """Seconds of the reduction in the sessions that count, by each number of workers, and how many rounds there were."""
+    took, rounds, before = {workers: [] for workers in WORKERS}, 0, cores.times()
+    while min(map(len, took.values())) < SESSIONS and rounds < MOST_ROUNDS:
         rounds += 1
-        row, sums = {}, cores.times()
-        for workers in WORKERS:
-            row[workers] = reduction([program, "--workers", str(workers)], net, events)
-            sums += cores.times()
-        if max(sums) <= SLOWER * min(sums):
-            for workers, taken in row.items():
-                took[workers].append(taken)
+        for workers, taken in took.items():
+            lasted = reduction([program, "--workers", str(workers)], net, events)
+            after = cores.times()
+            if max(before + after) <= SLOWER * min(before + after) and len(taken) < SESSIONS:
+                taken.append(lasted)
+            before = after
     return took, rounds
 
 
@@ -151,20 +150,21 @@ def main():
     program = sys.argv[1] if len(sys.argv) > 1 else str(PROGRAM)
     cores = Cores()
     ways = f"{'by least':>10}{'by fives':>10}{'by mean':>9}"
-    print(f"{'net':<14}{'events':>8}{'workers':>9}{'rounds':>9}{'seconds':>9}{ways}{'under lock':>12}", flush=True)
+    print(f"{'net':<14}{'events':>8}{'workers':>9}{'count':>8}{'seconds':>9}{ways}{'under lock':>12}", flush=True)
     for kind in sys.argv[2:] or KINDS:
         make, size = KINDS[kind]
         share = under_lock(program, *make(size // SMALLER))
         net, events = make(size)
         took, rounds = seconds(program, net, events, cores)
-        if len(took[1]) < GROUP:
-            sys.exit(f"{kind}: {len(took[1])} of {rounds} rounds count")
+        least = min(map(len, took.values()))
+        if least < GROUP:
+            sys.exit(f"{kind}: {least} sessions count in {rounds} rounds")
         for workers, taken in took.items():
             shown = share if workers > 1 else ""
             least, fives, mean = beside(taken, took[1])
             ways = f"{least:>10.2f}{fives:>10.2f}{mean:>9.2f}"
             count = f"{len(taken)}/{rounds}"
-            print(f"{kind:<14}{events:>8}{workers:>9}{count:>9}{min(taken):>9.3f}{ways}{shown:>12}", flush=True)
+            print(f"{kind:<14}{events:>8}{workers:>9}{count:>8}{min(taken):>9.3f}{ways}{shown:>12}", flush=True)
 
 
 if __name__ == "__main__":
