@@ -4,13 +4,13 @@
 Prints, for each kind of net and each number of workers, how many events are fired, the least of the seconds that the reduction
 takes, how much longer it takes than by one worker, and which share of the workers' instructions is made under the lock of
 the bench. Seconds are those from a command to its answer, in a session that has read its net. A round is one session by each
-number of workers, one after the other, and how much longer is told in three ways: by the least of all; by the best of each five
-in a row, of which the middle one is told; and by the mean of all.
+number of workers, one after the other, and how much longer is told in three ways: by the least of the sessions that count; by the
+best of each five of these in a row, of which the middle one is told; and by the mean of all sessions.
 
 Where others use a core, too, it is slower for that time: a session by one worker meets it now and then and one by four workers
-nearly always, so that a best of five tells of the host and not of the program. So a session counts where the four cores were
-alike: a loop of sums runs on each of them at once before the session and after it, and none of these eight may take a quarter
-longer than another. It ends with 40 sessions that count by each number of workers, or with 200 rounds. The share is
+nearly always, so that a best of five would tell of the host and not of the program. So a session counts where the four cores
+were alike: a loop of sums runs on each of them at once before the session and after it, and none of these eight may take a
+quarter longer than another. It ends with 40 sessions that count by each number of workers, or with 200 rounds. The share is
 counted by valgrind, with two workers, on a smaller net: it is that of the calls into the crates of the bench, so that what the
 compiler put into the worker's own code isn't in it.
 
@@ -96,17 +96,17 @@ class Cores:
 
 
 def seconds(program, net, events, cores):
-    """Seconds of the reduction in the sessions that count, by each number of workers, and how many rounds there were."""
-    took, rounds, before = {workers: [] for workers in WORKERS}, 0, cores.times()
-    while min(map(len, took.values())) < SESSIONS and rounds < MOST_ROUNDS:
-        rounds += 1
+    """Seconds of the reduction by each number of workers: in the sessions that count, and in all of them."""
+    took, every, before = {workers: [] for workers in WORKERS}, {workers: [] for workers in WORKERS}, cores.times()
+    while min(map(len, took.values())) < SESSIONS and len(every[1]) < MOST_ROUNDS:
         for workers, taken in took.items():
             lasted = reduction([program, "--workers", str(workers)], net, events)
             after = cores.times()
+            every[workers].append(lasted)
             if max(before + after) <= SLOWER * min(before + after) and len(taken) < SESSIONS:
                 taken.append(lasted)
             before = after
-    return took, rounds
+    return took, every
 
 
 def bests(taken):
@@ -115,9 +115,9 @@ def bests(taken):
 
 
 def beside(taken, others):
-    """How much longer some seconds are than others: by the least, by the bests of each five, and by the mean."""
+    """How much longer some seconds are than others: by the least, and by the bests of each five."""
     fives = [best / other for best, other in zip(bests(taken), bests(others))]
-    return min(taken) / min(others), statistics.median(fives), sum(taken) / sum(others)
+    return min(taken) / min(others), statistics.median(fives)
 
 
 def under_lock(program, net, events):
@@ -155,15 +155,16 @@ def main():
         make, size = KINDS[kind]
         share = under_lock(program, *make(size // SMALLER))
         net, events = make(size)
-        took, rounds = seconds(program, net, events, cores)
-        least = min(map(len, took.values()))
-        if least < GROUP:
-            sys.exit(f"{kind}: {least} sessions count in {rounds} rounds")
+        took, every = seconds(program, net, events, cores)
+        fewest = min(map(len, took.values()))
+        if fewest < GROUP:
+            sys.exit(f"{kind}: {fewest} sessions count in {len(every[1])} rounds")
         for workers, taken in took.items():
             shown = share if workers > 1 else ""
-            least, fives, mean = beside(taken, took[1])
+            least, fives = beside(taken, took[1])
+            mean = sum(every[workers]) / sum(every[1])
             ways = f"{least:>10.2f}{fives:>10.2f}{mean:>9.2f}"
-            count = f"{len(taken)}/{rounds}"
+            count = f"{len(taken)}/{len(every[workers])}"
             print(f"{kind:<14}{events:>8}{workers:>9}{count:>8}{min(taken):>9.3f}{ways}{shown:>12}", flush=True)
 
 
