@@ -3,16 +3,12 @@
 
 Prints, for each kind of net and each number of workers, how many events are fired, the least of the seconds that the reduction
 takes, how much longer it takes than by one worker, and which share of the workers' instructions is made under the lock of
-the bench. Seconds are those from a command to its answer, in a session that has read its net. A round is one session by each
-number of workers, one after the other, and how much longer is told in three ways: by the least of the sessions that count; by the
-best of each five of these in a row, of which the middle one is told; and by the mean of all sessions.
-
-Where others use a core, too, it is slower for that time: a session by one worker meets it now and then and one by four workers
-nearly always, so that a best of five would tell of the host and not of the program. So a session counts where the four cores
-were alike: a loop of sums runs on each of them at once before the session and after it, and none of these eight may take a
-quarter longer than another. It ends with 40 sessions that count by each number of workers, or with 200 rounds. The share is
-counted by valgrind, with two workers, on a smaller net: it is that of the calls into the crates of the bench, so that what the
-compiler put into the worker's own code isn't in it.
+the bench. Seconds are those from a command to its answer, in a session that has read its net. There are forty rounds of
+one session each, interleaved, and how much longer is told in three ways: by the least of all; by the best of each five in a
+row, of which the middle one is told; and by the mean of all. A reduction by many workers is undisturbed only where all
+their cores are at once, and one by one worker where its own is: so where a host lets others disturb a core now and then,
+bests favour one worker, and means don't. The share is counted by valgrind, with two workers, on a smaller net: it is that of
+the calls into the crates of the bench, so that what the compiler put into the worker's own code isn't in it.
 
 All events that a net comes to are fired, so that each number of workers fires the same ones.
 
@@ -21,8 +17,6 @@ commutations: independent pairs, of whose children two pairs are active then, bo
 copies: independent nets of nine events, of which one makes the next active
 """
 
-import multiprocessing
-import os
 import pathlib
 import re
 import shutil
@@ -34,12 +28,8 @@ import time
 
 from reduce import COPY, COPY_EVENTS, PROGRAM, erasers, self_wired
 
-SESSIONS = 40
-MOST_ROUNDS = 200
+ROUNDS = 40
 GROUP = 5
-CORES = sorted(os.sched_getaffinity(0))[:4]
-SUMS = range(200_000)
-SLOWER = 1.25
 WORKERS = (1, 2, 4)
 KINDS = {
     "erasures": (lambda pairs: (erasers(pairs), pairs), 32_767),
@@ -76,37 +66,13 @@ def reduction(command, net, events):
     return taken
 
 
-def timed_sums(core):
-    """Seconds that a loop of sums takes on a core."""
-    os.sched_setaffinity(0, [core])
-    begun = time.perf_counter()
-    sum(SUMS)
-    return time.perf_counter() - begun
-
-
-class Cores:
-    """Processes that time a loop of sums on each of four cores when they are asked to."""
-
-    def __init__(self):
-        self.pool = multiprocessing.Pool(len(CORES))
-
-    def times(self):
-        """Seconds of the loop on each core, all at once."""
-        return self.pool.map(timed_sums, CORES, chunksize=1)
-
-
-def seconds(program, net, events, cores):
-    """Seconds of the reduction by each number of workers: in the sessions that count, and in all of them."""
-    took, every, before = {workers: [] for workers in WORKERS}, {workers: [] for workers in WORKERS}, cores.times()
-    while min(map(len, took.values())) < SESSIONS and len(every[1]) < MOST_ROUNDS:
+def seconds(program, net, events):
+    """Seconds of the reduction, by each number of workers, round by round."""
+    took = {workers: [] for workers in WORKERS}
+    for _ in range(ROUNDS):
         for workers, taken in took.items():
-            lasted = reduction([program, "--workers", str(workers)], net, events)
-            after = cores.times()
-            every[workers].append(lasted)
-            if max(before + after) <= SLOWER * min(before + after) and len(taken) < SESSIONS:
-                taken.append(lasted)
-            before = after
-    return took, every
+            taken.append(reduction([program, "--workers", str(workers)], net, events))
+    return took
 
 
 def bests(taken):
@@ -115,9 +81,9 @@ def bests(taken):
 
 
 def beside(taken, others):
-    """How much longer some seconds are than others: by the least, and by the bests of each five."""
+    """How much longer some seconds are than others: by the least, by the bests of each five, and by the mean."""
     fives = [best / other for best, other in zip(bests(taken), bests(others))]
-    return min(taken) / min(others), statistics.median(fives)
+    return min(taken) / min(others), statistics.median(fives), sum(taken) / sum(others)
 
 
 def under_lock(program, net, events):
@@ -148,24 +114,18 @@ def under_lock(program, net, events):
 
 def main():
     program = sys.argv[1] if len(sys.argv) > 1 else str(PROGRAM)
-    cores = Cores()
     ways = f"{'by least':>10}{'by fives':>10}{'by mean':>9}"
-    print(f"{'net':<14}{'events':>8}{'workers':>9}{'count':>8}{'seconds':>9}{ways}{'under lock':>12}", flush=True)
+    print(f"{'net':<14}{'events':>8}{'workers':>9}{'seconds':>9}{ways}{'under lock':>12}", flush=True)
     for kind in sys.argv[2:] or KINDS:
         make, size = KINDS[kind]
         share = under_lock(program, *make(size // SMALLER))
         net, events = make(size)
-        took, every = seconds(program, net, events, cores)
-        fewest = min(map(len, took.values()))
-        if fewest < GROUP:
-            sys.exit(f"{kind}: {fewest} sessions count in {len(every[1])} rounds")
+        took = seconds(program, net, events)
         for workers, taken in took.items():
             shown = share if workers > 1 else ""
-            least, fives = beside(taken, took[1])
-            mean = sum(every[workers]) / sum(every[1])
+            least, fives, mean = beside(taken, took[1])
             ways = f"{least:>10.2f}{fives:>10.2f}{mean:>9.2f}"
-            count = f"{len(taken)}/{len(every[workers])}"
-            print(f"{kind:<14}{events:>8}{workers:>9}{count:>8}{min(taken):>9.3f}{ways}{shown:>12}", flush=True)
+            print(f"{kind:<14}{events:>8}{workers:>9}{min(taken):>9.3f}{ways}{shown:>12}", flush=True)
 
 
 if __name__ == "__main__":
