@@ -34,9 +34,9 @@ PROGRAM = CRATES / "ic_bench" / "out" / "ic_bench"
 # The tests that pass whichever allocation is refused, by crate: links of the fast store; calls of desks over both stores,
 # sessions of one and two workers, and undos with room; firings and sweeps of a shared bench.
 TESTS = {
-    "ic_test_nets": ["growth"],
-    "ic_test_sessions": ["refused_growth", "repeated_lines", "undos_with_room"],
-    "ic_test_threads": ["refused_growth"],
+    "ic_test_text": ["table::growth"],
+    "ic_test_session": ["desk::refused_growth", "session::repeated_lines", "desk::undos_with_room"],
+    "ic_test_work": ["shared::refused_growth"],
 }
 
 # A session has all of its allocations refused where that takes about these seconds at most, and else so many as do.
@@ -227,7 +227,7 @@ def main():
             program = CRATES / crate / "out" / f"{crate}_tests"
             listed = subprocess.run([program, "--list"], capture_output=True, text=True, check=True).stdout
             for name in re.findall(r"^(\S+): test$", listed, re.M):
-                if name.split("::")[0] in modules and wanted(name):
+                if name.rpartition("::")[0] in modules and wanted(name):
                     failed, asked = fails_in_test(refuser, [program, name])
                     met += asked
                     bad += [f"{crate} {name} at {number}" for number in failed]

@@ -3,7 +3,7 @@ ghost use Rattle.std.specs.Io.KnownBytes.{Appends};
 ghost use Rattle.std.specs.IoError.{error_kind};
 ghost use Rattle.std.specs.declared.io.ErrorKind.TheVariants as io_kinds;
 ghost use Rattle.clap.specs.Words.{kind_of};
-ghost use Rattle.ic_lines.specs.Faults.{AppendsFront};
+ghost use Rattle.ic_command.specs.Faults.{AppendsFront};
 ghost use Rattle.ic_session.specs.Sessions.{NamesFault};
 ghost use Rattle.ic_bench.specs.Runs.{Explains, Runs, RunsSession};
 ghost use Rattle.ic_bench.specs.Statuses.{fault_line, fault_status};
@@ -14,7 +14,7 @@ use crate::statuses::{
 };
 use clap::Error;
 use clap::error::ErrorKind;
-use ic_lines::write_reply;
+use ic_command::write_reply;
 use ic_session::{Fault, Gate, MAX_WORKERS, Mode, Setting, run_in, run_session};
 use std::alloc::Global;
 use std::convert::AsStr;

@@ -1,4 +1,4 @@
-use ic_lines::write_reply;
+use ic_command::write_reply;
 use ic_session::Gate;
 
 /// How many events are fired between two notes of a reduction's progress.

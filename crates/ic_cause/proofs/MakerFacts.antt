@@ -13,9 +13,10 @@ use Rattle.ic_name.specs.declared.ids.MakerId.TheVariants as maker
 use Rattle.ic_name.specs.Spots.{same_event}
 use Rattle.ic_link.specs.Links.{makers_of, with_maker}
 use Rattle.ic_cause.specs.Makers.{IsMaker, AreMakers}
-use Rattle.ic_cause.specs.EventOrders.{event_cmp}
-use Rattle.ic_cause.proofs.EventOrder.{event_total, event_at, event_equivalence, same_event_true}
-use Rattle.ic_cause.proofs.StrictOrders.{strict_once}
+use Rattle.ic_name.specs.EventOrders.{event_cmp}
+use Rattle.ic_name.proofs.EventOrder.{event_total, event_at, event_equivalence}
+use Rattle.ic_path.proofs.StrictOrders.{strict_once}
+use Rattle.ic_name.proofs.SameFacts.{same_event_true}
 
 -- the events made links of these ids, and some may be there twice
 pub record HasMakers (ids : List LinkId) (es : List EventId) : Type 0 where

@@ -9,7 +9,7 @@ use Rattle.ic_theory.specs.Sound.{IsSound}
 use Rattle.ic_theory.proofs.Replies.{canonical_total}
 use Rattle.ic_theory.proofs.Restored.{rank-alike}
 use Rattle.ic_cause.specs.Journals.{Ranked, AreCanonical, IsJournal}
-use Rattle.ic_cause.proofs.StrictOrders.{sorted_same}
+use Rattle.ic_path.proofs.StrictOrders.{sorted_same}
 
 -- a ranked event is told by its event, where that gives its rank
 ranked_same : (rank : Event → ℕ) (xs ys : List Ranked) → map (λ (x : Ranked). x.event) xs ≡ map (λ (x : Ranked). x.event) ys

@@ -2,7 +2,7 @@
 use Rattle.std.proofs.Common.{◌≡◌, ℕ, ◌+◌, ◌≤◌, ◌<◌, List, [], ◌∷◌, ◌++◌, ◌⊎◌, inl, inr, refl, arith}
 use Rattle.ic_path.specs.Orders.{IsIn}
 use Rattle.ic_cause.specs.Ranks.{IsRankAbove}
-use Rattle.ic_cause.proofs.ListEnds.{in-end_cases, in_end, in_before}
+use Rattle.ic_path.proofs.ListEnds.{in-end_cases, in_end, in_before}
 
 -- a rank that is no less than the one above the others moves it
 pub rank_moves : (rs : List ℕ) (above r : ℕ) → IsRankAbove rs above → above ≤ r → IsRankAbove (rs ++ r ∷ []) (r + 1)

@@ -3,8 +3,8 @@ use Rattle.std.specs.Prelude.{◌≡◌, ℕ, List, ◌++◌, length, map, codes
 use Rattle.std.specs.Fmt.{decimal}
 use Rattle.std.specs.List.{flat_map}
 use Rattle.std.specs.List.Sorted.{IsStrictlySortedBy}
-use Rattle.ic_name.specs.Events.{Event}
-use Rattle.ic_name.specs.NameTexts.{name_text}
+use Rattle.ic_name.specs.Events.{Event, pair}
+use Rattle.ic_name.specs.NameTexts.{pair_text}
 use Rattle.ic_path.specs.Orders.{Alike, IsIn}
 use Rattle.ic_theory.specs.Starts.{Start}
 use Rattle.ic_theory.specs.Causes.{IsRank, canonical_cmp}
@@ -24,13 +24,9 @@ pub record IsJournal (s : Start) (es : List Event) (xs : List Ranked) : Type 0 w
   pub canonical : AreCanonical s es (map (λ x. x.event) xs)
   pub ranks : (rank : Event → ℕ) → IsRank s es rank → (x : Ranked) → IsIn x xs → x.rank ≡ rank x.event
 
--- the names of an event's two agents
-abbrev pub event_text : Event → List ℕ
-event_text e = name_text e.lead ++ codes " " ++ name_text e.other
-
 -- the line of an event and its rank
 abbrev pub journal_line : Ranked → List ℕ
-journal_line x = event_text x.event ++ codes " rank " ++ decimal x.rank ++ codes "\n"
+journal_line x = pair_text (pair x.event) ++ codes " rank " ++ decimal x.rank ++ codes "\n"
 
 -- the first line: how many events there are
 abbrev pub journal_head : ℕ → List ℕ

@@ -2,4 +2,5 @@ pub mod Journals
 pub mod Ranks
 pub mod Makers
 pub mod Places
-pub mod EventOrders
+pub mod Naming
+pub mod Shown

@@ -1,7 +1,7 @@
 ghost use Rattle.std.specs.Prelude.{◌≡◌, ◌++◌, map, IfOk, OnOk};
 ghost use Rattle.ic_cause.specs.Journals.{journal_head, journal_line, journal_text};
 
-use ic_name::Event;
+use ic_name::{Event, write_pair};
 use std::alloc::{AllocError, Global};
 
 /// An event and its rank.
@@ -34,9 +34,7 @@ pub fn journal_head(alloc: Global, events: usize) -> Result<Vec<u8>, AllocError>
 pub fn push_line(alloc: Global, text: &mut Vec<u8>, ranked: &RankedEvent) -> Result<(), AllocError>
     ensures { OnOk result (text.new.items ≡ text.old.items ++ journal_line (record { event = ranked.now.event; rank = ranked.now.rank })) }
 {
-    ranked.event.lead().write_to(text)?;
-    text.push(b' ')?;
-    ranked.event.other().write_to(text)?;
+    write_pair(ranked.event.lead(), ranked.event.other(), text)?;
     let rank = format!(in alloc; " rank {}\n", ranked.rank)?.into_bytes();
     text.extend_from_slice(&rank)?;
     Ok(())

@@ -5,8 +5,12 @@ pub mod journal;
 pub mod laws;
 pub mod makers;
 pub mod order;
+pub mod shown;
 
 pub use journal::{RankedEvent, journal_head, journal_text, push_line};
 pub use laws::{one_future, one_journal};
 pub use makers::direct_causes;
 pub use order::{canonical_cmp, rank_of};
+
+#[cfg(test)]
+mod tests;

@@ -16,3 +16,6 @@ pub use limits::{CLAIM_WORDS, MAX_BUDGET, MAX_SEATS, MAX_WORKERS};
 pub use rule::ClaimRule;
 pub use seat::Seat;
 pub use view::View;
+
+#[cfg(test)]
+mod tests;

@@ -8,3 +8,7 @@ pub mod WordsListed
 pub mod WordsAbsorbing
 pub mod RequestWords
 pub mod WordsQuestioned
+pub mod FirstLines
+pub mod Writes
+pub mod Taken
+pub mod Work

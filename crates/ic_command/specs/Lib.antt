@@ -5,3 +5,6 @@ pub mod Requests
 pub mod Listed
 pub mod Asked
 pub mod Questions
+pub mod Lines
+pub mod Left
+pub mod Faults

@@ -1,8 +1,8 @@
 -- The names of marks.
 use Rattle.std.specs.Prelude.{◌≡◌, ◌≤◌, ◌∷◌, ℕ, true, List, length, Option, Some, None}
 use Rattle.std.specs.List.{list_all}
-use Rattle.ic_grammar.specs.Texts.{is_letter, is_name_byte}
-use Rattle.ic_grammar.specs.declared.limits.TheConstants.{MAX_NAME}
+use Rattle.ic_text.specs.Texts.{is_letter, is_name_byte}
+use Rattle.ic_text.specs.declared.grammar.limits.TheConstants.{MAX_NAME}
 
 -- a name as it may stand in a net text: a letter, then letters and digits, not too long
 pub record IsMarkName (name : List ℕ) : Type 0 where

@@ -1,7 +1,7 @@
 ghost use Rattle.std.specs.Prelude.{◌≡◌, ◌≢◌, [], ◌∷◌, IfOk};
 ghost use Rattle.std.specs.List.{list_all};
 ghost use Rattle.std.specs.Io.BufRead.{strip_last};
-ghost use Rattle.ic_command.specs.Commands.{AreNumberUpTo, AreWordsOf, IsCommand, IsEventIn, IsNameIn, IsNumberIn, is_comment, is_plain, is_well_formed, within};
+ghost use Rattle.ic_command.specs.Commands.{AreNumberUpTo, AreWordsOf, IsEventIn, IsNameIn, IsNumberIn, is_comment, is_plain, is_well_formed, within};
 ghost use Rattle.ic_command.specs.Words.{words};
 ghost use Rattle.ic_command.specs.declared.command.Command.TheVariants.{Malformed};
 
@@ -49,18 +49,6 @@ impl Command {
             Command::Reduce(most) => Command::Reduce(most.min(budget)),
             other => other,
         }
-    }
-}
-
-/// The command of a line without its line feed. An error where there is no memory for the names in it.
-pub fn command_of(alloc: Global, line: &[u8]) -> Result<Command, AllocError>
-    ensures { IfOk result (λ command. IsCommand line.now command) }
-{
-    let body = without_return(line);
-    if is_well_formed(body) {
-        command_of_words(alloc, body)
-    } else {
-        Ok(Command::Malformed)
     }
 }
 

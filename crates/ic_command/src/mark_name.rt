@@ -1,10 +1,10 @@
 ghost use Rattle.std.specs.Prelude.{◌≡◌, ◌↔◌, IfOk, IsTrue};
 ghost use Rattle.std.specs.List.{list_all};
-ghost use Rattle.ic_grammar.specs.Texts.{is_name_byte};
+ghost use Rattle.ic_text.specs.Texts.{is_name_byte};
 ghost use Rattle.ic_command.specs.MarkNames.{IsMarkName, IsMarkNameIn};
 
-use ic_grammar::bytes::{is_letter, is_name_byte};
-use ic_grammar::limits::MAX_NAME;
+use ic_text::grammar::bytes::{is_letter, is_name_byte};
+use ic_text::grammar::limits::MAX_NAME;
 use std::alloc::{AllocError, Global};
 use std::marker::Model;
 

@@ -1,8 +1,8 @@
 ghost use Rattle.std.specs.Prelude.{◌≡◌, IfOk};
-ghost use Rattle.ic_command.specs.Requests.{AreRequestWords, IsMarkRequestIn, IsRequest, within};
+ghost use Rattle.ic_command.specs.Requests.{AreRequestWords, IsMarkRequestIn, within};
 ghost use Rattle.ic_command.specs.Words.{words};
 
-use crate::command::{Command, command_of_words, is_well_formed, without_return};
+use crate::command::{Command, command_of_words};
 use crate::mark_name::MarkName;
 use crate::words::next_word;
 use ic_name::EventName;
@@ -30,18 +30,6 @@ impl Request {
             Request::Bench(command) => Request::Bench(command.within(budget)),
             other => other,
         }
-    }
-}
-
-/// The request of a line without its line feed. An error where there is no memory for the names in it.
-pub fn request_of(alloc: Global, line: &[u8]) -> Result<Request, AllocError>
-    ensures { IfOk result (λ request. IsRequest line.now request) }
-{
-    let body = without_return(line);
-    if is_well_formed(body) {
-        request_in(alloc, body)
-    } else {
-        Ok(Request::Bench(Command::Malformed))
     }
 }
 

@@ -8,18 +8,18 @@ use Rattle.ic_theory.specs.Machine.{State, events}
 use Rattle.ic_set.specs.Views.{standing}
 use Rattle.ic_journal.specs.Views.{BenchView, set_of}
 use Rattle.ic_journal.specs.Benches.{IsAt}
-use Rattle.ic_reduce.specs.Reducing.{IsLeastActive}
-use Rattle.ic_reduce.proofs.LeastFired.{normal_at}
+use Rattle.ic_journal.specs.Reducing.{IsLeastActive}
+use Rattle.ic_journal.proofs.LeastFired.{normal_at}
 use Rattle.ic_command.specs.declared.command.Command.TheVariants.{Fire}
 use Rattle.ic_command.specs.declared.help.TheConstants.{HELP}
 use Rattle.ic_command.specs.declared.question.Question.{Question}
 use Rattle.ic_command.specs.declared.question.Question.TheVariants.{Marks, Rules, Help, Step}
 use Rattle.ic_command.specs.declared.request.Request.TheVariants.{Bench}
-use Rattle.ic_answer.specs.Questions.{InformsOf, rules}
-use Rattle.ic_answer.specs.Texts.{answer_text, refusal_text}
-use Rattle.ic_answer.specs.declared.answer.Answer.{Answer}
-use Rattle.ic_answer.specs.declared.refused.Refused.TheVariants.{NotActive, Memory}
-use Rattle.ic_answer.specs.declared.rules.TheConstants.{RULES}
+use Rattle.ic_desk.specs.BenchQuestions.{InformsOf, rules}
+use Rattle.ic_desk.specs.Texts.{answer_text, refusal_text}
+use Rattle.ic_desk.specs.declared.answer.Answer.{Answer}
+use Rattle.ic_desk.specs.declared.answer.refused.Refused.TheVariants.{NotActive, Memory}
+use Rattle.ic_desk.specs.declared.answer.rules.TheConstants.{RULES}
 use Rattle.ic_desk.specs.Questions.{Told, marks_text, of_bench, marks, help, stepped, nothing_active, memory}
 use Rattle.ic_desk.specs.Replies.{RepliesToRequest}
 use Rattle.ic_desk.specs.Views.{DeskView, NamedView, TurnsByRequest, note_of}

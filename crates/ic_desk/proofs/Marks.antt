@@ -1,14 +1,14 @@
 -- The marks of a desk, and those of a state.
-use Rattle.std.proofs.Common.{◌≡◌, ℕ, zero, suc, ◌+◌, ◌<◌, ◌≤◌, List, [], ◌∷◌, ◌++◌, length, map, set, take, drop, get_or, Bool, true, false, not, Option, Some, None, ◌⊎◌, inl, inr, refl, sym, ap, subst, append-nil, arith, ◌∙◌}
+use Rattle.std.proofs.Common.{◌≡◌, ℕ, zero, suc, ◌<◌, ◌≤◌, List, [], ◌∷◌, ◌++◌, length, map, set, take, drop, get_or, Bool, true, false, not, Option, Some, None, ◌⊎◌, inl, inr, refl, sym, ap, subst, append-nil, arith, ◌∙◌}
 use Rattle.std.specs.Prelude.{slice_get}
 use Rattle.std.specs.Option.{is_some}
-use Rattle.std.proofs.lemmas.List.{length-map, take_more, take_all, drop_all}
+use Rattle.std.proofs.lemmas.List.{length-map, take_all, drop_all}
 use Rattle.std.proofs.lemmas.Option.{slice_get_cases, get_or_from_slice_get}
 use Rattle.ic_path.specs.Orders.{Pick, here, there, IsIn, Alike}
 use Rattle.ic_path.proofs.Picks.{none_in, in_picked, in_others, in-cons_cases, pick-map}
 use Rattle.ic_path.proofs.Alikes.{alike_back, alike_then, alike_pick, alike-cons, alike-in, alike-length, alike-map, append-alike-comm, picked_alike}
-use Rattle.ic_cause.proofs.OnceLists.{pick_at}
-use Rattle.ic_shown.proofs.Elements.{in-append_cases, in-map, map_cases}
+use Rattle.ic_path.proofs.OnceLists.{pick_at}
+use Rattle.ic_path.proofs.InLists.{in-append_cases, in-map, map_cases}
 use Rattle.ic_desk.specs.Desks.{Noted, NoneNoted, IsNoted, Puts, replaced, added}
 use Rattle.ic_desk.specs.Places.{IsPlace, IsPlaceIn, PutsAt}
 use Rattle.ic_desk.specs.Views.{NamedView, note_of}
@@ -19,16 +19,6 @@ put_at : {X : Type 0} (xs : List X) (i : ℕ) (x : X) → i < length xs → Pick
 put_at [] i x h = absurd (omega arith)
 put_at (y ∷ xs) zero x h = here
 put_at (y ∷ xs) (suc i) x h = there (put_at xs i x (omega arith))
-
--- what holds of none so far, and not of the next one, holds of none then
-pub none_more : {X : Type 0} (P : X → Type 0) (xs : List X) (i : ℕ) (x d : X) → i < length xs → x ≡ get_or xs i d
-    → ((y : X) → IsIn y (take i xs) → P y → ⊥) → (P x → ⊥) → (y : X) → IsIn y (take (i + 1) xs) → P y → ⊥
-none_more P xs i x d h e none isnt y j p =
-    let seen = take_more xs i d h ∙ ap (λ z. take i xs ++ z ∷ []) (sym e) in
-    elim (in-append_cases (take i xs) (subst (λ ys. IsIn y ys) seen j)) [
-      | inl k ↦ none y k p
-      | inr k ↦ elim (in-cons_cases k) [ inl q ↦ isnt (subst P q p) | inr n ↦ absurd (none_in n) ]
-    ]
 
 -- what a test for a place says
 pub has_none : {X : Type 0} (r : Option X) (b : Bool) → is_some r ≡ not b → b ≡ true → r ≡ None

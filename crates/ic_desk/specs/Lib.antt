@@ -6,3 +6,13 @@ pub mod Places
 pub mod ManyWorkers
 pub mod Absorbs
 pub mod Questions
+pub mod Histories
+pub mod BenchQuestions
+pub mod Texts
+pub mod Standing
+pub mod Unwinding
+pub mod CommandReplies
+pub mod Ends
+pub mod Turns
+pub mod Longer
+pub use Rattle.ic_undo.specs.Absorbing

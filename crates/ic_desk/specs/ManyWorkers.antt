@@ -2,12 +2,12 @@
 use Rattle.std.specs.Prelude.{◌≡◌, ◌<◌, ℕ, List}
 use Rattle.ic_theory.specs.Starts.{Start}
 use Rattle.ic_theory.specs.Machine as machine
-use Rattle.ic_reduce.specs.declared.end.End.{End}
+use Rattle.ic_journal.specs.declared.reducing.end.End.{End}
 use Rattle.ic_work.specs.Sweeps.{IsSwept}
 use Rattle.ic_command.specs.declared.command.Command.TheVariants.{Reduce}
 use Rattle.ic_command.specs.declared.request.Request.{Request}
 use Rattle.ic_command.specs.declared.request.Request.TheVariants.{Bench}
-use Rattle.ic_answer.specs.Ends.{end_text}
+use Rattle.ic_desk.specs.Ends.{end_text}
 use Rattle.ic_desk.specs.Desks.{State}
 use Rattle.ic_desk.specs.Replies.{RepliesToRequest}
 use Rattle.ic_desk.specs.Views.{DeskView, IsDeskAt}

@@ -6,15 +6,15 @@ use Rattle.ic_name.specs.Events.{Event, pair}
 use Rattle.ic_path.specs.Orders.{Alike}
 use Rattle.ic_theory.specs.Starts.{Start}
 use Rattle.ic_theory.specs.Machine.{events}
-use Rattle.ic_reduce.specs.Reducing.{IsLeastActive, IsNormal}
+use Rattle.ic_journal.specs.Reducing.{IsLeastActive, IsNormal}
 use Rattle.ic_command.specs.declared.command.Command.TheVariants.{Fire}
 use Rattle.ic_command.specs.declared.help.TheConstants.{HELP}
 use Rattle.ic_command.specs.declared.question.Question.{Question}
 use Rattle.ic_command.specs.declared.question.Question.TheVariants.{Marks, Help, Step}
 use Rattle.ic_command.specs.declared.request.Request.TheVariants.{Bench}
-use Rattle.ic_answer.specs.Questions.{Informs}
-use Rattle.ic_answer.specs.Texts.{refusal_text}
-use Rattle.ic_answer.specs.declared.refused.Refused.TheVariants.{NotActive, Memory}
+use Rattle.ic_desk.specs.BenchQuestions.{Informs}
+use Rattle.ic_desk.specs.Texts.{refusal_text}
+use Rattle.ic_desk.specs.declared.answer.refused.Refused.TheVariants.{NotActive, Memory}
 use Rattle.ic_desk.specs.Desks.{Noted, State}
 use Rattle.ic_desk.specs.Replies.{RepliesToRequest}
 use Rattle.ic_desk.specs.Views.{DeskView, IsDeskAt}

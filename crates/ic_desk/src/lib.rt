@@ -2,6 +2,7 @@
 #![tactic(auto)]
 
 mod absorbing;
+pub mod answer;
 pub mod desk;
 pub mod fault;
 mod going_back;
@@ -10,6 +11,7 @@ mod named_mark;
 pub mod telling;
 mod texts;
 
+pub use answer::{Answer, RULES, Refused};
 pub use desk::{Desk, MAX_MARKS};
 pub use fault::DeskFault;
 pub use ic_work::{Gate, MAX_BUDGET, MAX_WORKERS, NoGate};

@@ -1,15 +1,15 @@
 ghost use Rattle.std.specs.Prelude.{◌≡◌, ◌++◌, IfOk, OnErr, OnOk, map};
-ghost use Rattle.ic_answer.specs.Longer.{HasGrown};
-ghost use Rattle.ic_answer.specs.Texts.{answer_text};
+ghost use Rattle.ic_desk.specs.Longer.{HasGrown};
+ghost use Rattle.ic_desk.specs.Texts.{answer_text};
 ghost use Rattle.ic_command.specs.declared.question.Question.TheVariants.{Step};
 ghost use Rattle.ic_desk.specs.Questions.{Told, mark_line, marks_text};
 ghost use Rattle.ic_desk.specs.Views.{note_of};
 
+use crate::answer::{Answer, RULES, Refused, tell_agents, tell_dependents, tell_history};
 use crate::desk::Desk;
 use crate::named_mark::NamedMark;
-use ic_answer::{Answer, NoGate, RULES, Refused, tell_agents, tell_dependents, tell_history};
 use ic_command::{Command, HELP, Question, Request};
-use ic_journal::LinkStore;
+use ic_journal::{LinkStore, NoGate};
 use std::alloc::{AllocError, Global};
 
 impl<L: LinkStore> Desk<L> {

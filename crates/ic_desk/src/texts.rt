@@ -2,7 +2,7 @@ ghost use Rattle.std.specs.Prelude.{◌≡◌, IfOk};
 ghost use Rattle.ic_desk.specs.Replies.{absorbed_text, back_text, marked_text, never_text, wanting_text};
 
 use ic_command::MarkName;
-use ic_name::EventName;
+use ic_name::{EventName, write_pair};
 use ic_undo::Counts;
 use std::alloc::{AllocError, Global};
 
@@ -55,9 +55,7 @@ pub(crate) fn never_text(alloc: Global, event: &EventName) -> Result<Vec<u8>, Al
     ensures { IfOk result (λ text. text.items ≡ never_text event.now) }
 {
     let mut text = Vec::from_slice(alloc, b"refused 51 ")?;
-    event.lead().write_to(&mut text)?;
-    text.push(b' ')?;
-    event.other().write_to(&mut text)?;
+    write_pair(event.lead(), event.other(), &mut text)?;
     text.push(b'\n')?;
     Ok(text)
 }

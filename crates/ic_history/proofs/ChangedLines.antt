@@ -9,7 +9,7 @@ use Rattle.ic_name.specs.declared.lines.Reply.TheVariants.{Fired, Undone}
 use Rattle.ic_name.specs.declared.lines.Line.{Line}
 use Rattle.ic_path.specs.Orders.{IsIn}
 use Rattle.ic_path.proofs.Picks.{none_in, in_first, in-cons_cases, pick_before}
-use Rattle.ic_shown.proofs.Elements.{in_behind, in-append_cases}
+use Rattle.ic_path.proofs.InLists.{in_behind, in-append_cases}
 use Rattle.ic_roster.specs.declared.interaction.Interaction.{Interaction}
 use Rattle.ic_roster.specs.Rosters.{event_in}
 use Rattle.ic_history.specs.declared.kept.KeptLine.{KeptLine}

@@ -1,5 +1,5 @@
 -- What a bench keeps through a call.
-use Rattle.std.proofs.Common.{◌≡◌, ◌≢◌, ℕ, ◌+◌, ◌≤◌, ◌<◌, map, List, [], ◌∷◌, ◌++◌, ◌∙◌, length, ◌⊎◌, inl, inr, refl, sym, ap, subst, arith, length-append}
+use Rattle.std.proofs.Common.{◌≡◌, ◌≢◌, ℕ, ◌+◌, ◌≤◌, ◌<◌, map, List, [], ◌∷◌, ◌++◌, ◌∙◌, length, ◌⊎◌, inl, inr, sym, ap, subst, arith, length-append}
 use Rattle.std.proofs.lemmas.List.{length-map}
 use Rattle.ic_name.specs.Names.{Name, child_name}
 use Rattle.ic_name.specs.Events.{Event}
@@ -11,21 +11,22 @@ use Rattle.ic_name.specs.declared.lines.Call.{Call}
 use Rattle.ic_name.specs.declared.lines.Reply.{Reply}
 use Rattle.ic_name.specs.declared.lines.Line.{Line}
 use Rattle.ic_path.specs.Orders.{IsIn, none}
-use Rattle.ic_path.proofs.Alikes.{alike_self, alike_back, alike_then, alike-map, alike-in, alike-length}
+use Rattle.ic_path.proofs.Alikes.{alike_back, alike_then, alike-map, alike-in, alike-length}
 use Rattle.ic_path.proofs.Picks.{none_in, length-pick, in_more, in-cons_cases, pick-map}
 use Rattle.ic_theory.specs.Rules.{born_kinds}
 use Rattle.ic_theory.specs.Born.{named, born_agents}
 use Rattle.ic_theory.specs.Starts.{Start, IsProper}
 use Rattle.ic_theory.specs.Machine.{State, initial, noted, MachineStep, not_active, deep, full, fired, not_standing, held, undone, IsHistory, begins, goes_on}
 use Rattle.ic_theory.proofs.Machines.{history_kept, history_length}
-use Rattle.ic_shown.proofs.Elements.{in_behind, in-append_cases, map_cases}
+use Rattle.ic_path.proofs.InLists.{in_behind, in-append_cases, map_cases}
 use Rattle.ic_roster.specs.Rosters.{Member, Stander}
-use Rattle.ic_set.specs.Views.{SetView, agent_of, AreChildren}
+use Rattle.ic_set.specs.Views.{agent_of, AreChildren}
 use Rattle.ic_set.specs.Changes.{IsSame, Admits, TakesOut}
 use Rattle.ic_journal.specs.Views.{BenchView, set_of}
 use Rattle.ic_journal.specs.Benches.{fired_in, IsAt, HaveOwnSerials, IsRunning, Opens}
 use Rattle.ic_journal.specs.Calls.{Steps, Refuses}
 use Rattle.ic_journal.proofs.MachineSteps.{noted_step}
+use Rattle.ic_set.proofs.Admissions.{same_self}
 
 -- a line more
 pub length-noted : {X : Type 0} (old : List X) {new : List X} (x : X) → new ≡ old ++ x ∷ [] → length new ≡ length old + 1
@@ -87,14 +88,10 @@ same_serials old new h same = record {
   born = λ x i. h.born x (alike-in (alike_back same.events) i);
 }
 
--- the same set twice
-pub same_set : (v : SetView) → IsSame v v
-same_set v = record { start = refl; agents = alike_self v.agents; events = alike_self v.events }
-
 -- a step that is refused changes nothing that stands
 pub refused : (old new : BenchView) (call : Call) (answer : Reply) → set_of new ≡ set_of old → new.lines ≡ old.lines ++ record { call = call; reply = answer } ∷ [] → old.room ≤ new.room + 1
     → ((st : State) → IsAt old st → MachineStep old.start st call answer (noted st)) → Refuses old call answer new
-refused old new call answer same lines room answers = (noted_step old new call answer same lines room answers, rw same (same_set (set_of old)))
+refused old new call answer same lines room answers = (noted_step old new call answer same lines room answers, rw same (same_self (set_of old)))
 
 -- and what a bench keeps is kept
 pub refused_running : (old new : BenchView) (call : Call) (answer : Reply) → IsRunning old → set_of new ≡ set_of old → new.lines ≡ old.lines ++ record { call = call; reply = answer } ∷ []
@@ -105,7 +102,7 @@ refused_running old new call answer r same lines short answers =
       state = noted r.state;
       at = record { history = rw (ap (λ s. s.start) same, lines) (goes_on r.at.history next); standing = rw (ap (λ s. s.events) same) r.at.standing };
       short = short;
-      serials = same_serials old new r.serials (rw same (same_set (set_of old)));
+      serials = same_serials old new r.serials (rw same (same_self (set_of old)));
     }
 
 -- each standing event was fired in a line that has been

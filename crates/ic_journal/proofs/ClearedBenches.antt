@@ -14,7 +14,7 @@ use Rattle.ic_theory.specs.Causes.{IsCause, IsDependent}
 use Rattle.ic_theory.specs.Future.{Includes}
 use Rattle.ic_theory.specs.Machine.{Standing, State, events, undone, IsHistory, goes_on}
 use Rattle.ic_theory.proofs.Ranks.{cause_included}
-use Rattle.ic_shown.proofs.Elements.{in_behind, map_cases}
+use Rattle.ic_path.proofs.InLists.{in_behind, map_cases}
 use Rattle.ic_roster.specs.Rosters.{Stander, HaveOwnLines}
 use Rattle.ic_set.specs.Cleared.{AreAll, Clears}
 use Rattle.ic_set.specs.Views.{NamedView, standing, events_of}

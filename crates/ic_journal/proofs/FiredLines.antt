@@ -12,7 +12,7 @@ use Rattle.ic_path.proofs.Picks.{none_in, in_picked, in-cons_cases}
 use Rattle.ic_theory.specs.Starts.{Start}
 use Rattle.ic_theory.specs.Machine.{Standing, State, MachineStep, not_active, deep, full, fired, not_standing, held, undone, IsHistory, begins, goes_on}
 use Rattle.ic_theory.proofs.Machines.{history_length}
-use Rattle.ic_shown.proofs.Elements.{in-map}
+use Rattle.ic_path.proofs.InLists.{in-map}
 use Rattle.ic_roster.specs.Rosters.{Stander, HaveOwnLines, event_in}
 use Rattle.ic_roster.specs.declared.interaction.Interaction.{Interaction}
 use Rattle.ic_set.specs.Views.{NamedView}

@@ -4,7 +4,7 @@ use Rattle.ic_name.specs.Names.{Name}
 use Rattle.ic_name.specs.declared.ids.AgentId.{AgentId}
 use Rattle.ic_name.specs.declared.kinds.Kind.{Kind}
 use Rattle.ic_path.specs.Orders.{IsIn}
-use Rattle.ic_shown.proofs.Elements.{in-map}
+use Rattle.ic_path.proofs.InLists.{in-map}
 use Rattle.ic_roster.specs.Rosters.{Member, Stander, IsNewName}
 use Rattle.ic_set.specs.Sets.{IsStandingSet}
 use Rattle.ic_set.specs.Views.{SetView}

@@ -10,3 +10,15 @@ pub mod FiredLines
 pub mod LedEvents
 pub mod Reversed
 pub mod ClearedBenches
+pub mod TakenElements
+pub mod Awakened
+pub mod PairsAdmitted
+pub mod PairsLeft
+pub mod PairsCleared
+pub mod Fronts
+pub mod QueuedAgents
+pub mod LeadsLeft
+pub mod BenchSteps
+pub mod Continuing
+pub mod FiredInTurn
+pub mod LeastFired

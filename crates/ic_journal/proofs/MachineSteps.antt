@@ -9,7 +9,7 @@ use Rattle.ic_name.specs.declared.lines.Reply.TheVariants as reply
 use Rattle.ic_path.specs.Orders.{Pick, here, IsIn, Alike}
 use Rattle.ic_path.proofs.Picks.{pick-map}
 use Rattle.ic_path.proofs.Alikes.{alike_back, alike_pick, alike_then, alike-cons, alike-map, alike-in}
-use Rattle.ic_shown.proofs.Elements.{map_cases}
+use Rattle.ic_path.proofs.InLists.{map_cases}
 use Rattle.ic_theory.specs.Machine.{Standing, State, events, noted, IsDeep, IsFull, MachineStep, not_active, fired, not_standing, held, undone, goes_on}
 use Rattle.ic_theory.specs.Active.{IsActive}
 use Rattle.ic_theory.proofs.Machines.{history_length}

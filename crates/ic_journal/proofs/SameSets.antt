@@ -1,15 +1,16 @@
 -- What is said of a set of events, in whatever order it is listed.
-use Rattle.std.proofs.Common.{◌≡◌, ℕ, List, length, inl, inr, arith}
+use Rattle.std.proofs.Common.{◌≡◌, List, length, arith}
 use Rattle.ic_name.specs.Events.{Event}
 use Rattle.ic_path.specs.Orders.{Alike}
 use Rattle.ic_path.proofs.Alikes.{alike_back, alike-in, alike-length}
 use Rattle.ic_theory.specs.Starts.{Start, start_agents}
 use Rattle.ic_theory.specs.Born.{born_agents}
 use Rattle.ic_theory.specs.Sets.{agents}
-use Rattle.ic_theory.specs.Causes.{IsRank, IsDependent}
+use Rattle.ic_theory.specs.Causes.{IsDependent}
 use Rattle.ic_theory.specs.Machine.{IsFull, IsLeastDependent}
 use Rattle.ic_theory.proofs.Future.{made_alike}
 use Rattle.ic_theory.proofs.Ranks.{same_set, cause_included}
+use Rattle.ic_theory.proofs.Restored.{rank-alike}
 
 -- the same number of agents
 pub agent_count : (s : Start) {es fs : List Event} → Alike es fs → length (agents s es) ≡ length (agents s fs)
@@ -22,13 +23,6 @@ full-alike s e a h = let n = agent_count s a in omega arith
 -- the same dependents
 pub dependent-alike : (s : Start) {es fs : List Event} {e f : Event} → Alike es fs → IsDependent s es e f → IsDependent s fs e f
 dependent-alike s a d = (alike-in a d.0, cause_included s (same_set a) d.1)
-
--- the same ranks
-pub rank-alike : (s : Start) {es fs : List Event} (rank : Event → ℕ) → Alike es fs → IsRank s es rank → IsRank s fs rank
-rank-alike s rank a r = record {
-  above = λ e c i k. r.above e c (alike-in (alike_back a) i) (cause_included s (same_set (alike_back a)) k);
-  least = λ e i. elim (r.least e (alike-in (alike_back a) i)) [ inl z ↦ inl z | inr k ↦ inr (k.0, cause_included s (same_set a) k.1, k.2) ];
-}
 
 -- the same least dependents
 pub least-alike : (s : Start) {es fs : List Event} {e f : Event} → Alike es fs → IsLeastDependent s es e f → IsLeastDependent s fs e f

@@ -8,7 +8,7 @@ use Rattle.ic_name.specs.declared.lines.Call.{Call}
 use Rattle.ic_name.specs.declared.lines.Call.TheVariants.{Undo}
 use Rattle.ic_name.specs.declared.lines.Reply.{Reply}
 use Rattle.ic_name.specs.declared.lines.Reply.TheVariants.{Undone}
-use Rattle.ic_path.proofs.Alikes.{alike_back, alike_then, alike-cancel, alike-in, alike-map}
+use Rattle.ic_path.proofs.Alikes.{alike_back, alike_then, alike-cancel, alike-in, alike-map, cancel_front}
 use Rattle.ic_theory.specs.Born.{born_agents}
 use Rattle.ic_theory.specs.Starts.{Start, IsProper}
 use Rattle.ic_theory.specs.Causes.{IsRank}
@@ -27,12 +27,7 @@ use Rattle.ic_journal.specs.Benches.{IsBench}
 use Rattle.ic_journal.specs.Calls.{Steps, Fires, Undoes}
 use Rattle.ic_journal.specs.Restored.{GivesBack}
 use Rattle.ic_journal.proofs.MachineSteps.{events_at}
-use Rattle.ic_journal.proofs.SameSets.{rank-alike}
-
--- what stands in front of both can go
-cancel_front : {X : Type 0} (zs : List X) {xs ys : List X} → Alike (zs ++ xs) (zs ++ ys) → Alike xs ys
-cancel_front [] a = a
-cancel_front (z ∷ zs) a = cancel_front zs (alike-cancel a)
+use Rattle.ic_theory.proofs.Restored.{rank-alike}
 
 -- agents with the same ids, names and kinds are the same
 same_agents : (ms ns : List Member) → map (λ m. m.id) ms ≡ map (λ m. m.id) ns → map agent_of ms ≡ map agent_of ns → ms ≡ ns

@@ -7,3 +7,15 @@ pub mod Faults
 pub mod Reads
 pub mod Restored
 pub mod Undone
+pub mod Fronts
+pub mod Reducing
+pub mod Continuing
+pub mod Reduced
+pub use Rattle.ic_history.specs.Changed
+pub use Rattle.ic_history.specs.Kept
+pub use Rattle.ic_history.specs.Noted
+pub use Rattle.ic_history.specs.Notes
+pub use Rattle.ic_history.specs.declared.notes.PairNote
+pub use Rattle.ic_history.specs.declared.limit.Limit
+pub use Rattle.ic_roster.specs.Rosters
+pub use Rattle.ic_roster.specs.declared.interaction.Interaction

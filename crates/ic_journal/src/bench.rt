@@ -10,12 +10,12 @@ ghost use Rattle.ic_journal.specs.Calls.{id_answer, Fires, Undoes, Reserves};
 ghost use Rattle.ic_journal.specs.Undone.{AreIdsOfFree, AreUndoneFrom};
 
 use crate::faults::{FireFault, PairFault, ReserveFault, UndoFault};
+use crate::standing::StandingSet;
 use ic_history::{History, KeptLine, Proposal};
 use ic_link::LinkStore;
 use ic_name::EventId;
 use ic_name::limits::MAX_LINES;
 use ic_set::Fired;
-use ic_standing::StandingSet;
 use ic_start::Start;
 use std::alloc::{AllocError, Global};
 use std::marker::Model;

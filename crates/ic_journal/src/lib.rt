@@ -11,6 +11,8 @@ pub mod laws;
 mod limit;
 pub mod lines;
 pub mod reading;
+pub mod reducing;
+mod standing;
 
 pub use bench::Bench;
 pub use faults::{FireFault, PairFault, ProposeFault, ReserveFault, UndoFault};
@@ -18,3 +20,4 @@ pub use ic_history::{EarlierLines, PairNote, Proposal};
 pub use ic_link::LinkStore;
 pub use ic_set::{ActivePair, Fired};
 pub use ic_table::PortTable as Store;
+pub use reducing::{End, Gate, NoGate, fire_least};

@@ -27,10 +27,9 @@ use ic_history::Proposal;
 use ic_link::LinkStore;
 use ic_name::{AgentId, AgentName, Event, EventId, EventName, Kind, Line};
 use ic_names::NameTable;
-use ic_net::Net;
+use ic_net::{Net, NetSheet};
 use ic_roster::AgentEntry;
 use ic_set::ActivePair;
-use ic_sheet::NetSheet;
 use std::alloc::AllocError;
 
 impl<L: LinkStore> Bench<L> {
@@ -106,15 +105,6 @@ impl<L: LinkStore> Bench<L> {
         ensures absent { IfNone result ((e : AnEvent) (pair : APair) → (pair.lead ≡ agent) ⊎ (pair.other ≡ agent) → IsPairOf (set_of self.now) e pair → ⊥) }
     {
         self.set.pair_with(agent)
-    }
-
-    /// The event of an active pair.
-    pub fn event_of_pair(&self, pair: ActivePair) -> Result<Event, AllocError>
-        requires { IsActivePair (set_of self.now) pair }
-        ensures { IfOk result (λ event. IsPairOf (set_of self.now) event pair) }
-    {
-        let set = self.set.bare();
-        set.roster().read(set.interaction_of(pair))
     }
 
     /// The name of an active pair's event.

@@ -6,3 +6,5 @@ pub mod NameReading
 pub mod NameRuns
 pub mod NameFaults
 pub mod NameAnswers
+pub mod Orderings
+pub mod EventOrder

@@ -1,22 +1,16 @@
 -- The order of names is total, and only a name itself is equal to it.
 use Rattle.std.proofs.Common.{◌≡◌, ℕ, List, refl, sym, ◌∙◌, ap, ◌≢◌, [], ◌∷◌, rules}
-use Rattle.std.specs.declared.cmp.Ordering.{Ordering}
 use Rattle.std.specs.declared.cmp.Ordering.TheVariants.{Less, Equal, Greater}
-use Rattle.std.specs.Ordering.{nat_cmp, ordering_then, ordering_reverse}
+use Rattle.std.specs.Ordering.{nat_cmp, ordering_reverse}
 use Rattle.std.specs.Cmp.{IsTotalOrder}
 use Rattle.std.specs.Cmp.Rules.{comparing}
 use Rattle.std.specs.Cmp.Lexicographic.{slice_cmp}
 use Rattle.std.proofs.lemmas.Cmp.{ranked, tied_itself}
 use Rattle.ic_name.specs.Names.{Name, name_cmp}
+use Rattle.ic_name.proofs.Orderings.{then_tied}
 
 pub name_cmp_total : IsTotalOrder name_cmp
 name_cmp_total = search (comparing, rules)
-
--- both orders of a chain are tied where the chain is
-then_tied : (a b : Ordering) → ordering_then a b ≡ Equal → (a ≡ Equal) × (b ≡ Equal)
-then_tied Equal b h = (refl, h)
-then_tied Less b h = cc
-then_tied Greater b h = cc
 
 nat_tied : (x y : ℕ) → nat_cmp x y ≡ Equal → x ≡ y
 nat_tied x y h = ranked x y Equal (sym h)

@@ -1,6 +1,6 @@
 -- Reading the text of a name byte by byte: where it stands, and what has been read there.
-use Rattle.std.proofs.Common.{◌≡◌, ℕ, ◌+◌, ◌-◌, ◌*◌, ◌/◌, ◌%◌, ◌<◌, ◌≤◌, Bool, true, false, ◌&&◌, List, [], ◌∷◌, ◌++◌, length, take, drop, get_or, Option, Some, None, refl, sym, ◌∙◌, ap, subst, append_assoc, append-nil, length-append, arith}
-use Rattle.std.proofs.lemmas.Bool.{leb-true, ltb-true, eqb-true}
+use Rattle.std.proofs.Common.{◌≡◌, ℕ, ◌+◌, ◌-◌, ◌*◌, ◌/◌, ◌%◌, ◌<◌, ◌≤◌, Bool, true, false, List, [], ◌∷◌, ◌++◌, length, take, drop, get_or, Option, Some, None, refl, sym, ◌∙◌, ap, subst, append_assoc, append-nil, length-append, arith}
+use Rattle.std.proofs.lemmas.Bool.{leb-true, ltb-true, eqb-true, and_parts}
 use Rattle.std.specs.Prelude.{if◌then◌else◌, ◌==◌}
 use Rattle.std.specs.Fmt.{decimal}
 use Rattle.std.proofs.lemmas.List.{take_more, take_all}
@@ -45,21 +45,16 @@ taken : {A : Type 0} (b : Bool) (x q : A) → (if b then Some x else None) ≡ S
 taken true x q h = (refl, cc)
 taken false x q h = absurd cc
 
--- both tests of a pair hold
-both : (a b : Bool) → a && b ≡ true → (a ≡ true) × (b ≡ true)
-both true b h = (refl, h)
-both false b h = absurd cc
-
 -- the bytes of decimal digits
 within_decimal : (c : ℕ) → is_decimal c ≡ true → (48 ≤ c) × (c ≤ 57)
 within_decimal c h =
-    let parts = both _ _ h in
+    let parts = and_parts _ _ h in
     (leb-true _ _ parts.0, leb-true _ _ parts.1)
 
 -- the bytes of the digits of children
 within_child : (c : ℕ) → is_child_digit c ≡ true → (48 ≤ c) × (c ≤ 51)
 within_child c h =
-    let parts = both _ _ h in
+    let parts = and_parts _ _ h in
     (leb-true _ _ parts.0, leb-true _ _ parts.1)
 
 -- a first digit
@@ -87,9 +82,9 @@ no_digits (d ∷ ds) h = absurd (omega arith)
 -- a start number of one digit more
 longer_read : (s : Shape) (t : List ℕ) (c : ℕ) → HasShape s t → may_go_on s c ≡ true → HasShape (record { start = longer_start s.start c; generations = 0 }) (t ++ c ∷ [])
 longer_read s t c shape h =
-    let parts = both _ _ h in
-    let front = both _ _ parts.0 in
-    let back = both _ _ parts.1 in
+    let parts = and_parts _ _ h in
+    let front = and_parts _ _ parts.0 in
+    let back = and_parts _ _ parts.1 in
     let range = within_decimal c front.0 in
     let none : s.generations ≡ 0 = eqb-true _ _ front.1 in
     let positive : 0 < s.start = ltb-true _ _ back.0 in

@@ -1,6 +1,6 @@
 -- The tests for spots and ids decide equality.
 use Rattle.std.proofs.Common.{◌≡◌, Bool, true, false, ◌&&◌, refl, ap, eq-eqb}
-use Rattle.std.proofs.lemmas.Bool.{eqb-true}
+use Rattle.std.proofs.lemmas.Bool.{eqb-true, and_parts}
 use Rattle.ic_name.specs.declared.ids.Spot.{Spot}
 use Rattle.ic_name.specs.declared.ids.Spot.TheVariants.{Agent, Name}
 use Rattle.ic_name.specs.declared.ids.MakerId.{MakerId}
@@ -8,18 +8,14 @@ use Rattle.ic_name.specs.declared.ids.MakerId.TheVariants.{Start, Event}
 use Rattle.ic_name.specs.declared.ids.LinkId.{LinkId}
 use Rattle.ic_name.specs.Spots.{same_spot, same_maker, same_link}
 
-both : (a b : Bool) → a && b ≡ true → (a ≡ true) × (b ≡ true)
-both true b h = (refl, h)
-both false b h = cc
-
 both_so : (a b : Bool) → a ≡ true → b ≡ true → a && b ≡ true
 both_so true b h g = g
 both_so false b h g = cc
 
 pub same_spot_true : (p q : Spot) → same_spot p q ≡ true → p ≡ q
 same_spot_true (Agent a p) (Agent b q) h =
-    let parts = both _ _ h in
-    let ids = both _ _ parts.0 in
+    let parts = and_parts _ _ h in
+    let ids = and_parts _ _ parts.0 in
     let s = eqb-true _ _ ids.0 in
     let n = eqb-true _ _ ids.1 in
     let m = eqb-true _ _ parts.1 in
@@ -41,7 +37,7 @@ same_maker_true Start Start h = refl
 same_maker_true Start (Event e) h = cc
 same_maker_true (Event d) Start h = cc
 same_maker_true (Event d) (Event e) h =
-    let parts = both _ _ h in
+    let parts = and_parts _ _ h in
     let s = eqb-true _ _ parts.0 in
     let n = eqb-true _ _ parts.1 in
     λ i. Event (record { slot = s i; line = n i })
@@ -51,7 +47,7 @@ same_link_self l = both_so _ _ (same_maker_self l.maker) (eq-eqb l.place l.place
 
 pub same_link_true : (a b : LinkId) → same_link a b ≡ true → a ≡ b
 same_link_true a b h =
-    let parts = both _ _ h in
+    let parts = and_parts _ _ h in
     let m = same_maker_true _ _ parts.0 in
     let p = eqb-true _ _ parts.1 in
     λ i. record { maker = m i; place = p i }

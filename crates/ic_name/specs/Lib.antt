@@ -6,3 +6,4 @@ pub mod Events
 pub mod Spots
 pub mod Faults
 pub mod NameShapes
+pub mod EventOrders

@@ -1,7 +1,8 @@
 -- The texts of names.
-use Rattle.std.specs.Prelude.{◌≡◌, ℕ, ◌+◌, ◌<◌, ◌≤◌, List, [], ◌∷◌, ◌++◌, length, take, All, Result, Ok, Err, ◌⊎◌}
+use Rattle.std.specs.Prelude.{◌≡◌, ℕ, ◌+◌, ◌<◌, ◌≤◌, List, [], ◌∷◌, ◌++◌, length, take, All, Result, Ok, Err, ◌⊎◌, codes}
 use Rattle.std.specs.Fmt.{decimal}
 use Rattle.ic_name.specs.Names.{Name, IsName, depth}
+use Rattle.ic_name.specs.Events.{Pair}
 use Rattle.ic_name.specs.declared.faults.NameFault.{NameFault}
 use Rattle.ic_name.specs.declared.faults.NameFault.TheVariants.{BadName, Deep, Memory}
 use Rattle.ic_name.specs.declared.limits.TheConstants.{MAX_DEPTH, MAX_START_AGENTS}
@@ -14,6 +15,10 @@ digits_text (d ∷ ds) = 46 ∷ (48 + d) ∷ digits_text ds
 -- the start number in decimal, and then the digits
 abbrev pub name_text : Name → List ℕ
 name_text n = decimal n.start ++ digits_text n.digits
+
+-- the names of an event's two agents, the lead first
+abbrev pub pair_text : Pair → List ℕ
+pair_text p = name_text p.lead ++ codes " " ++ name_text p.other
 
 -- the text is that of the name, which may have any depth
 pub record IsTextOf (n : Name) (t : List ℕ) : Type 0 where

@@ -1,10 +1,11 @@
-ghost use Rattle.std.specs.Prelude.{◌≡◌, ◌≢◌, ◌↔◌, IsSome, IfSome, IfOk};
+ghost use Rattle.std.specs.Prelude.{◌≡◌, ◌≢◌, ◌↔◌, ◌++◌, IsSome, IfSome, IfOk, OnOk};
 ghost use Rattle.std.proofs.Common.{rules};
 ghost use Rattle.std.specs.Cmp.{partial_order_from_own_ties};
 ghost use Rattle.std.specs.Cmp.Rules.{comparing};
 ghost use Rattle.std.specs.Ordering.{as_partial_cmp, eq_by_cmp};
 ghost use Rattle.std.specs.declared.cmp.Ordering.TheVariants.{Less};
 ghost use Rattle.ic_name.specs.Names.{name_cmp};
+ghost use Rattle.ic_name.specs.NameTexts.{pair_text};
 ghost use Rattle.ic_name.specs.Events.{pair_of, pair_cmp};
 
 use crate::names::AgentName;
@@ -117,4 +118,15 @@ impl PartialOrd for EventName {
     fn partial_cmp(&self, other: &EventName) -> Option<Ordering> {
         Some(self.cmp(other))
     }
+}
+
+/// Writes the names of an event's two agents at the end of `out`: the lead, a space, the other. An error comes when memory
+/// runs out, and then `out` may end in a front of this text.
+pub fn write_pair(lead: &AgentName, other: &AgentName, out: &mut Vec<u8>) -> Result<(), AllocError>
+    ensures { OnOk result (out.new.items ≡ out.old.items ++ pair_text (record { lead = lead.now; other = other.now })) }
+{
+    lead.write_to(out)?;
+    out.push(b' ')?;
+    other.write_to(out)?;
+    Ok(())
 }

@@ -15,7 +15,7 @@ pub mod ports;
 pub mod rules;
 mod shapes;
 
-pub use event_names::EventName;
+pub use event_names::{EventName, write_pair};
 pub use events::Event;
 pub use faults::{ChildFault, NameFault};
 pub use ids::{AgentId, EventId, Link, LinkId, MakerId, Spot};

@@ -29,7 +29,7 @@ enters_length old n new (was k stands same) = omega (arith, ap length same)
 enters_length old n new (is_new absent more) = omega (arith, ap length more, length-append old (n ∷ []))
 
 -- with more names behind, what stood stands
-stands_longer : (ns more : List Name) (m : Name) (k : ℕ) → StandsAt ns m k → StandsAt (ns ++ more) m k
+pub stands_longer : (ns more : List Name) (m : Name) (k : ℕ) → StandsAt ns m k → StandsAt (ns ++ more) m k
 stands_longer ns more m k stands =
     let low = stands.within in
     record { within = omega (arith, length-append ns more); named = get_or_append_left ns more (start_name 0) k low ∙ stands.named }

@@ -13,3 +13,10 @@ pub mod DigitOrders
 pub mod Growing
 pub mod SameNames
 pub mod KnownOrigins
+pub mod UpTo
+pub mod Sifts
+pub mod PlacedFacts
+pub mod Flags
+pub mod QueuedPlaces
+pub mod Heaps
+pub mod Tested

@@ -3,3 +3,5 @@ pub mod Blocks
 pub mod Tables
 pub mod Rows
 pub mod Known
+pub mod Queues
+pub mod Sifting

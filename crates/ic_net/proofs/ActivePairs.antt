@@ -18,7 +18,7 @@ use Rattle.ic_path.specs.Orders.{IsIn}
 use Rattle.ic_path.proofs.Picks.{none_in, in_first, in_more, in-cons_cases}
 use Rattle.ic_theory.specs.Steps.{Meets}
 use Rattle.ic_theory.specs.Listed.{NetAgent as Listed, ListedNet, IsListing, agent_among, partner_at, shown, led_pair, active_pairs}
-use Rattle.ic_sheet.proofs.WholeTables.{not_above}
+use Rattle.ic_net.proofs.WholeTables.{not_above}
 use Rattle.ic_net.specs.Nets.{pair_led_by}
 
 less_true : (r : Ordering) → is_lt r ≡ true → r ≡ Less

@@ -14,9 +14,9 @@ use Rattle.ic_name.specs.Names.{Name, name_cmp}
 use Rattle.ic_name.proofs.NameOrder.{name_cmp_total, name_tied}
 use Rattle.ic_name.specs.declared.ports.Port.{Port}
 use Rattle.ic_theory.specs.Listed.{NetAgent as Listed, ListedNet, IsListing}
-use Rattle.ic_sheet.specs.Sheets.{listed_agent}
-use Rattle.ic_sheet.specs.declared.agents.NetAgent.{NetAgent}
-use Rattle.ic_sheet.proofs.InOrder.{keys_listed}
+use Rattle.ic_net.specs.Sheets.{listed_agent}
+use Rattle.ic_net.specs.declared.sheet.agents.NetAgent.{NetAgent}
+use Rattle.ic_net.proofs.InOrder.{keys_listed}
 use Rattle.ic_net.proofs.SortedTables.{same_tables}
 
 pub collected : {K X : Type 0} {R : K → K → Ordering} (total : IsTotalOrder R) → ((x y : K) → R x y ≡ Equal → x ≡ y) → (es : List (K × X)) (m : BTreeMap K X)

@@ -1,5 +1,5 @@
 -- Tables of far ends: places tell spots apart, and what a join writes.
-use Rattle.std.proofs.Common.{◌≡◌, ◌≢◌, ℕ, ◌+◌, ◌-◌, ◌*◌, ◌<◌, ◌≤◌, Bool, true, false, List, [], ◌∷◌, length, drop, refl, sym, ap, arith, ◌∙◌, length-set, suc, zero, slice_index_or, drop-cons, slice_get, Some, subst}
+use Rattle.std.proofs.Common.{◌≡◌, ◌≢◌, ℕ, ◌+◌, ◌-◌, ◌*◌, ◌<◌, Bool, true, false, List, [], ◌∷◌, length, drop, refl, sym, ap, arith, ◌∙◌, length-set, suc, zero, slice_index_or, drop-cons, slice_get, Some, subst}
 use Rattle.std.proofs.lemmas.Option.{same_Some, slice_get_within, get_or_from_slice_get}
 use Rattle.std.proofs.lemmas.List.{get_or-set_same, get_or-set_other, get_or_default}
 use Rattle.std.specs.Prelude.{if◌then◌else◌, slice_set}
@@ -124,16 +124,3 @@ table_more a n old new l ls rest e h ha hb w p hp = rw e (w p hp ∙ rw (h l.a h
 pub rings_more : (a n : ℕ) (old : List Spot) (l : Link) (ls rest : List Link) → ls ≡ l ∷ rest → HasFarEnds a n old (far shape rest) → IsStartSpot a n l.a
     → rings shape ls ≡ (if same_spot (end_at a old l.a) l.b then 1 else 0) + rings shape rest
 rings_more a n old l ls rest e h ha = rw (e, h l.a ha) refl
-
--- there are no more rings than links
-pub rings-le : (ls : List Link) → rings shape ls ≤ length ls
-rings-le [] = omega arith
-rings-le (l ∷ ls) = go (same_spot (far shape ls l.a) l.b) (rings-le ls)
-  where
-    go : (b : Bool) → rings shape ls ≤ length ls → (if b then 1 else 0) + rings shape ls ≤ suc (length ls)
-    go true h = omega arith
-    go false h = omega arith
-
-pub at_most_one : (b : Bool) → (if b then 1 else 0) ≤ 1
-at_most_one true = omega arith
-at_most_one false = omega arith

@@ -13,3 +13,7 @@ pub mod Writes
 pub mod PutChildren
 pub mod StepTables
 pub mod Replayed
+pub mod ReachedNets
+pub mod WholeTables
+pub mod InOrder
+pub mod Makings

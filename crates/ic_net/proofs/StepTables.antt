@@ -21,16 +21,16 @@ use Rattle.ic_theory.specs.Rules.{born_kinds, born_ends}
 use Rattle.ic_theory.specs.Nets.{Net, IsSameNet, kind_among, has_port}
 use Rattle.ic_theory.specs.Steps.{Wiring, Meets, without_pair, take_links, plain_step}
 use Rattle.ic_theory.specs.Listed.{NetAgent as Listed, ListedNet, shown}
-use Rattle.ic_sheet.specs.declared.agents.NetAgent.{NetAgent}
+use Rattle.ic_net.specs.declared.sheet.agents.NetAgent.{NetAgent}
 use Rattle.ic_net.specs.declared.rewiring.Rewiring.{Rewiring}
-use Rattle.ic_sheet.specs.Sheets.{listed_agent, partner_list, IsNet, IsReached}
+use Rattle.ic_net.specs.Sheets.{listed_agent, partner_list, IsNet, IsReached}
 use Rattle.ic_net.specs.Rewirings.{after_writes, wiring}
 use Rattle.ic_net.specs.Tables.{agent_in, kind_in, partner_in, found_at, settled, IsBlank}
 use Rattle.ic_net.proofs.Lookups.{same_by_cmp, found_kind, found_partner, found_free}
-use Rattle.ic_sheet.proofs.InOrder.{keys_listed}
+use Rattle.ic_net.proofs.InOrder.{keys_listed}
 use Rattle.ic_net.proofs.Writes.{same_turned, settled_none, settled_some}
-use Rattle.ic_sheet.proofs.WholeTables.{whole_by, slots_by}
-use Rattle.ic_sheet.proofs.ReachedNets.{has_slots, steps_on, no_child, same_frees, reached_same}
+use Rattle.ic_net.proofs.WholeTables.{whole_by, slots_by}
+use Rattle.ic_net.proofs.ReachedNets.{has_slots, steps_on, no_child, same_frees, reached_same}
 
 -- the lists of these tables
 abbrev pub listed : List (Name × NetAgent) → List (ℕ × Port) → ℕ → Profile → ListedNet
@@ -47,7 +47,7 @@ no_agent None h = refl
 no_agent (Some a) h = cc
 
 -- an option that isn't given is none
-none_by : {X : Type 0} (o : Option X) → is_some o ≡ false → o ≡ None
+pub none_by : {X : Type 0} (o : Option X) → is_some o ≡ false → o ≡ None
 none_by None h = refl
 none_by (Some x) h = cc
 

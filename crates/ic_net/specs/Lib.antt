@@ -4,3 +4,6 @@ pub mod StepFaults
 pub mod Rewirings
 pub mod Tables
 pub mod Replays
+pub mod Sheets
+pub mod Views
+pub mod Makings

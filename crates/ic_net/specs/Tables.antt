@@ -9,8 +9,8 @@ use Rattle.ic_name.specs.Same.{same_port}
 use Rattle.ic_name.specs.declared.kinds.Kind.{Kind}
 use Rattle.ic_name.specs.declared.ports.Port.{Port}
 use Rattle.ic_name.specs.declared.ports.Port.TheVariants as port
-use Rattle.ic_sheet.specs.declared.agents.NetAgent.{NetAgent}
-use Rattle.ic_sheet.specs.Sheets.{partner_list}
+use Rattle.ic_net.specs.declared.sheet.agents.NetAgent.{NetAgent}
+use Rattle.ic_net.specs.Sheets.{partner_list}
 
 -- the agent that a table has under a name
 abbrev pub agent_in : List (Name × NetAgent) → Name → Option NetAgent

@@ -5,12 +5,12 @@ ghost use Rattle.ic_name.specs.Names.{Name, child_name, name_cmp};
 ghost use Rattle.ic_name.specs.declared.kinds.Kind.{Kind as AKind};
 ghost use Rattle.ic_theory.specs.Born.{named};
 ghost use Rattle.ic_theory.specs.Nets.{kind_among};
-ghost use Rattle.ic_sheet.specs.Sheets.{partner_list};
+ghost use Rattle.ic_net.specs.Sheets.{partner_list};
 ghost use Rattle.ic_net.specs.Tables.{agent_in, IsBlank};
 
 use crate::rewiring::child_of;
+use crate::sheet::{NetAgent, Partners};
 use ic_name::{AgentName, Kind, Port};
-use ic_sheet::{NetAgent, Partners};
 use std::alloc::AllocError;
 use std::collections::BTreeMap;
 

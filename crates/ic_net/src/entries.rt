@@ -4,11 +4,11 @@ ghost use Rattle.std.specs.Ordering.{nat_cmp};
 ghost use Rattle.ic_name.specs.Names.{Name, name_cmp};
 ghost use Rattle.ic_name.specs.Same.{same_port};
 ghost use Rattle.ic_name.specs.declared.ports.Port.{Port as APort};
-ghost use Rattle.ic_sheet.specs.Sheets.{partner_list};
+ghost use Rattle.ic_net.specs.Sheets.{partner_list};
 ghost use Rattle.ic_net.specs.Tables.{kind_in, found_at, settle, settled};
 
+use crate::sheet::{NetAgent, Partners};
 use ic_name::{AgentName, Port};
-use ic_sheet::{NetAgent, Partners};
 use std::collections::BTreeMap;
 
 /// The slot of this number gets this partner, if there is such a slot.

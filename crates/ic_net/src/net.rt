@@ -1,16 +1,16 @@
 ghost use Rattle.std.specs.Prelude.{◌≡◌, ◌↔◌, ◌≤◌, ◌<◌, ◌^◌, [], length, map, IfOk, IsTrue, option_copied};
 ghost use Rattle.ic_theory.specs.Nets.{net_of, IsSameNet};
 ghost use Rattle.ic_theory.specs.Listed.{IsListing, shown, wires_of, active_pairs};
-ghost use Rattle.ic_sheet.specs.Sheets.{IsReached};
+ghost use Rattle.ic_net.specs.Sheets.{IsReached};
 
 use crate::far::far_table;
 use crate::pairs::active_of;
 use crate::same::{same_agents, same_frees};
+use crate::sheet::{NetAgent, NetLists, NetSheet, NetView};
 use crate::tables::{agents_of, frees_of, name_ends};
 use crate::views::{agent_views, free_views};
 use crate::wires::{agent_wires, name_wires};
 use ic_name::{AgentName, Kind, Port, Profile};
-use ic_sheet::{NetAgent, NetLists, NetSheet, NetView};
 use ic_start::Start;
 use std::alloc::{AllocError, Global};
 use std::collections::BTreeMap;
@@ -31,7 +31,7 @@ impl Model for Net {
 
     ghost Value = { ListedNet };
 
-    ghost use Rattle.ic_sheet.specs.Sheets.{listed_agent, IsNet};
+    ghost use Rattle.ic_net.specs.Sheets.{listed_agent, IsNet};
 
     ghost view = { λ n. record { agents = map listed_agent n.agents.entries; frees = n.frees.entries; rings = n.rings; profile = n.profile } };
 

@@ -1,11 +1,11 @@
 ghost use Rattle.std.specs.Prelude.{◌≡◌, [], ◌++◌, map, OnOk, IfOk, slice_get};
 ghost use Rattle.std.specs.List.{filter_map, cons_option};
 ghost use Rattle.ic_theory.specs.Listed.{led_pair};
-ghost use Rattle.ic_sheet.specs.Sheets.{partner_list, listed_agent};
+ghost use Rattle.ic_net.specs.Sheets.{partner_list, listed_agent};
 ghost use Rattle.ic_net.specs.Nets.{pair_led_by};
 
+use crate::sheet::NetAgent;
 use ic_name::{AgentName, Port};
-use ic_sheet::NetAgent;
 use std::alloc::{AllocError, Global};
 use std::collections::BTreeMap;
 

@@ -1,8 +1,8 @@
 ghost use Rattle.std.specs.Prelude.{◌≡◌, ◌↔◌, IsTrue, map};
-ghost use Rattle.ic_sheet.specs.Sheets.{listed_agent};
+ghost use Rattle.ic_net.specs.Sheets.{listed_agent};
 
+use crate::sheet::NetAgent;
 use ic_name::{AgentName, Port};
-use ic_sheet::NetAgent;
 use std::collections::BTreeMap;
 
 /// Whether two ports are one.

@@ -8,12 +8,12 @@ ghost use Rattle.ic_name.specs.declared.ids.Spot.TheVariants as spots;
 ghost use Rattle.ic_link.specs.Links.{shape};
 ghost use Rattle.ic_start.specs.Starts.{IsStartSpot, AreStartLinks, port_at};
 ghost use Rattle.ic_net.specs.FarTables.{IsFarTable, agent_partner, name_partner};
-ghost use Rattle.ic_sheet.specs.Sheets.{partner_list, listed_agent};
+ghost use Rattle.ic_net.specs.Sheets.{partner_list, listed_agent};
 ghost use Rattle.ic_net.specs.Nets.{at_ports, listed_from, frees_upto};
 
 use crate::far::end_of;
+use crate::sheet::{NetAgent, Partners};
 use ic_name::{AgentId, AgentName, Kind, Port, Spot};
-use ic_sheet::{NetAgent, Partners};
 use ic_start::StartLinks;
 use std::alloc::{AllocError, Global};
 use std::collections::BTreeMap;

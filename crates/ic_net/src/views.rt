@@ -1,9 +1,9 @@
 ghost use Rattle.std.specs.Prelude.{◌≡◌, map, IfOk};
-ghost use Rattle.ic_sheet.specs.Sheets.{listed_agent};
-ghost use Rattle.ic_sheet.specs.Views.{shown_agent, shown_free};
+ghost use Rattle.ic_net.specs.Sheets.{listed_agent};
+ghost use Rattle.ic_net.specs.Views.{shown_agent, shown_free};
 
+use crate::sheet::{AgentView, FreeView, NetAgent};
 use ic_name::{AgentName, Port};
-use ic_sheet::{AgentView, FreeView, NetAgent};
 use std::alloc::{AllocError, Global};
 use std::collections::BTreeMap;
 

@@ -1,10 +1,10 @@
 ghost use Rattle.std.specs.Prelude.{◌≡◌, ◌*◌, ◌<◌, ◌≤◌, ◌^◌, length, map, count_by};
 ghost use Rattle.std.specs.List.{flat_map};
-ghost use Rattle.ic_sheet.specs.Sheets.{listed_agent, agent_ends, name_end, is_lesser_end};
+ghost use Rattle.ic_net.specs.Sheets.{listed_agent, agent_ends, name_end, is_lesser_end};
 
+use crate::sheet::NetAgent;
+use crate::sheet::wires::{is_name_less, lesser_ends};
 use ic_name::{AgentName, Port};
-use ic_sheet::NetAgent;
-use ic_sheet::wires::{is_name_less, lesser_ends};
 use std::collections::BTreeMap;
 
 /// The wires whose lesser end is an agent's port.

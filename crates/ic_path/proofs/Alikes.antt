@@ -118,3 +118,8 @@ pick-permutation (there {x = x} {y = y} {xs = xs} {rest = rest} k) =
 pub alike-permutation : {X : Type 0} {xs ys : List X} → Alike xs ys → IsPermutation xs ys
 alike-permutation none = IsPermutation-refl []
 alike-permutation (more {x = x} {xs = xs} {ys = ys} {rest = rest} k a) = IsPermutation-trans (x ∷ xs) (x ∷ rest) ys (IsPermutation-cons x xs rest (alike-permutation a)) (pick-permutation k)
+
+-- what stands before both of two alike lists is cancelled
+pub cancel_front : {X : Type 0} (zs : List X) {xs ys : List X} → Alike (zs ++ xs) (zs ++ ys) → Alike xs ys
+cancel_front [] a = a
+cancel_front (z ∷ zs) a = cancel_front zs (alike-cancel a)

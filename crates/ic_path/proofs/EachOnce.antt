@@ -1,13 +1,9 @@
 -- Lists that have the same elements, each once, are the same up to order.
 use Rattle.std.proofs.Common.{◌≡◌, List, [], ◌∷◌, length, ◌⊎◌, inl, inr, subst}
-use Rattle.ic_path.specs.Orders.{Pick, here, Alike, none, more, IsIn}
+use Rattle.ic_path.specs.Orders.{Pick, here, Alike, none, more, IsIn, IsOnce}
 use Rattle.ic_path.specs.Rings.{HasEachOnce}
 use Rattle.ic_path.proofs.Picks.{picks_swap, two_picks, none_in, in_first, in_more, in_picked, in_others}
 use Rattle.ic_path.proofs.Alikes.{alike-length}
-
--- No element is in the list twice.
-abbrev pub IsOnce : {X : Type 0} → List X → Type 0
-IsOnce {X} xs = (x : X) (rest : List X) → Pick x xs rest → IsIn x rest → ⊥
 
 -- A list with nothing in it is empty.
 empty_alike : {X : Type 0} (ys : List X) → ((y : X) → IsIn y ys → IsIn y []) → Alike [] ys

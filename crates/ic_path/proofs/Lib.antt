@@ -10,3 +10,11 @@ pub mod Rotated
 pub mod Sorts
 pub mod EachOnce
 pub mod Seals
+pub mod InLists
+pub mod ListEnds
+pub mod OnceLists
+pub mod ListTests
+pub mod Errors
+pub mod SwapRemoves
+pub mod StrictOrders
+pub mod ListPlaces

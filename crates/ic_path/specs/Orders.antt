@@ -14,3 +14,7 @@ pub data Alike {X : Type 0} : List X → List X → Type 0 where
 -- `x` is in the list.
 abbrev pub IsIn : {X : Type 0} → X → List X → Type 0
 IsIn {X} x xs = (rest : List X) × Pick x xs rest
+
+-- Nothing is in the list twice.
+abbrev pub IsOnce : {X : Type 0} → List X → Type 0
+IsOnce {X} xs = (x : X) (rest : List X) → Pick x xs rest → IsIn x rest → ⊥

@@ -4,9 +4,7 @@ use Rattle.std.specs.Option.{IsSomeAnd}
 use Rattle.smallvec.specs.SmallVec.{HasRoomFor}
 use Rattle.ic_name.specs.declared.ids.EventId.{EventId}
 use Rattle.ic_name.specs.Spots.{same_event}
-use Rattle.ic_cause.proofs.EventOrder.{same_event_true, same_event_self}
 use Rattle.ic_roster.specs.declared.event_record.EventRecord.{EventRecord}
-use Rattle.ic_roster.specs.Rosters.{IsOnce}
 use Rattle.ic_roster.specs.Placed.{AreKept}
 use Rattle.ic_roster.specs.Slots.{HoldsOneMore}
 use Rattle.ic_roster.specs.EventSlots.{events_in}
@@ -14,6 +12,8 @@ use Rattle.ic_roster.specs.Records.{has, AreLinked}
 use Rattle.ic_roster.specs.RecordChanges.{HasRoom, Changes, Puts}
 use Rattle.ic_roster.proofs.LinkedEvents.{not_kept}
 use Rattle.ic_roster.proofs.AddedLinks.{record_lacking, record_elsewhere, added_linked}
+use Rattle.ic_name.proofs.SameFacts.{same_event_true, same_event_self}
+use Rattle.ic_path.specs.Orders.{IsOnce}
 
 -- `m` is what was, and `mid` has the event's record, too
 module _ (m mid : List (Option EventRecord)) (event : EventId) (causes : List EventId) (r : EventRecord) (line : r.line ≡ event.line) (holds : HoldsOneMore m mid event.slot r)

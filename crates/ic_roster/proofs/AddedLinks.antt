@@ -2,20 +2,19 @@
 use Rattle.std.proofs.Common.{◌≡◌, Bool, true, false, cond, ◌&&◌, List, [], ◌∷◌, Option, Some, None, refl, sym, ap, ◌∙◌, subst}
 use Rattle.std.specs.Prelude.{◌==◌, option_map, unwrap_or}
 use Rattle.std.proofs.lemmas.Bool.{eqb-true, eq-eqb}
-use Rattle.ic_path.specs.Orders.{Alike}
+use Rattle.ic_path.specs.Orders.{Alike, IsOnce}
 use Rattle.ic_path.proofs.EachOnce.{once_cons}
 use Rattle.ic_name.specs.declared.ids.EventId.{EventId}
 use Rattle.ic_name.specs.Spots.{same_event}
-use Rattle.ic_cause.proofs.EventOrder.{same_event_true, same_event_self}
-use Rattle.ic_cause.proofs.ListTests.{any-alike}
-use Rattle.ic_cause.proofs.OnceLists.{once-alike}
+use Rattle.ic_path.proofs.ListTests.{any-alike}
+use Rattle.ic_path.proofs.OnceLists.{once-alike}
 use Rattle.ic_roster.specs.declared.event_record.EventRecord.{EventRecord}
-use Rattle.ic_roster.specs.Rosters.{IsOnce}
 use Rattle.ic_roster.specs.Slots.{slot_at, HoldsOneMore}
 use Rattle.ic_roster.specs.Records.{in_line, record_of, causes_at, dependents_at, has, AreLinked}
 use Rattle.ic_roster.specs.RecordChanges.{Changes, Puts}
 use Rattle.ic_roster.proofs.RecordFacts.{same_causes}
 use Rattle.ic_roster.proofs.RecordLoops.{in_has}
+use Rattle.ic_name.proofs.SameFacts.{same_event_true, same_event_self}
 
 -- slots that hold a record more: the event of that slot and line has it, another event has what it had
 module _ (few more : List (Option EventRecord)) (event : EventId) (r : EventRecord) (line : r.line ≡ event.line) (holds : HoldsOneMore few more event.slot r) where

@@ -16,9 +16,10 @@ use Rattle.ic_roster.specs.Born.{IsBorn}
 use Rattle.ic_roster.specs.Placed.{PlacedEvent, member_in, stander_in}
 use Rattle.ic_roster.specs.Slots.{IsIndexOf}
 use Rattle.ic_roster.specs.Records.{AreLinked}
-use Rattle.ic_roster.proofs.Images.{in-map, each_image}
+use Rattle.ic_roster.proofs.Images.{each_image}
 use Rattle.ic_roster.proofs.Indexes.{holder}
 use Rattle.ic_roster.proofs.RemovedLinks.{once_none}
+use Rattle.ic_path.proofs.InLists.{in-map}
 
 module _ {T : Type 0} (f : T → ℕ) where
   -- each number that has a slot in the index is that of an entry

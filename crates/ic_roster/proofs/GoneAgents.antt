@@ -1,26 +1,17 @@
 -- What is left of the agents as those under some ids go.
 use Rattle.std.proofs.Common.{◌≡◌, ◌≢◌, ◌↔◌, List, [], ◌∷◌, ◌⊎◌, inl, inr, refl, sym, ap, subst, ◌∙◌}
-use Rattle.std.proofs.lemmas.Bool.{cases_eq}
 use Rattle.ic_path.specs.Orders.{here, Alike, IsIn}
 use Rattle.ic_path.proofs.Picks.{none_in, in_first, in_more, in-cons_cases}
 use Rattle.ic_path.proofs.Alikes.{alike_pick, alike_back, alike-in}
 use Rattle.ic_name.specs.declared.ids.AgentId.{AgentId}
 use Rattle.ic_roster.specs.declared.agent_records.PlacedAgent.{PlacedAgent}
 use Rattle.ic_roster.specs.Placed.{HaveOwnPlaces}
-
--- two ids are one, or they are not
-one_or_two : (a b : AgentId) → (a ≡ b) ⊎ (a ≢ b)
-one_or_two a b = by (cases_eq a.slot b.slot) (cases_eq a.serial b.serial)
-  where
-    by : (a.slot ≡ b.slot) ⊎ (a.slot ≢ b.slot) → (a.serial ≡ b.serial) ⊎ (a.serial ≢ b.serial) → (a ≡ b) ⊎ (a ≢ b)
-    by (inl s) (inl t) = inl (λ i. record { slot = s i; serial = t i })
-    by (inl s) (inr n) = inr (λ e. n (ap (λ j. j.serial) e))
-    by (inr n) t = inr (λ e. n (ap (λ j. j.slot) e))
+use Rattle.ic_name.proofs.SameFacts.{one_agent}
 
 -- an agent of the list has the id, or none has
 there_or_not : (id : AgentId) (xs : List PlacedAgent) → ((x : PlacedAgent) × IsIn x xs × (x.id ≡ id)) ⊎ ((x : PlacedAgent) → IsIn x xs → x.id ≢ id)
 there_or_not id [] = inr (λ x i. absurd (none_in i))
-there_or_not id (y ∷ ys) = by (one_or_two y.id id) (there_or_not id ys)
+there_or_not id (y ∷ ys) = by (one_agent y.id id) (there_or_not id ys)
   where
     by : (y.id ≡ id) ⊎ (y.id ≢ id) → ((x : PlacedAgent) × IsIn x ys × (x.id ≡ id)) ⊎ ((x : PlacedAgent) → IsIn x ys → x.id ≢ id)
         → ((x : PlacedAgent) × IsIn x (y ∷ ys) × (x.id ≡ id)) ⊎ ((x : PlacedAgent) → IsIn x (y ∷ ys) → x.id ≢ id)

@@ -1,17 +1,12 @@
 -- The images of the elements of a list.
 use Rattle.std.proofs.Common.{◌≡◌, List, [], ◌∷◌, map, refl, sym, ap, subst}
 use Rattle.ic_path.specs.Orders.{Pick, here, there, IsIn}
-use Rattle.ic_path.proofs.Picks.{pick-map, in_first, in_more}
 
 -- what is picked from the images of a map is the image of what can be picked
 pub picked_image : {X Y : Type 0} (f : X → Y) (xs : List X) {y : Y} {rest : List Y} → Pick y (map f xs) rest → (x : X) × (left : List X) × Pick x xs left × (y ≡ f x) × (rest ≡ map f left)
 picked_image f [] k = elim k [ ]
 picked_image f (x ∷ xs) here = (x, xs, here, refl, refl)
 picked_image f (x ∷ xs) (there k) = let p = picked_image f xs k in (p.0, x ∷ p.1, there p.2, p.3, ap (λ s. f x ∷ s) p.4)
-
--- the image of an element is one of the images
-pub in-map : {X Y : Type 0} (f : X → Y) {x : X} {xs : List X} → IsIn x xs → IsIn (f x) (map f xs)
-in-map f i = (map f i.0, pick-map f i.1)
 
 -- what holds of the image of each element holds of each image
 pub each_image : {X Y : Type 0} (f : X → Y) (xs : List X) (P : Y → Type 0) → ((x : X) → IsIn x xs → P (f x)) → (y : Y) → IsIn y (map f xs) → P y
@@ -25,11 +20,3 @@ two_images f xs P each y w rest k i =
     let j : IsIn w (map f p.1) = subst (λ s. IsIn w s) p.4 i in
     let q = picked_image f p.1 j.1 in
     subst (λ v. P v w) (sym p.3) (subst (λ v. P (f p.0) v) (sym q.3) (each p.0 q.0 p.1 p.2 (q.1, q.2)))
-
--- two maps that agree on each element give the same images
-pub same_images : {X Y : Type 0} (f g : X → Y) (xs : List X) → ((x : X) → IsIn x xs → f x ≡ g x) → map f xs ≡ map g xs
-same_images f g [] each = refl
-same_images f g (x ∷ xs) each =
-    let e = each x (in_first x xs) in
-    let r = same_images f g xs (λ y i. each y (in_more x i)) in
-    λ u. e u ∷ r u

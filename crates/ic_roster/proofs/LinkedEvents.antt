@@ -2,9 +2,9 @@
 use Rattle.std.proofs.Common.{◌≡◌, ◌≢◌, Bool, true, false, cond, List, [], Option, Some, None, refl, sym, ap, subst, ◌∙◌}
 use Rattle.std.specs.Prelude.{◌==◌, unwrap_or, option_map, is_some, IsSome, All}
 use Rattle.std.proofs.lemmas.Bool.{eqb-true, eq-eqb}
-use Rattle.std.proofs.lemmas.List.Elements.{All-contains, All-contains_itself, All-weaker}
+use Rattle.std.proofs.lemmas.List.Elements.{All-contains, All-weaker}
 use Rattle.ic_path.specs.Orders.{IsIn}
-use Rattle.ic_path.proofs.Picks.{in-contains, contains-in}
+use Rattle.ic_path.proofs.Picks.{in-contains}
 use Rattle.ic_name.specs.declared.ids.EventId.{EventId}
 use Rattle.ic_roster.specs.declared.event_record.EventRecord.{EventRecord}
 use Rattle.ic_roster.specs.Placed.{PlacedEvent, AreKept, AreUsers}
@@ -13,6 +13,7 @@ use Rattle.ic_roster.specs.EventSlots.{event_at, events_in}
 use Rattle.ic_roster.specs.Records.{in_line, record_of, causes_at, dependents_at, has, AreLinked}
 use Rattle.ic_roster.proofs.Slots.{slot_from_shown, shown_from_slot}
 use Rattle.ic_roster.proofs.RecordLoops.{has_in, in_has}
+use Rattle.ic_path.proofs.InLists.{all_of_each}
 
 -- a record in the slot of an event that is of its line is the event's
 pub record_found : (slots : List (Option EventRecord)) (e : EventId) (r : EventRecord) → slot_at slots e.slot ≡ Some r → r.line ≡ e.line → record_of slots e ≡ Some r
@@ -105,10 +106,6 @@ linked_users slots is d = record {
   only = λ f i. stands_with slots d f (sym (is.linked d f) ∙ in_has i);
   once = is.dependents_once d;
 }
-
--- what holds of each element of a list holds of all
-all_of_each : {X : Type 0} (P : X → Type 0) (xs : List X) → ((x : X) → IsIn x xs → P x) → All P xs
-all_of_each P xs each = All-weaker _ P (λ x i. each x (contains-in x xs i)) xs (All-contains_itself xs)
 
 -- the causes of each event stand
 pub linked_kept : (slots : List (Option EventRecord)) → AreLinked slots → (x : PlacedEvent) → IsIn x (events_in slots) → AreKept (events_in slots) x.causes

@@ -1,16 +1,14 @@
 -- Agents that were sorted by the names at their places are in order of their names.
-use Rattle.std.proofs.Common.{◌≡◌, ◌≢◌, ℕ, suc, ◌≤◌, ◌<◌, Bool, false, List, [], ◌∷◌, length, map, slice_index_or, ◌⊎◌, inl, inr, refl, sym, ap, arith, subst, ◌∙◌}
+use Rattle.std.proofs.Common.{◌≡◌, ◌≢◌, Bool, false, List, [], ◌∷◌, map, refl, sym, ap, ◌∙◌}
 use Rattle.std.specs.Cmp.{IsStrictWeakOrder}
 use Rattle.std.specs.List.Sorted.{IsPermutation, IsSortedBy}
 use Rattle.std.specs.Ordering.{is_lt, ordering_reverse}
 use Rattle.std.specs.declared.cmp.Ordering.{Ordering}
 use Rattle.std.specs.declared.cmp.Ordering.TheVariants.{Less, Equal, Greater}
-use Rattle.std.proofs.lemmas.List.Elements.{All-contains}
-use Rattle.std.proofs.lemmas.List.Sorted.{ranks_by, sorted_far, Contains-permutation, length_permutation}
-use Rattle.ic_path.specs.Orders.{Pick, here, there, Alike, none, more, IsIn}
-use Rattle.ic_path.proofs.Picks.{in_first, in_more, in_others, in-contains, contains-in, length-pick, pick-map}
+use Rattle.std.proofs.lemmas.List.Sorted.{ranks_by, Contains-permutation, length_permutation}
+use Rattle.ic_path.specs.Orders.{Pick, here, there, Alike, IsIn}
+use Rattle.ic_path.proofs.Picks.{in_more, in-contains, contains-in, pick-map}
 use Rattle.ic_path.proofs.Alikes.{alike_back, alike_pick, alike-in, alike-map}
-use Rattle.ic_path.proofs.EachOnce.{IsOnce, once_rest}
 use Rattle.ic_path.proofs.Sorts.{Ascends}
 use Rattle.ic_name.specs.Names.{Name, name_cmp}
 use Rattle.ic_name.specs.declared.ids.AgentId.{AgentId}
@@ -19,7 +17,10 @@ use Rattle.ic_names.specs.Tables.{name_at}
 use Rattle.ic_roster.specs.declared.agent_records.PlacedAgent.{PlacedAgent}
 use Rattle.ic_roster.specs.Rosters.{Member, HaveOwnNames, AreRising, AreByName}
 use Rattle.ic_roster.specs.Placed.{member_in}
-use Rattle.ic_roster.proofs.Images.{in-map, each_image}
+use Rattle.ic_roster.proofs.Images.{each_image}
+use Rattle.ic_path.proofs.InLists.{in-map}
+use Rattle.ic_path.proofs.StrictOrders.{sorted_ascends}
+use Rattle.ic_path.proofs.OnceLists.{alike_by_length}
 
 -- what agents are sorted by
 abbrev pub is_before : List Name → PlacedAgent → PlacedAgent → Bool
@@ -28,30 +29,6 @@ is_before ns x y = is_lt (name_cmp (name_at ns x.name.place) (name_at ns y.name.
 -- it is an order
 pub before_orders : (ns : List Name) → IsStrictWeakOrder (is_before ns)
 before_orders ns = ranks_by name_cmp_total (λ (x : PlacedAgent). name_at ns x.name.place)
-
--- a list that is sorted by an order ascends
-ascends : {X : Type 0} (less : X → X → Bool) → IsStrictWeakOrder less → (xs : List X) → IsSortedBy less xs → Ascends less xs
-ascends {X} less order xs up = by xs (sorted_far less order xs up)
-  where
-    by : (xs : List X) → ((i j : ℕ) (d : X) → i ≤ j → j < length xs → less (slice_index_or xs j d) (slice_index_or xs i d) ≡ false) → Ascends less xs
-    by [] far = tt
-    by (x ∷ xs) far = (
-      λ m i. All-contains (λ y. less y x ≡ false) xs m (λ k d h. far 0 (suc k) d (omega arith) (omega (arith, h))) (in-contains i),
-      by xs (λ i j d le h. far (suc i) (suc j) d (omega (arith, le)) (omega (arith, h))),
-    )
-
--- a list that has all elements of another, which are there once, and is as long is alike
-alike_by_length : {X : Type 0} (xs ys : List X) → IsOnce xs → ((x : X) → IsIn x xs → IsIn x ys) → length xs ≡ length ys → Alike xs ys
-alike_by_length [] [] once all same = none
-alike_by_length [] (y ∷ ys) once all same = absurd (omega (arith, same))
-alike_by_length {X} (x ∷ xs) ys once all same =
-    let i = all x (in_first x xs) in
-    let long = length-pick i.1 in
-    more i.1 (alike_by_length xs i.0 (once_rest once here) (λ z j. other z j (in_others i.1 (all z (in_more x j)))) (omega (arith, long, same)))
-  where
-    other : {rest : List X} (z : X) → IsIn z xs → (z ≡ x) ⊎ IsIn z rest → IsIn z rest
-    other {rest} z j (inl e) = absurd (once x xs here (subst (λ w. IsIn w xs) e j))
-    other z j (inr k) = k
 
 -- each agent has a name of its own
 abbrev AreApart : List Name → List PlacedAgent → Type 0
@@ -92,7 +69,7 @@ pub by_name : (ns : List Name) (xs ys : List PlacedAgent) → HaveOwnNames (map 
 by_name ns xs ys own moved up = record {
   order = map (member_in ns) ys;
   alike = alike-map (member_in ns) same;
-  rising = rising ns ys (λ x y rest k i. (let p = alike_pick (alike_back same) k in apart x y p.0 p.1 (alike-in p.2 i))) (ascends (is_before ns) (before_orders ns) ys up);
+  rising = rising ns ys (λ x y rest k i. (let p = alike_pick (alike_back same) k in apart x y p.0 p.1 (alike-in p.2 i))) (sorted_ascends (is_before ns) (before_orders ns) ys up);
   named = member_ids ns ys;
 }
   where

@@ -14,7 +14,8 @@ use Rattle.ic_roster.specs.declared.interaction.Interaction.{Interaction}
 use Rattle.ic_roster.specs.declared.agent_records.PlacedAgent.{PlacedAgent}
 use Rattle.ic_roster.specs.Rosters.{HaveOwnNames, IsNewName, Stander, HaveOwnLines, IsNewEvent, event_in, IsNamed, IsHanded}
 use Rattle.ic_roster.specs.Placed.{PlacedEvent, HaveOwnPlaces, IsNewPlace, HaveOwnKeys, IsNewKey, IsGiven, member_in, stander_in, AreNamed}
-use Rattle.ic_roster.proofs.Images.{in-map, picked_image, each_image, two_images, same_images}
+use Rattle.ic_roster.proofs.Images.{picked_image, each_image, two_images}
+use Rattle.ic_path.proofs.InLists.{map_agrees, in-map}
 
 -- each name stands where it stood
 abbrev pub KeepsPlaces : List Name → List Name → Type 0
@@ -51,11 +52,11 @@ module _ (old new : List Name) (keeps : KeepsPlaces old new) where
 
   -- the agents keep their names
   pub agents_stay : (xs : List PlacedAgent) (es : List PlacedEvent) → AreNamed old xs es → map (member_in new) xs ≡ map (member_in old) xs
-  agents_stay xs es named = same_images (member_in new) (member_in old) xs (λ x i. (let s = (stays x.name.place (named.agents x i)).named in λ u. record { id = x.id; name = s u; kind = x.kind }))
+  agents_stay xs es named = map_agrees (member_in new) (member_in old) xs (λ x i. (let s = (stays x.name.place (named.agents x i)).named in λ u. record { id = x.id; name = s u; kind = x.kind }))
 
   -- the events keep their names
   pub events_stay : (xs : List PlacedAgent) (es : List PlacedEvent) → AreNamed old xs es → map (stander_in new) es ≡ map (stander_in old) es
-  events_stay xs es named = same_images (stander_in new) (stander_in old) es (λ x i. (let s = event_stays x.interaction (named.events x i) in λ u. record { id = x.id; event = s u; rank = x.rank; born = x.born; causes = x.causes }))
+  events_stay xs es named = map_agrees (stander_in new) (stander_in old) es (λ x i. (let s = event_stays x.interaction (named.events x i) in λ u. record { id = x.id; event = s u; rank = x.rank; born = x.born; causes = x.causes }))
 
   -- all of them are still named
   pub all_still_named : (xs : List PlacedAgent) (es : List PlacedEvent) → AreNamed old xs es → AreNamed new xs es

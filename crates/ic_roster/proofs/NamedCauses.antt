@@ -5,10 +5,11 @@ use Rattle.std.proofs.lemmas.List.Elements.{All-weaker}
 use Rattle.ic_path.specs.Orders.{IsIn}
 use Rattle.ic_name.specs.Names.{Name}
 use Rattle.ic_name.specs.declared.ids.EventId.{EventId}
-use Rattle.ic_cause.proofs.OnceLists.{each_once_so}
+use Rattle.ic_path.proofs.OnceLists.{each_once_so}
 use Rattle.ic_roster.specs.Rosters.{Stander, Stands, DependsOn, AreDependents}
 use Rattle.ic_roster.specs.Placed.{PlacedEvent, AreKept, AreUsers, stander_in}
-use Rattle.ic_roster.proofs.Images.{in-map, each_image}
+use Rattle.ic_roster.proofs.Images.{each_image}
+use Rattle.ic_path.proofs.InLists.{in-map}
 
 -- an event of the list has the id
 abbrev HasId : List PlacedEvent → EventId → Type 0

@@ -7,13 +7,13 @@ use Rattle.slab.proofs.SlabLemmas.{Updates-with_value}
 use Rattle.smallvec.specs.SmallVec.{SmallVec, HasRoomFor}
 use Rattle.ic_name.specs.declared.ids.EventId.{EventId}
 use Rattle.ic_name.specs.Spots.{same_event}
-use Rattle.ic_cause.proofs.EventOrder.{same_event_true, same_event_self}
 use Rattle.ic_roster.specs.declared.event_record.EventRecord.{EventRecord}
 use Rattle.ic_roster.specs.Placed.{PlacedEvent}
 use Rattle.ic_roster.specs.Slots.{slot_at, number_at}
 use Rattle.ic_roster.specs.EventSlots.{event_at, events_in}
 use Rattle.ic_roster.specs.Records.{in_line, record_of, causes_at, has}
 use Rattle.ic_roster.specs.RecordChanges.{shown_in, ShowsSame, HasRoom, Changes}
+use Rattle.ic_name.proofs.SameFacts.{same_event_true, same_event_self}
 
 -- one map after another
 mapped_twice : {X Y Z : Type 0} (f : X → Y) (g : Y → Z) (o : Option X) → option_map g (option_map f o) ≡ option_map (λ x. g (f x)) o

@@ -3,18 +3,17 @@ use Rattle.std.proofs.Common.{◌≡◌, ℕ, ◌<◌, Bool, true, false, ◌||�
 use Rattle.std.specs.Prelude.{option_map, is_some}
 use Rattle.std.specs.Option.{IsSomeAnd}
 use Rattle.smallvec.specs.SmallVec.{HasRoomFor}
-use Rattle.ic_path.specs.Orders.{IsIn}
+use Rattle.ic_path.specs.Orders.{IsIn, IsOnce}
 use Rattle.ic_name.specs.declared.ids.EventId.{EventId}
 use Rattle.ic_name.specs.Spots.{same_event}
-use Rattle.ic_cause.proofs.EventOrder.{same_event_true, same_event_self}
-use Rattle.ic_cause.proofs.ListTests.{any-picked, any_in, any-end}
-use Rattle.ic_cause.proofs.OnceLists.{pick_at, not_before}
+use Rattle.ic_path.proofs.ListTests.{any-picked, any_in, any-end}
+use Rattle.ic_path.proofs.OnceLists.{pick_at, not_before}
 use Rattle.ic_roster.specs.declared.event_record.EventRecord.{EventRecord}
-use Rattle.ic_roster.specs.Rosters.{IsOnce}
 use Rattle.ic_roster.specs.EventSlots.{event_at}
 use Rattle.ic_roster.specs.Records.{record_of, dependents_at, has}
 use Rattle.ic_roster.specs.RecordChanges.{ShowsSame, HasRoom, Changes}
 use Rattle.ic_roster.proofs.RecordFacts.{shows_record, shows_then, has_one}
+use Rattle.ic_name.proofs.SameFacts.{same_event_true, same_event_self}
 
 -- what is found is in the list
 pub has_in : (e : EventId) (es : List EventId) → has e es ≡ true → IsIn e es

@@ -1,24 +1,23 @@
 -- Causes and dependents stay each other's as an event goes.
 use Rattle.std.proofs.Common.{◌≡◌, Bool, true, false, ◌||◌, List, [], ◌∷◌, Option, refl, sym, ap, ◌∙◌, subst}
 use Rattle.std.specs.Prelude.{option_map, unwrap_or}
-use Rattle.ic_path.specs.Orders.{here, Alike}
+use Rattle.ic_path.specs.Orders.{here, Alike, IsOnce}
 use Rattle.ic_path.proofs.EachOnce.{once_rest}
 use Rattle.ic_name.specs.declared.ids.EventId.{EventId}
 use Rattle.ic_name.specs.Spots.{same_event}
-use Rattle.ic_cause.proofs.EventOrder.{same_event_true}
-use Rattle.ic_cause.proofs.ListTests.{any-alike}
-use Rattle.ic_cause.proofs.OnceLists.{once-alike}
+use Rattle.ic_path.proofs.ListTests.{any-alike}
+use Rattle.ic_path.proofs.OnceLists.{once-alike}
 use Rattle.ic_roster.specs.declared.event_record.EventRecord.{EventRecord}
-use Rattle.ic_roster.specs.Rosters.{IsOnce}
 use Rattle.ic_roster.specs.Slots.{HoldsOneMore}
 use Rattle.ic_roster.specs.Records.{causes_at, dependents_at, has, AreLinked}
 use Rattle.ic_roster.specs.RecordChanges.{Changes, Takes}
 use Rattle.ic_roster.proofs.RecordFacts.{same_causes}
 use Rattle.ic_roster.proofs.RecordLoops.{has_in}
 use Rattle.ic_roster.proofs.AddedLinks.{causes_here, record_lacking, record_elsewhere}
+use Rattle.ic_name.proofs.SameFacts.{same_event_true}
 
 -- no event is in the empty list twice
-pub once_none : IsOnce []
+pub once_none : IsOnce {X = EventId} []
 once_none e rest k i = elim k [ ]
 
 -- an event that is no cause: `m` is what was, `mid` lacks its record, and `n` lacks it at the dependents of its causes, too

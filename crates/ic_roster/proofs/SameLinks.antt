@@ -2,7 +2,6 @@
 use Rattle.std.proofs.Common.{◌≡◌, ℕ, List, Option, refl, sym, ap, ◌∙◌, subst}
 use Rattle.ic_slots.specs.Slots.{Keeps}
 use Rattle.ic_roster.specs.declared.event_record.EventRecord.{EventRecord}
-use Rattle.ic_roster.specs.Rosters.{IsOnce}
 use Rattle.ic_roster.specs.Placed.{PlacedEvent}
 use Rattle.ic_roster.specs.Slots.{IsIndexOf}
 use Rattle.ic_roster.specs.EventSlots.{event_at, events_in, event_line, event_lead, AreIndexed}
@@ -11,6 +10,7 @@ use Rattle.ic_roster.specs.RecordChanges.{ShowsSame, SameRecords}
 use Rattle.ic_roster.proofs.RecordFacts.{same_causes, same_events, same_numbers}
 use Rattle.ic_roster.proofs.Indexes.{index_kept}
 use Rattle.ic_roster.proofs.OwnNumbers.{own_same}
+use Rattle.ic_path.specs.Orders.{IsOnce}
 
 -- lists that are the same are linked the same
 pub same_linked : (m n : List (Option EventRecord)) → SameRecords m n → AreLinked m → AreLinked n

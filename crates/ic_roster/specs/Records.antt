@@ -4,8 +4,8 @@ use Rattle.std.specs.List.{list_any}
 use Rattle.ic_name.specs.declared.ids.EventId.{EventId}
 use Rattle.ic_name.specs.Spots.{same_event}
 use Rattle.ic_roster.specs.declared.event_record.EventRecord.{EventRecord}
-use Rattle.ic_roster.specs.Rosters.{IsOnce}
 use Rattle.ic_roster.specs.Slots.{slot_at}
+use Rattle.ic_path.specs.Orders.{IsOnce}
 
 -- a record, if it is of the line
 abbrev pub in_line : Option EventRecord → EventId → Option EventRecord

@@ -61,10 +61,6 @@ IsNewEvent ss line e = (x : Stander) → IsIn x ss → (x.id.line ≢ line) × (
 abbrev pub Stands : List Stander → EventId → Type 0
 Stands ss d = (x : Stander) × IsIn x ss × (x.id ≡ d)
 
--- no event is in the list twice
-abbrev pub IsOnce : List EventId → Type 0
-IsOnce ds = (d : EventId) (rest : List EventId) → Pick d ds rest → IsIn d rest → ⊥
-
 -- the event under the second id has the first among its direct causes
 abbrev pub DependsOn : List Stander → EventId → EventId → Type 0
 DependsOn ss d e = (x : Stander) × IsIn x ss × (x.id ≡ e) × IsIn d x.causes

@@ -1,9 +1,9 @@
 ghost use Rattle.std.specs.Prelude.{◌≡◌, [], ◌∷◌, true, false, IsSome, OnOk, All};
 ghost use Rattle.ic_name.specs.declared.ids.EventId.{EventId as AnEventId};
 ghost use Rattle.ic_name.specs.Spots.{same_event};
-ghost use Rattle.ic_roster.specs.Rosters.{IsOnce};
 ghost use Rattle.ic_roster.specs.Records.{record_of, has};
 ghost use Rattle.ic_roster.specs.RecordChanges.{HasRoom, SameRecords, Changes, Puts, Takes};
+ghost use Rattle.ic_path.specs.Orders.{IsOnce};
 
 use crate::event_record::EventRecord;
 use ic_name::EventId;

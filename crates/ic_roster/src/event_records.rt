@@ -1,6 +1,5 @@
 ghost use Rattle.std.specs.Prelude.{◌≡◌, ◌≢◌, ◌↔◌, ◌∷◌, [], length, map, IsNone, IsTrue, IfSome, IfNone, IfOk, OnErr};
-ghost use Rattle.ic_path.specs.Orders.{Alike, IsIn};
-ghost use Rattle.ic_roster.specs.Rosters.{IsOnce};
+ghost use Rattle.ic_path.specs.Orders.{Alike, IsIn, IsOnce};
 ghost use Rattle.ic_roster.specs.declared.agent_records.PlacedAgent.{PlacedAgent as APlacedAgent};
 ghost use Rattle.ic_roster.specs.Placed.{PlacedEvent, HaveOwnKeys, IsNewKey, IsGiven, AreKept, AreUsers};
 

@@ -1,9 +1,9 @@
 ghost use Rattle.std.specs.Prelude.{◌≡◌, ◌≢◌, ◌<◌, ◌↔◌, ◌∷◌, [], length, map, All, IsNone, IsTrue, IfSome, IfNone, IfOk, OnErr};
-ghost use Rattle.ic_path.specs.Orders.{Alike, IsIn};
+ghost use Rattle.ic_path.specs.Orders.{Alike, IsIn, IsOnce};
 ghost use Rattle.ic_name.specs.Events.{pair};
 ghost use Rattle.ic_names.specs.Tables.{name_at};
 ghost use Rattle.ic_roster.specs.Born.{IsBorn};
-ghost use Rattle.ic_roster.specs.Rosters.{Member, Stander, IsNewEvent, Stands, IsOnce, AreDependents, event_in, IsNamed, IsHanded};
+ghost use Rattle.ic_roster.specs.Rosters.{Member, Stander, IsNewEvent, Stands, AreDependents, event_in, IsNamed, IsHanded};
 
 use crate::interaction::Interaction;
 use crate::roster::Roster;

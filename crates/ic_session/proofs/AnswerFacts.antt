@@ -3,7 +3,7 @@ use Rattle.std.proofs.Common.{◌≡◌, ℕ, List, [], ◌++◌, sym, ap, ◌�
 use Rattle.std.proofs.KnownBytes.{Appends-nil, Appends-trans}
 use Rattle.std.specs.Prelude.{Option, Some, None, IfSome}
 use Rattle.std.specs.Io.KnownBytes.{Appends}
-use Rattle.ic_lines.specs.Faults.{AppendsFront}
+use Rattle.ic_command.specs.Faults.{AppendsFront}
 use Rattle.ic_theory.specs.Starts.{Start}
 use Rattle.ic_path.specs.Orders.{Alike}
 use Rattle.ic_path.specs.Orders as Orders

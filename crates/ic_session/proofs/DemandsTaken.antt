@@ -1,8 +1,8 @@
 -- Demands taken from the lines that are left.
 use Rattle.std.proofs.Common.{◌≡◌, ℕ, Bool, List, sym, subst}
 use Rattle.std.specs.Prelude.{Option, Some, None, IfSome}
-use Rattle.ic_lines.specs.declared.piece.Piece.{Piece}
-use Rattle.ic_lines.specs.declared.piece.Piece.TheVariants.{Line, TooLong}
+use Rattle.ic_command.specs.declared.lines.piece.Piece.{Piece}
+use Rattle.ic_command.specs.declared.lines.piece.Piece.TheVariants.{Line, TooLong}
 use Rattle.ic_command.specs.declared.command.Command.TheVariants.{Malformed}
 use Rattle.ic_command.specs.declared.question.Question.{Question}
 use Rattle.ic_command.specs.declared.request.Request.{Request}

@@ -4,12 +4,12 @@ use Rattle.std.specs.Prelude.{Option, Some, None, IfSome, if◌then◌else◌, c
 use Rattle.std.proofs.Common.{Vec, Global}
 use Rattle.std.proofs.lemmas.Slice.Eq.{bytes_eq-Decides}
 use Rattle.std.specs.Str.{bytes_eq}
-use Rattle.ic_lines.specs.declared.piece.Piece.{Piece}
-use Rattle.ic_lines.specs.declared.piece.Piece.TheVariants.{Line, End}
-use Rattle.ic_lines.specs.declared.piece.Piece.TheVariants as pieces
-use Rattle.ic_lines.specs.Lines.{first_line, has_feed, behind_line, Takes}
-use Rattle.ic_lines.proofs.FirstLines.{first-prepend}
-use Rattle.ic_grammar.specs.declared.limits.TheConstants.{MAX_TEXT}
+use Rattle.ic_command.specs.declared.lines.piece.Piece.{Piece}
+use Rattle.ic_command.specs.declared.lines.piece.Piece.TheVariants.{Line, End}
+use Rattle.ic_command.specs.declared.lines.piece.Piece.TheVariants as pieces
+use Rattle.ic_command.specs.Lines.{first_line, has_feed, behind_line, Takes}
+use Rattle.ic_command.proofs.FirstLines.{first-prepend}
+use Rattle.ic_text.specs.declared.grammar.limits.TheConstants.{MAX_TEXT}
 use Rattle.ic_session.specs.declared.net_input.NetInput.TheVariants.{Whole}
 use Rattle.ic_session.specs.NetInput.{ReadsNet}
 use Rattle.ic_session.specs.InputLines.{lines, lines_after, last_line, net_part, command_lines, is_bar, whole_line}

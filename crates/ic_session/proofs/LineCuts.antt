@@ -2,7 +2,7 @@
 use Rattle.std.proofs.Common.{◌≡◌, ◌≢◌, ℕ, Bool, true, false, List, [], ◌∷◌, ◌++◌, refl, sym, ap, ◌∙◌, eqb, append_assoc, append-nil}
 use Rattle.std.proofs.lemmas.Bool.{eqb-true}
 use Rattle.std.specs.List.{flat_map}
-use Rattle.ic_lines.specs.Lines.{has_feed}
+use Rattle.ic_command.specs.Lines.{has_feed}
 use Rattle.ic_session.specs.InputLines.{lines, lines_after, last_line, whole_line}
 
 -- a line that has begun ends at the next feed

@@ -2,9 +2,9 @@
 use Rattle.std.proofs.Common.{◌≡◌, ◌≢◌, ℕ, ◌+◌, ◌<◌, Bool, true, false, List, [], ◌∷◌, length, refl, sym, ap, arith, ◌∙◌, subst}
 use Rattle.std.specs.Prelude.{Option, Some, None, IfSome, IsSomeAnd}
 use Rattle.ic_command.specs.declared.command.TheConstants.{MAX_COMMAND}
-use Rattle.ic_lines.specs.Lines.{Takes, first_line, has_feed, behind_line}
-use Rattle.ic_lines.specs.declared.piece.Piece.{Piece}
-use Rattle.ic_lines.specs.declared.piece.Piece.TheVariants.{Line, TooLong}
+use Rattle.ic_command.specs.Lines.{Takes, first_line, has_feed, behind_line}
+use Rattle.ic_command.specs.declared.lines.piece.Piece.{Piece}
+use Rattle.ic_command.specs.declared.lines.piece.Piece.TheVariants.{Line, TooLong}
 use Rattle.ic_session.specs.InputLines.{TextLine, lines}
 use Rattle.ic_session.specs.TakenLines.{TakesLine}
 use Rattle.ic_session.proofs.InputFacts.{line_with_feed, line_without_feed}

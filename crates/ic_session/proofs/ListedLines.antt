@@ -3,8 +3,8 @@ use Rattle.std.proofs.Common.{◌≡◌, ℕ, ◌+◌, ◌<◌, Bool, true, fals
 use Rattle.std.specs.Prelude.{Option, Some, None, IfSome, IsSomeAnd, MatchBool}
 use Rattle.ic_path.proofs.Picks.{pick_behind, pick_before, in_first}
 use Rattle.ic_name.specs.Events.{Pair}
-use Rattle.ic_lines.specs.declared.piece.Piece.{Piece}
-use Rattle.ic_lines.specs.declared.piece.Piece.TheVariants.{Line, TooLong}
+use Rattle.ic_command.specs.declared.lines.piece.Piece.{Piece}
+use Rattle.ic_command.specs.declared.lines.piece.Piece.TheVariants.{Line, TooLong}
 use Rattle.ic_command.specs.Listed.{IsListed}
 use Rattle.ic_session.specs.InputLines.{TextLine, lines}
 use Rattle.ic_session.specs.NextRequest.{AreListed, none, more, OneListsNone}

@@ -2,15 +2,15 @@
 use Rattle.std.proofs.Common.{◌≡◌, ℕ, ◌<◌, List, [], length, refl, sym, ap, arith, ◌∙◌, subst, inl, inr, Vec, Global}
 use Rattle.std.proofs.KnownBytes.{Appends-nil, prepend_known-nil}
 use Rattle.std.specs.Prelude.{Option, Some, None, IfSome}
-use Rattle.ic_lines.specs.Faults.{AppendsFront}
+use Rattle.ic_command.specs.Faults.{AppendsFront}
 use Rattle.std.specs.Io.KnownBytes.{Appends, prepend_known}
 use Rattle.ic_theory.specs.Starts.{Start}
 use Rattle.ic_desk.specs.Desks.{initial}
-use Rattle.ic_grammar.specs.Grammar.{Denotes}
-use Rattle.ic_grammar.specs.Faults.{Stands, IsFirstFault, Precedes}
-use Rattle.ic_grammar.specs.declared.limits.TheConstants.{MAX_TEXT}
-use Rattle.ic_grammar.specs.declared.refusal.Refusal.{Refusal}
-use Rattle.ic_grammar.specs.declared.refusal.Refusal.TheVariants.{TooLong, BadByte, Syntax, NameTooLong, Thrice, TooManyAgents, TooNested, ReservedFree, TooManyFree}
+use Rattle.ic_text.specs.Grammar.{Denotes}
+use Rattle.ic_text.specs.Faults.{Stands, IsFirstFault, Precedes}
+use Rattle.ic_text.specs.declared.grammar.limits.TheConstants.{MAX_TEXT}
+use Rattle.ic_text.specs.declared.grammar.refusal.Refusal.{Refusal}
+use Rattle.ic_text.specs.declared.grammar.refusal.Refusal.TheVariants.{TooLong, BadByte, Syntax, NameTooLong, Thrice, TooManyAgents, TooNested, ReservedFree, TooManyFree}
 use Rattle.ic_session.specs.declared.net_input.NetInput.{NetInput}
 use Rattle.ic_session.specs.declared.net_input.NetInput.TheVariants as inputs
 use Rattle.ic_session.specs.declared.session.Status.{Status}

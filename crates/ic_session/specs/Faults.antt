@@ -1,8 +1,8 @@
 -- The faults of a session.
 use Rattle.ic_desk.specs.declared.fault.DeskFault.{DeskFault}
 use Rattle.ic_desk.specs.declared.fault.DeskFault.TheVariants as desk
-use Rattle.ic_lines.specs.declared.piece.IoFault.{IoFault}
-use Rattle.ic_lines.specs.declared.piece.IoFault.TheVariants as io
+use Rattle.ic_command.specs.declared.lines.piece.IoFault.{IoFault}
+use Rattle.ic_command.specs.declared.lines.piece.IoFault.TheVariants as io
 use Rattle.ic_session.specs.declared.fault.Fault.{Fault}
 use Rattle.ic_session.specs.declared.fault.Fault.TheVariants.{Read, Write, Memory, Settle}
 

@@ -6,3 +6,7 @@ pub mod Refusals
 pub mod Sessions
 pub mod Faults
 pub mod Modes
+pub mod Wants
+pub mod States
+pub mod NormalEnds
+pub mod Reductions

@@ -1,6 +1,6 @@
 -- What reading the net text of a session gives.
 use Rattle.std.specs.Prelude.{◌≡◌, ℕ, ◌<◌, List, length, Option, IsSomeAnd}
-use Rattle.ic_grammar.specs.declared.limits.TheConstants.{MAX_TEXT}
+use Rattle.ic_text.specs.declared.grammar.limits.TheConstants.{MAX_TEXT}
 use Rattle.ic_session.specs.declared.net_input.NetInput.{NetInput}
 use Rattle.ic_session.specs.declared.net_input.NetInput.TheVariants.{Whole, TooLong}
 use Rattle.ic_session.specs.InputLines.{lines, net_part, command_lines}

@@ -1,8 +1,8 @@
 -- The line of a net text that is refused.
 use Rattle.std.specs.Prelude.{ℕ, List, [], ◌++◌, codes, Option, None, Some}
 use Rattle.std.specs.Fmt.{decimal}
-use Rattle.ic_grammar.specs.declared.refusal.Refusal.{Refusal}
-use Rattle.ic_grammar.specs.Faults.{code, offset}
+use Rattle.ic_text.specs.declared.grammar.refusal.Refusal.{Refusal}
+use Rattle.ic_text.specs.Faults.{code, offset}
 
 -- where a fault stands, if it stands at a byte
 abbrev pub place_text : Option ℕ → List ℕ

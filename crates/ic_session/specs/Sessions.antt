@@ -2,13 +2,13 @@
 use Rattle.std.specs.Prelude.{◌≡◌, ℕ, List, [], ◌++◌, Option}
 use Rattle.std.specs.Io.KnownBytes.{Appends}
 use Rattle.ic_theory.specs.Starts.{Start}
-use Rattle.ic_grammar.specs.Grammar.{Denotes}
-use Rattle.ic_grammar.specs.Faults.{Stands, IsFirstFault}
-use Rattle.ic_grammar.specs.declared.refusal.Refusal.{Refusal}
+use Rattle.ic_text.specs.Grammar.{Denotes}
+use Rattle.ic_text.specs.Faults.{Stands, IsFirstFault}
+use Rattle.ic_text.specs.declared.grammar.refusal.Refusal.{Refusal}
 use Rattle.ic_session.specs.InputLines.{TextLine, lines, net_part, command_lines}
 use Rattle.ic_desk.specs.Desks.{State, initial}
 use Rattle.ic_desk.specs.Views.{DeskView}
-use Rattle.ic_lines.specs.Faults.{AppendsFront}
+use Rattle.ic_command.specs.Faults.{AppendsFront}
 use Rattle.ic_session.specs.Modes.{TakesDemand, Gives, TurnsIn}
 use Rattle.ic_session.specs.declared.demand.Demand.{Demand}
 use Rattle.ic_session.specs.declared.mode.Mode.{Mode}

@@ -2,8 +2,8 @@
 use Rattle.std.specs.Prelude.{◌≡◌, ◌⊎◌, ◌+◌, ◌<◌, ℕ, Bool, true, false, List, [], ◌∷◌, ◌++◌, length, Option, None, Some, IsSomeAnd}
 use Rattle.std.specs.Global.{Vec}
 use Rattle.ic_name.specs.Events.{Pair}
-use Rattle.ic_lines.specs.declared.piece.Piece.{Piece}
-use Rattle.ic_lines.specs.declared.piece.Piece.TheVariants.{Line, TooLong, End}
+use Rattle.ic_command.specs.declared.lines.piece.Piece.{Piece}
+use Rattle.ic_command.specs.declared.lines.piece.Piece.TheVariants.{Line, TooLong, End}
 use Rattle.ic_command.specs.declared.command.TheConstants.{MAX_COMMAND}
 use Rattle.ic_command.specs.Listed.{IsListed}
 use Rattle.ic_session.specs.InputLines.{TextLine, lines}

@@ -2,7 +2,7 @@ ghost use Rattle.std.specs.Prelude.{◌≡◌, ◌<◌, ◌≤◌, ℕ, List, tr
 ghost use Rattle.std.specs.Io.KnownBytes.{Appends};
 ghost use Rattle.ic_session.specs.Modes.{plain};
 ghost use Rattle.ic_session.specs.Sessions.{IsBegun, Writes};
-ghost use Rattle.ic_lines.specs.Left.{left};
+ghost use Rattle.ic_command.specs.Left.{left};
 ghost use Rattle.ic_session.specs.declared.fault.Fault.TheVariants.{Read, Settle, Write};
 
 use crate::fault::Fault;
@@ -11,8 +11,8 @@ use crate::notes::explain_fault;
 use crate::place::Place;
 use crate::session::{Status, run_over};
 use crate::setting::Setting;
+use ic_command::{Input, Output};
 use ic_desk::{Gate, MAX_WORKERS, NoGate};
-use ic_lines::{Input, Output};
 use std::alloc::Global;
 use std::io::{Read, Write};
 use std::sync::Wait;

@@ -2,8 +2,8 @@ ghost use Rattle.std.specs.Prelude.{◌≡◌, ◌≢◌};
 ghost use Rattle.ic_session.specs.Faults.{fault_of, fault_at_desk};
 ghost use Rattle.ic_session.specs.declared.fault.Fault.TheVariants as fault;
 
+use ic_command::IoFault;
 use ic_desk::DeskFault;
-use ic_lines::IoFault;
 use std::alloc::AllocError;
 
 /// Why a session ended before its input did.

@@ -1,6 +1,6 @@
 ghost use Rattle.std.specs.Prelude.{◌≡◌, ◌≢◌, ℕ, true, false, List, [], ◌∷◌, ◌++◌};
 ghost use Rattle.std.specs.List.{flat_map};
-ghost use Rattle.ic_lines.specs.Lines.{has_feed};
+ghost use Rattle.ic_command.specs.Lines.{has_feed};
 ghost use Rattle.ic_session.specs.InputLines.{lines, whole_line};
 
 /// Where an input is cut in lines: behind each line feed. Together they are the input.

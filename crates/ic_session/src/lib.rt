@@ -11,6 +11,7 @@ pub mod mode;
 pub mod net_input;
 mod next_demand;
 mod notes;
+pub mod one_text;
 mod place;
 pub mod refusal;
 pub mod session;

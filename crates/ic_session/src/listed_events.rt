@@ -1,11 +1,10 @@
 ghost use Rattle.std.specs.Prelude.{◌≤◌, IfErr, IfOk, IfSome, IsSomeAnd, OnOk};
-ghost use Rattle.ic_lines.specs.Left.{left, work};
-ghost use Rattle.ic_lines.specs.Faults.{IsReadFault};
+ghost use Rattle.ic_command.specs.Left.{left, work};
+ghost use Rattle.ic_command.specs.Faults.{IsReadFault};
 ghost use Rattle.ic_session.specs.TakenLines.{TakesListed, TakesNextListed};
 
 use crate::taken_line::take_line;
-use ic_command::listed_of;
-use ic_lines::{Input, IoFault, Piece};
+use ic_command::{Input, IoFault, Piece, listed_of};
 use ic_name::EventName;
 use std::alloc::Global;
 use std::io::Read;

@@ -1,11 +1,11 @@
 ghost use Rattle.std.specs.Prelude.{◌≡◌, ◌≤◌, ◌++◌, IfErr, IfOk, IfSome, OnOk};
-ghost use Rattle.ic_lines.specs.Left.{left};
-ghost use Rattle.ic_lines.specs.Faults.{IsReadFault};
+ghost use Rattle.ic_command.specs.Left.{left};
+ghost use Rattle.ic_command.specs.Faults.{IsReadFault};
 ghost use Rattle.ic_session.specs.InputLines.{is_bar, whole_line};
 ghost use Rattle.ic_session.specs.NetInput.{ReadsNet};
 
-use ic_grammar::limits::MAX_TEXT;
-use ic_lines::{Input, IoFault, Piece};
+use ic_command::{Input, IoFault, Piece};
+use ic_text::grammar::limits::MAX_TEXT;
 use std::alloc::{AllocError, Global};
 use std::io::Read;
 

@@ -1,6 +1,6 @@
 ghost use Rattle.std.specs.Prelude.{◌<◌, ◌≤◌, Bool, IfErr, IfOk, IfSome, IsSome, IsSomeAnd, OnOk, ◌∷◌};
-ghost use Rattle.ic_lines.specs.Left.{left, work};
-ghost use Rattle.ic_lines.specs.Faults.{IsReadFault};
+ghost use Rattle.ic_command.specs.Left.{left, work};
+ghost use Rattle.ic_command.specs.Faults.{IsReadFault};
 ghost use Rattle.ic_session.specs.InputLines.{lines};
 ghost use Rattle.ic_session.specs.Modes.{IsQuestionAt, TakesNext};
 ghost use Rattle.ic_session.specs.NextRequest.{Takes};
@@ -10,8 +10,7 @@ use crate::listed_events::listed_events;
 use crate::mode::Mode;
 use crate::place::Place;
 use crate::taken_line::take_line;
-use ic_command::{Asked, Command, Question, Request, asked_of, question_of};
-use ic_lines::{Input, IoFault, Piece};
+use ic_command::{Asked, Command, Input, IoFault, Piece, Question, Request, asked_of, question_of};
 use std::alloc::{AllocError, Global};
 use std::io::Read;
 

@@ -1,8 +1,8 @@
 use crate::advice::advice;
 use crate::fault::Fault;
 use crate::place::Place;
-use ic_grammar::Refusal;
-use ic_lines::write_reply;
+use ic_command::write_reply;
+use ic_text::Refusal;
 use std::alloc::{AllocError, Global};
 use std::io::Write;
 

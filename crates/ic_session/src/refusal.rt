@@ -1,7 +1,7 @@
 ghost use Rattle.std.specs.Prelude.{◌≡◌, IfOk};
 ghost use Rattle.ic_session.specs.Refusals.{refusal_line};
 
-use ic_grammar::Refusal;
+use ic_text::Refusal;
 use std::alloc::{AllocError, Global};
 
 /// The answer to a net text that is refused.

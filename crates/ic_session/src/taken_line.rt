@@ -1,10 +1,9 @@
 ghost use Rattle.std.specs.Prelude.{◌<◌, ◌≤◌, IfErr, IfOk, IfSome, MatchBool};
-ghost use Rattle.ic_lines.specs.Left.{left, work};
-ghost use Rattle.ic_lines.specs.Faults.{IsReadFault};
+ghost use Rattle.ic_command.specs.Left.{left, work};
+ghost use Rattle.ic_command.specs.Faults.{IsReadFault};
 ghost use Rattle.ic_session.specs.TakenLines.{TakesLine, is_end};
 
-use ic_command::MAX_COMMAND;
-use ic_lines::{Input, IoFault, Piece};
+use ic_command::{Input, IoFault, MAX_COMMAND, Piece};
 use std::io::Read;
 
 /// Takes the next line, without its line feed, into `line`, whose old contents go. A line that is longer than a command

@@ -16,7 +16,7 @@ use Rattle.ic_theory.specs.Sets.{agents, links}
 use Rattle.ic_theory.specs.Starts.{net_shape}
 use Rattle.ic_theory.specs.Wires.{IsWire}
 use Rattle.ic_theory.proofs.Future.{far_by, port_agent}
-use Rattle.ic_shown.proofs.Elements.{in-map, map_cases}
+use Rattle.ic_path.proofs.InLists.{in-map, map_cases}
 use Rattle.ic_roster.specs.Rosters.{Member}
 use Rattle.ic_set.specs.declared.pairs.ActivePair.{ActivePair}
 use Rattle.ic_set.specs.Views.{SetView, standing, agent_of}

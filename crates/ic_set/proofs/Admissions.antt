@@ -16,7 +16,7 @@ use Rattle.ic_link.specs.Links.{IsLawful}
 use Rattle.ic_theory.specs.Born.{born_agents}
 use Rattle.ic_theory.specs.Machine.{IsDeep}
 use Rattle.ic_theory.specs.Rules.{born_ends}
-use Rattle.ic_shown.proofs.Elements.{in-map}
+use Rattle.ic_path.proofs.InLists.{in-map}
 use Rattle.ic_roster.specs.Rosters.{Member, Stander, HaveOwnNames, HaveOwnLines}
 use Rattle.ic_set.specs.declared.pairs.ActivePair.{ActivePair}
 use Rattle.ic_set.specs.Views.{SetView, standing, AreChildren}

@@ -22,11 +22,11 @@ use Rattle.ic_theory.specs.Sound.{IsSound}
 use Rattle.ic_theory.proofs.Closed.{cause_stays}
 use Rattle.ic_theory.proofs.Future.{includes_self, includes_more}
 use Rattle.ic_theory.proofs.Ranks.{cause_in, cause_included}
-use Rattle.ic_shown.specs.Naming.{Naming, TellsApart, Extends, IsHeld, link_of}
-use Rattle.ic_shown.specs.Shown.{Shows}
-use Rattle.ic_shown.proofs.Elements.{in-map, map_cases}
-use Rattle.ic_shown.proofs.MoreLinks.{shows_more}
-use Rattle.ic_cause.proofs.OnceLists.{each_once_so}
+use Rattle.ic_cause.specs.Naming.{Naming, TellsApart, Extends, IsHeld, link_of}
+use Rattle.ic_cause.specs.Shown.{Shows}
+use Rattle.ic_path.proofs.InLists.{in-map, map_cases}
+use Rattle.ic_cause.proofs.MoreLinks.{shows_more}
+use Rattle.ic_path.proofs.OnceLists.{each_once_so}
 use Rattle.ic_roster.specs.Rosters.{Member, Stander, HaveOwnNames, HaveOwnLines}
 use Rattle.ic_set.specs.declared.pairs.ActivePair.{ActivePair}
 use Rattle.ic_set.specs.Views.{SetView, standing, agent_of, AreChildren}

@@ -30,7 +30,7 @@ use Rattle.ic_theory.proofs.Loose.{has_partner, wire_partner}
 use Rattle.ic_theory.proofs.Normal.{active-alike}
 use Rattle.ic_theory.proofs.PairPorts.{joins, named_once, once}
 use Rattle.ic_theory.proofs.Ranks.{sound_order}
-use Rattle.ic_shown.proofs.Elements.{in-append_cases}
+use Rattle.ic_path.proofs.InLists.{in-append_cases}
 use Rattle.ic_set.proofs.NewlyActive.{no_ends, was_wire, was_active}
 
 -- an agent of the name is in the list

@@ -8,7 +8,7 @@ use Rattle.std.proofs.lemmas.Bool.{cases_lt}
 use Rattle.ic_name.specs.declared.ids.EventId.{EventId}
 use Rattle.ic_path.specs.Orders.{IsIn}
 use Rattle.ic_path.proofs.Picks.{none_in, pick_before}
-use Rattle.ic_cause.proofs.ListEnds.{in-end_cases, in_end}
+use Rattle.ic_path.proofs.ListEnds.{in-end_cases, in_end}
 use Rattle.ic_roster.specs.Rosters.{Stander, HaveOwnLines}
 use Rattle.ic_set.specs.Admission.{IsRankOver}
 use Rattle.ic_set.proofs.Namings.{same_stander}

@@ -8,7 +8,7 @@ use Rattle.ic_path.proofs.Picks.{in_more, in-cons_cases}
 use Rattle.ic_theory.specs.Starts.{Start, IsProper}
 use Rattle.ic_theory.specs.Causes.{IsCause}
 use Rattle.ic_theory.specs.Sound.{IsSound}
-use Rattle.ic_shown.proofs.Elements.{in-map}
+use Rattle.ic_path.proofs.InLists.{in-map}
 use Rattle.ic_roster.specs.Rosters.{Stander}
 use Rattle.ic_set.specs.Causes.{IsCauseId, HaveCauses}
 use Rattle.ic_set.specs.Views.{events_of}

@@ -18,7 +18,7 @@ use Rattle.ic_theory.specs.Sound.{IsSound}
 use Rattle.ic_theory.proofs.AnyOrder.{named-alike}
 use Rattle.ic_theory.proofs.Counts.{names_once, named_times-append}
 use Rattle.ic_theory.proofs.Future.{named_in}
-use Rattle.ic_shown.proofs.Elements.{in-map}
+use Rattle.ic_path.proofs.InLists.{in-map}
 use Rattle.ic_roster.specs.Rosters.{Member}
 use Rattle.ic_set.specs.Views.{agent_of, AreChildren}
 use Rattle.ic_set.specs.Entering.{CanEnter}

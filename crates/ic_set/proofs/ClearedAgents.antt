@@ -3,9 +3,9 @@ use Rattle.std.proofs.Common.{◌≡◌, List, [], ◌∷◌, map, ◌⊎◌, in
 use Rattle.ic_name.specs.Names.{Name}
 use Rattle.ic_name.specs.Events.{Event}
 use Rattle.ic_name.specs.declared.kinds.Kind.{Kind}
-use Rattle.ic_path.specs.Orders.{Alike, IsIn}
+use Rattle.ic_path.specs.Orders.{Alike, IsIn, IsOnce}
 use Rattle.ic_path.proofs.Alikes.{alike_back, alike-in, picked_alike}
-use Rattle.ic_path.proofs.EachOnce.{IsOnce, once_alike}
+use Rattle.ic_path.proofs.EachOnce.{once_alike}
 use Rattle.ic_path.proofs.Picks.{in_first, in_more}
 use Rattle.ic_theory.specs.Born.{born_agents}
 use Rattle.ic_theory.specs.Sets.{agents, with_made}
@@ -14,7 +14,7 @@ use Rattle.ic_theory.specs.Starts.{Start, start_agents}
 use Rattle.ic_theory.proofs.AnyOrder.{named-alike}
 use Rattle.ic_theory.proofs.Counts.{names_once, named_times-append}
 use Rattle.ic_theory.proofs.Future.{made_alike, named_in}
-use Rattle.ic_shown.proofs.Elements.{in-map, map_cases, in_behind, in-append_cases}
+use Rattle.ic_path.proofs.InLists.{in-map, map_cases, in_behind, in-append_cases}
 use Rattle.ic_roster.specs.Born.{IsBorn}
 use Rattle.ic_roster.specs.Rosters.{Member, Stander, HaveOwnNames}
 use Rattle.ic_roster.proofs.Images.{two_images}

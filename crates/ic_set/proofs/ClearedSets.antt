@@ -17,12 +17,11 @@ use Rattle.ic_theory.specs.Sets.{links, with_made}
 use Rattle.ic_theory.specs.Starts.{start_links}
 use Rattle.ic_theory.proofs.Machines.{empty_sound}
 use Rattle.ic_theory.proofs.Sound.{placed_maker}
-use Rattle.ic_shown.specs.Naming.{Naming, maker_of, has_maker, link_of}
-use Rattle.ic_shown.specs.Shown.{Shows}
-use Rattle.ic_shown.proofs.Elements.{map_cases, filter_cases, partition, other_parts}
-use Rattle.ic_shown.proofs.Extended.{links_kept, fewer_apart}
-use Rattle.ic_shown.proofs.SameEvents.{same_event_self}
-use Rattle.ic_cause.proofs.ListTests.{any-picked}
+use Rattle.ic_cause.specs.Naming.{Naming, maker_of, has_maker, link_of}
+use Rattle.ic_cause.specs.Shown.{Shows}
+use Rattle.ic_path.proofs.InLists.{map_cases, filter_cases, partition, other_parts}
+use Rattle.ic_cause.proofs.Extended.{links_kept, fewer_apart}
+use Rattle.ic_path.proofs.ListTests.{any-picked}
 use Rattle.ic_roster.specs.Rosters.{Member, Stander, HaveOwnNames}
 use Rattle.ic_set.specs.Cleared.{Clears}
 use Rattle.ic_set.specs.Ids.{IsNaming}
@@ -33,6 +32,7 @@ use Rattle.ic_set.proofs.DroppedLinks.{made_by_any, DropsAll}
 use Rattle.ic_set.proofs.EmptySets.{none_own}
 use Rattle.ic_set.proofs.LinksLeft.{link_held}
 use Rattle.ic_set.proofs.Namings.{naming_of, extends}
+use Rattle.ic_name.proofs.SameFacts.{same_event_self}
 
 -- an event made the link
 abbrev HasMaker : NetLink → Type 0

@@ -25,7 +25,7 @@ use Rattle.ic_theory.proofs.Counts.{names_once, slim, principal}
 use Rattle.ic_theory.proofs.Future.{WasFired, consumed_in, consumer, lead_far, port_agent, unequal}
 use Rattle.ic_theory.proofs.Loose.{path_of}
 use Rattle.ic_theory.proofs.NameKinds.{kind_parts, some_among}
-use Rattle.ic_shown.proofs.Elements.{in-map, map_cases}
+use Rattle.ic_path.proofs.InLists.{in-map, map_cases}
 use Rattle.ic_roster.specs.Rosters.{Member, Stander, IsNewName}
 use Rattle.ic_set.specs.Views.{SetView, standing, agent_of}
 use Rattle.ic_set.specs.Sets.{IsStandingSet, IsKept}

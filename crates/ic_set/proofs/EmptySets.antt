@@ -19,8 +19,8 @@ use Rattle.ic_theory.proofs.Counts.{names_once}
 use Rattle.ic_theory.proofs.Future.{named_in}
 use Rattle.ic_theory.proofs.Machines.{empty_sound}
 use Rattle.ic_start.specs.Starts.{join_of, AreStartLinks}
-use Rattle.ic_shown.specs.Naming.{Naming, link_of}
-use Rattle.ic_shown.specs.Shown.{Shows}
+use Rattle.ic_cause.specs.Naming.{Naming, link_of}
+use Rattle.ic_cause.specs.Shown.{Shows}
 use Rattle.ic_roster.specs.Rosters.{Member, HaveOwnNames, HaveOwnLines}
 use Rattle.ic_set.specs.Views.{agent_of}
 use Rattle.ic_set.specs.Ids.{IsNaming}

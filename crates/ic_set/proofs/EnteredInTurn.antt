@@ -9,8 +9,8 @@ use Rattle.ic_path.specs.Orders.{here, IsIn, Alike}
 use Rattle.ic_path.proofs.Picks.{none_in, pick_behind, pick_before}
 use Rattle.ic_path.proofs.Alikes.{alike_self, alike_back, alike-in}
 use Rattle.ic_theory.proofs.Future.{pick_part}
-use Rattle.ic_shown.proofs.Elements.{in-map}
-use Rattle.ic_cause.proofs.ListEnds.{in-end_cases}
+use Rattle.ic_path.proofs.InLists.{in-map}
+use Rattle.ic_path.proofs.ListEnds.{in-end_cases}
 use Rattle.ic_roster.specs.Rosters.{Member, IsNewName}
 use Rattle.ic_set.specs.declared.entering.NewAgent.{NewAgent}
 use Rattle.ic_set.specs.Views.{agent_of}

@@ -1,13 +1,14 @@
 -- Names that are entered in a table behind those of before.
 use Rattle.std.proofs.Common.{◌≡◌, ℕ, suc, ◌+◌, ◌<◌, ◌≤◌, List, [], ◌∷◌, ◌++◌, length, arith, refl, sym, ap, subst, ◌∙◌}
-use Rattle.std.proofs.lemmas.List.{append_assoc, length-append, get_or_append_left}
+use Rattle.std.proofs.lemmas.List.{append_assoc, length-append}
 use Rattle.std.proofs.lemmas.List.Elements.{All-nil, All-cons}
-use Rattle.ic_name.specs.Names.{Name, start_name}
+use Rattle.ic_name.specs.Names.{Name}
 use Rattle.ic_names.specs.Tables.{name_at, StandsAt, Enters, was, is_new}
 use Rattle.ic_roster.specs.declared.interaction.Interaction.{Interaction}
 use Rattle.ic_roster.specs.Rosters.{event_in, IsNamed}
 use Rattle.ic_set.specs.declared.entering.NewAgent.{NewAgent}
 use Rattle.ic_set.specs.Entering.{agents_in, AreNamed, GrowsBy}
+use Rattle.ic_names.proofs.Growing.{stands_longer}
 
 -- what stood at a place stands there
 abbrev pub Keeps : List Name → List Name → Type 0
@@ -31,12 +32,6 @@ kept_event old new keeps i named =
     let lead = kept_name old new keeps i.lead.place named.lead in
     let other = kept_name old new keeps i.other.place named.other in
     λ u. record { lead = lead.named u; lead_kind = i.lead_kind; other = other.named u; other_kind = i.other_kind }
-
--- with more names behind, what stood stands
-stands_longer : (ns more : List Name) (m : Name) (k : ℕ) → StandsAt ns m k → StandsAt (ns ++ more) m k
-stands_longer ns more m k stands =
-    let low = stands.within in
-    record { within = omega (arith, low, length-append ns more); named = get_or_append_left ns more (start_name 0) k low ∙ stands.named }
 
 -- a longer table keeps its names
 pub grown_keeps : {most : ℕ} (old new : List Name) → GrowsBy most old new → Keeps old new

@@ -1,13 +1,9 @@
 -- The active pairs of two sets of which one has an event more.
-use Rattle.std.proofs.Common.{◌≡◌, ◌≢◌, Bool, true, false, List, [], ◌∷◌, ◌++◌, ◌⊎◌, inl, inr, refl, sym, ap, arith, subst, ◌∙◌}
+use Rattle.std.proofs.Common.{◌≡◌, ◌≢◌, List, [], ◌∷◌, ◌++◌, ◌⊎◌, inl, inr, refl, sym, ap, arith, subst, ◌∙◌}
 use Rattle.ic_name.specs.Names.{Name}
 use Rattle.ic_name.specs.Events.{Event}
-use Rattle.ic_name.specs.Spots.{same_spot}
 use Rattle.ic_name.specs.declared.ids.AgentId.{AgentId}
-use Rattle.ic_name.specs.declared.ids.Spot.{Spot}
-use Rattle.ic_name.specs.declared.ids.Spot.TheVariants as spot
 use Rattle.ic_name.specs.declared.kinds.Kind.{Kind}
-use Rattle.ic_name.proofs.SpotFacts.{same_spot_true, same_spot_self}
 use Rattle.ic_path.specs.Orders.{IsIn, Alike}
 use Rattle.ic_path.proofs.Alikes.{alike_back, alike-in}
 use Rattle.ic_path.proofs.Picks.{pick_before, in_first, in-cons_cases}
@@ -19,7 +15,7 @@ use Rattle.ic_theory.specs.Sound.{IsSound}
 use Rattle.ic_theory.specs.Starts.{Start, IsProper}
 use Rattle.ic_theory.proofs.Ranks.{cause_in, sound-alike}
 use Rattle.ic_theory.proofs.Sound.{active_there}
-use Rattle.ic_shown.proofs.Elements.{in_behind, in-map, map_cases}
+use Rattle.ic_path.proofs.InLists.{in_behind, in-map, map_cases}
 use Rattle.ic_roster.specs.Rosters.{Member}
 use Rattle.ic_set.specs.declared.pairs.ActivePair.{ActivePair}
 use Rattle.ic_set.specs.Pairs.{IsPairOf}
@@ -38,17 +34,6 @@ pub record Grows (v w : SetView) (e : Event) (born : List AgentId) : Type 0 wher
   pub children : List Member
   pub are : AreChildren e born children
   pub agents : Alike w.agents (children ++ v.agents)
-
--- two ids are equal or not
-pub one_agent : (a b : AgentId) → (a ≡ b) ⊎ (a ≢ b)
-one_agent a b = by (same_spot (spot.Agent a 0) (spot.Agent b 0)) refl
-  where
-    agent : {c d : AgentId} → ◌≡◌ {A = Spot} (spot.Agent c 0) (spot.Agent d 0) → c ≡ d
-    agent e = cc
-
-    by : (t : Bool) → same_spot (spot.Agent a 0) (spot.Agent b 0) ≡ t → (a ≡ b) ⊎ (a ≢ b)
-    by true h = inl (agent (same_spot_true (spot.Agent a 0) (spot.Agent b 0) h))
-    by false h = inr (λ e. (let t = same_spot_self (spot.Agent a 0) in let f = subst (λ x. same_spot (spot.Agent a 0) (spot.Agent x 0) ≡ false) (sym e) h in cc))
 
 -- an event that the second set has more was active in the first
 pub was_active : (s : Start) → IsProper s → (all es : List Event) (e : Event) → IsSound s all → Alike all (e ∷ es) → IsActive s es e

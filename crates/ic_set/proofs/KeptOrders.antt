@@ -8,9 +8,9 @@ use Rattle.ic_theory.specs.Born.{born_agents, born_links}
 use Rattle.ic_theory.specs.Sound.{IsSound}
 use Rattle.ic_theory.proofs.Future.{made_alike}
 use Rattle.ic_theory.proofs.Ranks.{sound-alike, same_set, cause_included}
-use Rattle.ic_shown.specs.Naming.{Naming, link_of}
-use Rattle.ic_shown.specs.Shown.{Shows}
-use Rattle.ic_cause.proofs.OnceLists.{each_once_so}
+use Rattle.ic_cause.specs.Naming.{Naming, link_of}
+use Rattle.ic_cause.specs.Shown.{Shows}
+use Rattle.ic_path.proofs.OnceLists.{each_once_so}
 use Rattle.ic_roster.specs.Rosters.{Member, Stander}
 use Rattle.ic_set.specs.Views.{events_of, agent_of}
 use Rattle.ic_set.specs.Ids.{IsNaming}

@@ -8,8 +8,8 @@ use Rattle.ic_name.specs.declared.kinds.Kind.{Kind}
 use Rattle.ic_path.specs.Orders.{IsIn}
 use Rattle.ic_path.proofs.Alikes.{alike-in, alike_back}
 use Rattle.ic_path.proofs.Picks.{none_in, in_first, in_more, in-cons_cases}
-use Rattle.ic_shown.proofs.Elements.{map_cases, in_behind}
-use Rattle.ic_sheet.specs.Makings.{IsLastName}
+use Rattle.ic_path.proofs.InLists.{map_cases, in_behind}
+use Rattle.ic_net.specs.Makings.{IsLastName}
 use Rattle.ic_theory.specs.Listed.{NetAgent as Listed}
 use Rattle.ic_roster.specs.Rosters.{Member, AreRising, AreByName}
 use Rattle.ic_set.specs.Reading.{IsLiving}

@@ -8,7 +8,7 @@ use Rattle.ic_name.specs.declared.ids.EventId.{EventId}
 use Rattle.ic_name.specs.declared.ids.Link.{Link}
 use Rattle.ic_path.specs.Orders.{IsIn}
 use Rattle.ic_theory.specs.Causes.{IsCause, IsRank, IsDependent, canonical_cmp}
-use Rattle.ic_shown.proofs.Elements.{in-map, map_cases}
+use Rattle.ic_path.proofs.InLists.{in-map, map_cases}
 use Rattle.ic_roster.specs.Rosters.{Stander, DependsOn, AreDependents}
 use Rattle.ic_set.specs.Removal.{Stands, IsFree, IsLeast, IsLeastOf}
 use Rattle.ic_set.specs.Sets.{IsKept}

@@ -1,7 +1,7 @@
 -- The least of standing events in canonical order, as more of them are seen.
-use Rattle.std.proofs.Common.{◌≡◌, ℕ, Bool, true, false, List, [], ◌∷◌, ◌++◌, take, drop, ◌⊎◌, inl, inr, refl, sym, ap, subst, ◌∙◌}
+use Rattle.std.proofs.Common.{◌≡◌, ℕ, Bool, true, false, List, [], ◌∷◌, ◌++◌, take, drop, ◌⊎◌, inl, inr, sym, ap, subst, ◌∙◌}
 use Rattle.std.specs.declared.cmp.Ordering.{Ordering}
-use Rattle.std.specs.declared.cmp.Ordering.TheVariants.{Less, Equal, Greater}
+use Rattle.std.specs.declared.cmp.Ordering.TheVariants.{Less, Greater}
 use Rattle.std.specs.Ordering.{ordering_reverse, is_lt}
 use Rattle.ic_name.specs.Events.{Event}
 use Rattle.ic_name.specs.declared.ids.EventId.{EventId}
@@ -10,10 +10,11 @@ use Rattle.ic_path.proofs.Picks.{pick_before}
 use Rattle.std.proofs.lemmas.List.{take-append-drop}
 use Rattle.ic_theory.specs.Causes.{canonical_cmp}
 use Rattle.ic_theory.proofs.Replies.{canonical_total}
-use Rattle.ic_cause.proofs.ListEnds.{in-end_cases, in_end, in_before}
+use Rattle.ic_path.proofs.ListEnds.{in-end_cases, in_end, in_before}
 use Rattle.ic_roster.specs.Rosters.{Stander, HaveOwnLines}
 use Rattle.ic_set.specs.Removal.{AreNoted, TellsOrder, IsLeastOf}
 use Rattle.ic_set.proofs.Namings.{same_stander}
+use Rattle.ic_name.proofs.Orderings.{lt_less}
 
 -- what compares two entries by their noted ranks compares the events under their ids
 pub compared : (ss : List Stander) → HaveOwnLines ss → (x y a b : Stander) (rank : Event → ℕ) (o : Ordering) → IsIn x ss → IsIn y ss → IsIn a ss → IsIn b ss → x.id ≡ a.id → y.id ≡ b.id → AreNoted ss rank
@@ -35,12 +36,6 @@ least_first ss own ds d none = record { among = in_end d ds; none_before = λ x 
     by x y rank i j e noted h (inl f) = not_itself rank x.event (subst (λ (z : Stander). canonical_cmp rank x.event z.event ≡ Greater) (same_stander ss y x own j i (inl (f ∙ sym e))) h)
     by x y rank i j e noted h (inr k) = none y.id k
 
--- the test for what comes before decides it
-lesser : (o : Ordering) → is_lt o ≡ true → o ≡ Less
-lesser Less h = refl
-lesser Equal h = cc
-lesser Greater h = cc
-
 -- one that comes before the least so far is the least then
 pub least_moves : (ss : List Stander) → HaveOwnLines ss → (ds : List EventId) (least d : EventId) → (z : Stander) → IsIn z ss → z.id ≡ least → (before : Bool) → before ≡ true → TellsOrder ss d least before
     → IsLeastOf ss ds least → IsLeastOf ss (ds ++ d ∷ []) d
@@ -51,7 +46,7 @@ least_moves ss own ds least d z m g before true_is tells h = record { among = in
     by x y rank i j e noted q (inr k) =
         let total = canonical_total rank in
         let low : canonical_cmp rank y.event x.event ≡ Less = total.antisymm y.event x.event ∙ ap ordering_reverse q in
-        let less = total.trans y.event x.event z.event low (lesser _ (sym (tells x z rank i m e g noted) ∙ true_is)) in
+        let less = total.trans y.event x.event z.event low (lt_less _ (sym (tells x z rank i m e g noted) ∙ true_is)) in
         h.none_before z y rank m j g k noted (total.antisymm z.event y.event ∙ ap ordering_reverse less)
 
 -- else the least stays

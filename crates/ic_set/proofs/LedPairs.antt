@@ -10,19 +10,19 @@ use Rattle.std.proofs.lemmas.List.Sorted.{ranks_by, Contains-permutation, IsPerm
 use Rattle.ic_name.specs.Names.{Name, name_cmp}
 use Rattle.ic_name.specs.Events.{Event}
 use Rattle.ic_name.proofs.NameOrder.{name_cmp_total, name_tied, name_flip}
-use Rattle.ic_path.specs.Orders.{here, Alike, IsIn}
+use Rattle.ic_path.specs.Orders.{here, Alike, IsIn, IsOnce}
 use Rattle.ic_path.proofs.Picks.{none_in, in_first, in_more, in-cons_cases, in-contains, contains-in, pick-map}
 use Rattle.ic_path.proofs.Alikes.{alike-map}
-use Rattle.ic_path.proofs.EachOnce.{IsOnce, once_cons, once_rest}
+use Rattle.ic_path.proofs.EachOnce.{once_cons, once_rest}
 use Rattle.ic_path.proofs.Sorts.{Ascends}
 use Rattle.ic_theory.proofs.Future.{not_before_self}
-use Rattle.ic_shown.proofs.Elements.{in-map, map_cases}
-use Rattle.ic_cause.proofs.OnceLists.{once-alike}
+use Rattle.ic_path.proofs.InLists.{in-map, map_cases}
+use Rattle.ic_path.proofs.OnceLists.{once-alike, alike_by_length}
 use Rattle.ic_names.specs.Tables.{name_at, IsTable}
-use Rattle.ic_queue.specs.declared.queue.Lead.{Lead}
-use Rattle.ic_queue.specs.Queues.{place_of, places, AreNamed, StandOnce}
-use Rattle.ic_queue.proofs.QueuedPlaces.{once-places}
-use Rattle.ic_queue.proofs.Heaps.{queued_inside}
+use Rattle.ic_names.specs.declared.queue.Lead.{Lead}
+use Rattle.ic_names.specs.Queues.{place_of, places, AreNamed, StandOnce}
+use Rattle.ic_names.proofs.QueuedPlaces.{once-places}
+use Rattle.ic_names.proofs.Heaps.{queued_inside}
 use Rattle.ic_set.specs.declared.pairs.ActivePair.{ActivePair}
 use Rattle.ic_set.specs.Pairs.{AreJoined, IsPairOf, AreActivePairs}
 use Rattle.ic_set.specs.Queues.{Leads, HasLeads}
@@ -30,7 +30,7 @@ use Rattle.ic_set.specs.Sets.{IsStandingSet}
 use Rattle.ic_set.specs.Views.{SetView, NamedView}
 use Rattle.ic_set.proofs.ActivePairs.{one_id, one_name, one_pair, joined_pair, joined_once}
 use Rattle.ic_set.proofs.Partners.{joined_back}
-use Rattle.ic_set.proofs.PlacedOrders.{ascends, alike_by_length}
+use Rattle.ic_path.proofs.StrictOrders.{sorted_ascends}
 
 -- a pair with its event
 abbrev EventPair : Type 0
@@ -93,12 +93,12 @@ second_leads_none v set e f p q h k same =
     cc
 
 -- what names are sorted by
-abbrev pub is_before : List Name → Lead → Lead → Bool
-is_before ns l m = is_lt (name_cmp (name_of ns l) (name_of ns m))
+abbrev pub is_less_lead : List Name → Lead → Lead → Bool
+is_less_lead ns l m = is_lt (name_cmp (name_of ns l) (name_of ns m))
 
 -- it is an order
-pub before_orders : (ns : List Name) → IsStrictWeakOrder (is_before ns)
-before_orders ns = ranks_by name_cmp_total (name_of ns)
+pub less_leads_order : (ns : List Name) → IsStrictWeakOrder (is_less_lead ns)
+less_leads_order ns = ranks_by name_cmp_total (name_of ns)
 
 -- names that rise strictly
 abbrev AreRising : List Name → List Lead → Type 0
@@ -115,7 +115,7 @@ comes_after m n later other = by (name_cmp n m) refl
     by Greater e = name_flip n m e
 
 -- names of a table that ascend, each once, rise strictly
-rising : (ns : List Name) → IsTable ns → (ls : List Lead) → ((l : Lead) → IsIn l ls → place_of l < length ns) → IsOnce (places ls) → Ascends (is_before ns) ls → AreRising ns ls
+rising : (ns : List Name) → IsTable ns → (ls : List Lead) → ((l : Lead) → IsIn l ls → place_of l < length ns) → IsOnce (places ls) → Ascends (is_less_lead ns) ls → AreRising ns ls
 rising ns table [] inside once up = tt
 rising ns table (l ∷ ls) inside once up = (
   λ m i. comes_after (name_of ns l) (name_of ns m) (up.0 m i)
@@ -153,7 +153,7 @@ moved_inside ns ls sorted named moved l i = queued_inside named (in-map place_of
 
 -- the pairs that names lead, each name once and sorted, are the active pairs, where the lead of each has one of the names
 pub led_pairs : (v : NamedView) → IsStandingSet v.set → IsTable v.names → (ls sorted : List Lead) (xs : List EventPair) (pairs : List ActivePair) → AreNamed v.names ls → StandOnce ls → HasLeads v ls
-    → IsPermutation ls sorted → IsSortedBy (is_before v.names) sorted → LedBy v sorted xs → map (λ (x : EventPair). x.1) xs ≡ pairs → AreActivePairs v.set pairs
+    → IsPermutation ls sorted → IsSortedBy (is_less_lead v.names) sorted → LedBy v sorted xs → map (λ (x : EventPair). x.1) xs ≡ pairs → AreActivePairs v.set pairs
 led_pairs v set table ls sorted xs pairs named once has moved ordered led same = record {
   order = xs;
   each = record {
@@ -176,5 +176,5 @@ led_pairs v set table ls sorted xs pairs named once has moved ordered led same =
 
     up : IsStrictlySortedBy name_cmp (map (λ (x : EventPair). x.0.lead) xs)
     up =
-        let up = ascends (is_before v.names) (before_orders v.names) sorted ordered in
+        let up = sorted_ascends (is_less_lead v.names) (less_leads_order v.names) sorted ordered in
         led_rising v sorted (rising v.names table sorted (moved_inside v.names ls sorted named moved) (once-alike (alike-map place_of alike) (once-places ls once)) up) led

@@ -20,10 +20,10 @@ use Rattle.ic_theory.specs.Starts.{Start, IsProper, start_links, net_shape}
 use Rattle.ic_theory.proofs.Future.{made_alike}
 use Rattle.ic_theory.proofs.Ranks.{sound-alike}
 use Rattle.ic_theory.proofs.Sound.{maker_in}
-use Rattle.ic_shown.specs.Naming.{Naming, Extends, IsHeld, port_of, maker_of, has_spot, has_maker, link_of}
-use Rattle.ic_shown.specs.Shown.{Shows}
-use Rattle.ic_shown.proofs.Elements.{in-map, map_cases, filter_cases}
-use Rattle.ic_shown.proofs.OtherLinks.{shows_less}
+use Rattle.ic_cause.specs.Naming.{Naming, Extends, IsHeld, port_of, maker_of, has_spot, has_maker, link_of}
+use Rattle.ic_cause.specs.Shown.{Shows}
+use Rattle.ic_path.proofs.InLists.{in-map, map_cases, filter_cases}
+use Rattle.ic_cause.proofs.OtherLinks.{shows_less}
 use Rattle.ic_roster.specs.Rosters.{Member, Stander}
 use Rattle.ic_set.specs.Ids.{IsNaming}
 use Rattle.ic_set.specs.Views.{agent_of, events_of}

@@ -19,12 +19,12 @@ use Rattle.ic_link.specs.Links.{shape, IsLawful}
 use Rattle.ic_link.proofs.Lawful.{lawful-alike, lawful-added}
 use Rattle.ic_theory.specs.Born.{placed, port_of}
 use Rattle.ic_theory.proofs.Future.{pick_part}
-use Rattle.ic_shown.specs.Naming.{Naming, IsHeld, link_of, port_of as port_under}
-use Rattle.ic_shown.proofs.OnePort.{HasSpot}
-use Rattle.ic_shown.proofs.SameEvents.{same_event_self}
-use Rattle.ic_cause.proofs.ListEnds.{last_first}
+use Rattle.ic_cause.specs.Naming.{Naming, IsHeld, link_of, port_of as port_under}
+use Rattle.ic_cause.proofs.OnePort.{HasSpot}
+use Rattle.ic_path.proofs.ListEnds.{last_first}
 use Rattle.ic_set.specs.declared.pairs.ActivePair.{ActivePair}
 use Rattle.ic_set.specs.Joining.{no_id, spot_of, made_links, HasDigit, HaveDigits}
+use Rattle.ic_name.proofs.SameFacts.{same_event_self}
 
 module _ (d : EventId) (p : ActivePair) (born : List AgentId) where
   -- the event makes each of them, from its place on

@@ -11,10 +11,10 @@ use Rattle.ic_name.specs.declared.kinds.Kind.TheVariants.{Eps}
 use Rattle.ic_path.specs.Orders.{Pick, IsIn, Alike}
 use Rattle.ic_path.proofs.Picks.{none_in, in_first, in_more, in_others, in-cons_cases}
 use Rattle.ic_path.proofs.Alikes.{alike_back, alike_pick, alike-in}
-use Rattle.ic_shown.specs.Naming.{Naming, TellsApart, Extends}
-use Rattle.ic_shown.proofs.SameEvents.{same_event_true, same_event_self}
+use Rattle.ic_cause.specs.Naming.{Naming, TellsApart, Extends}
 use Rattle.ic_roster.specs.Rosters.{Member, Stander, HaveOwnNames, HaveOwnLines}
 use Rattle.ic_set.specs.Ids.{IsNaming}
+use Rattle.ic_name.proofs.SameFacts.{same_event_true, same_event_self}
 
 -- members of a list are one where one of them is no other than what the rest lacks
 one_of : {X : Type 0} {xs : List X} {x y : X} → ((rest : List X) → Pick x xs rest → IsIn y rest → ⊥) → IsIn x xs → IsIn y xs → x ≡ y

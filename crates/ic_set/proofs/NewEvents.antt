@@ -1,14 +1,12 @@
 -- An active event is new to a standing set.
-use Rattle.std.proofs.Common.{◌≡◌, ◌≢◌, ℕ, ◌≤◌, Bool, true, false, List, [], ◌∷◌, All, refl, sym, ap, arith, ◌∙◌, subst}
-use Rattle.std.proofs.lemmas.List.Elements.{All-nil, All-cons}
+use Rattle.std.proofs.Common.{◌≡◌, ◌≢◌, ℕ, ◌≤◌, Bool, true, false, List, ◌∷◌, All, refl, sym, ap, arith, ◌∙◌, subst}
 use Rattle.ic_name.specs.Events.{Event}
 use Rattle.ic_name.specs.Spots.{is_maker, made_by, same_event}
 use Rattle.ic_name.specs.declared.ids.EventId.{EventId}
 use Rattle.ic_name.specs.declared.ids.Link.{Link}
 use Rattle.ic_name.specs.declared.ids.MakerId.{MakerId}
 use Rattle.ic_name.specs.declared.ids.MakerId.TheVariants as maker
-use Rattle.ic_path.specs.Orders.{IsIn}
-use Rattle.ic_path.proofs.Picks.{in_first, in_more}
+use Rattle.ic_path.specs.Orders.{IsIn, IsOnce}
 use Rattle.ic_theory.specs.Active.{IsActive}
 use Rattle.ic_theory.specs.Causes.{IsCause}
 use Rattle.ic_theory.specs.Sets.{consumed_times}
@@ -16,18 +14,13 @@ use Rattle.ic_theory.specs.Sound.{IsSound}
 use Rattle.ic_theory.proofs.Future.{consumed_in, loose_agent, unequal, trail_included, same_links, includes_self, includes_more}
 use Rattle.ic_theory.proofs.Machines.{fire_sound}
 use Rattle.ic_theory.proofs.Ranks.{cause_in}
-use Rattle.ic_shown.specs.Naming.{has_maker}
-use Rattle.ic_shown.proofs.Elements.{in-map, map_cases}
-use Rattle.ic_shown.proofs.SameEvents.{same_event_true}
-use Rattle.ic_roster.specs.Rosters.{Stander, IsNewEvent, Stands, IsOnce}
+use Rattle.ic_cause.specs.Naming.{has_maker}
+use Rattle.ic_path.proofs.InLists.{in-map, map_cases, all_of_each}
+use Rattle.ic_roster.specs.Rosters.{Stander, IsNewEvent, Stands}
 use Rattle.ic_set.specs.Views.{SetView, standing}
 use Rattle.ic_set.specs.Sets.{IsKept}
 use Rattle.ic_set.specs.Admission.{AreCausesOf}
-
--- what holds of each element of a list holds at each place
-pub all_places : {X : Type 0} (P : X → Type 0) (xs : List X) → ((x : X) → IsIn x xs → P x) → All P xs
-all_places P [] f = All-nil P
-all_places P (x ∷ xs) f = All-cons P x xs (f x (in_first x xs)) (all_places P xs (λ y i. f y (in_more x i)))
+use Rattle.ic_name.proofs.SameFacts.{same_event_true}
 
 module _ (v : SetView) (ls : List Link) (k : IsKept v ls) (e : Event) (active : IsActive v.start (standing v) e) where
   -- the set with it is sound
@@ -56,7 +49,7 @@ module _ (v : SetView) (ls : List Link) (k : IsKept v ls) (e : Event) (active : 
 
   -- its direct causes stand
   pub causes_kept : (ids : List EventId) → AreCausesOf v e ids → All (Stands v.events) ids
-  causes_kept ids are = all_places (Stands v.events) ids (λ d i. let y = are.only d i in (y.0, y.1, y.2))
+  causes_kept ids are = all_of_each (Stands v.events) ids (λ d i. let y = are.only d i in (y.0, y.1, y.2))
 
   -- each of them once
   pub causes_once : (ids : List EventId) → AreCausesOf v e ids → IsOnce ids

@@ -31,13 +31,10 @@ use Rattle.ic_theory.proofs.Normal.{active-alike}
 use Rattle.ic_theory.proofs.NameKinds.{consumed_there}
 use Rattle.ic_theory.proofs.PairPorts.{is_of_pair, joins, ends_lead, ends_other, ends_neither, ends_name, pair_lead, pair_other, pair_loose, named_once, Whose, leads, others, neither, whose}
 use Rattle.ic_theory.proofs.Ranks.{sound_order, same_set, consumed-alike}
-use Rattle.ic_shown.proofs.Elements.{in_behind, in-append_cases}
+use Rattle.ic_path.proofs.InLists.{in_behind, in-append_cases}
 use Rattle.ic_set.specs.Queues.{IsNextTo}
 use Rattle.ic_set.proofs.FarTouched.{far_same, touched}
-
--- the name of the agent of a port
-port_name : {m n : Name} {i j : ℕ} → ◌≡◌ {A = Port} (Of m i) (Of n j) → m ≡ n
-port_name e = cc
+use Rattle.ic_name.proofs.SameFacts.{port_name}
 
 -- an auxiliary port of a kind is one, and isn't the principal one
 aux_port : (i : ℕ) (k : Kind) → is_auxiliary i k ≡ true → (leb i (arity k) ≡ true) × (i ≢ 0)

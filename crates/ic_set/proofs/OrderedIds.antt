@@ -1,12 +1,11 @@
 -- The ids of all standing events, of the direct causes of one, and of its direct dependents.
 use Rattle.std.proofs.Common.{◌≡◌, ◌↔◌, List, map, inl, refl, sym, ap, subst, ◌∙◌}
 use Rattle.ic_name.specs.declared.ids.EventId.{EventId}
-use Rattle.ic_path.specs.Orders.{Alike, IsIn}
+use Rattle.ic_path.specs.Orders.{Alike, IsIn, IsOnce}
 use Rattle.ic_path.proofs.Alikes.{alike-in, alike_back}
-use Rattle.ic_path.proofs.EachOnce.{IsOnce}
-use Rattle.ic_shown.proofs.Elements.{in-map, map_cases}
+use Rattle.ic_path.proofs.InLists.{in-map, map_cases}
 use Rattle.ic_theory.specs.Causes.{IsCause}
-use Rattle.ic_cause.proofs.OnceLists.{once-alike}
+use Rattle.ic_path.proofs.OnceLists.{once-alike}
 use Rattle.ic_roster.specs.Rosters.{Stander, HaveOwnLines, AreDependents, DependsOn as ByIds}
 use Rattle.ic_roster.proofs.Images.{picked_image}
 use Rattle.ic_set.specs.declared.orders.Placed.{Placed}

@@ -20,14 +20,14 @@ use Rattle.ic_theory.specs.Sets.{links}
 use Rattle.ic_theory.specs.Causes.{IsCause}
 use Rattle.ic_theory.proofs.Counts.{slim, principal}
 use Rattle.ic_theory.proofs.Future.{loose_end, port_agent, unequal}
-use Rattle.ic_shown.specs.Naming.{port_of}
-use Rattle.ic_shown.proofs.ByPorts.{reaches_named, trail_held}
-use Rattle.ic_shown.proofs.Elements.{map_cases}
-use Rattle.ic_shown.proofs.OnePort.{one_port, HasSpot}
-use Rattle.ic_shown.proofs.PathMakers.{cause_maker, maker_cause}
-use Rattle.ic_shown.proofs.SameEnds.{degree_is}
+use Rattle.ic_cause.specs.Naming.{port_of}
+use Rattle.ic_cause.proofs.ByPorts.{reaches_named, trail_held}
+use Rattle.ic_path.proofs.InLists.{map_cases}
+use Rattle.ic_cause.proofs.OnePort.{one_port, HasSpot}
+use Rattle.ic_cause.proofs.PathMakers.{cause_maker, maker_cause}
+use Rattle.ic_cause.proofs.SameEnds.{degree_is}
 use Rattle.ic_cause.specs.Makers.{IsMaker, AreMakers}
-use Rattle.ic_cause.proofs.OnceLists.{each_once_so}
+use Rattle.ic_path.proofs.OnceLists.{each_once_so}
 use Rattle.ic_roster.specs.Rosters.{Stander}
 use Rattle.ic_set.specs.declared.pairs.ActivePair.{ActivePair}
 use Rattle.ic_set.specs.Views.{SetView, standing}

@@ -23,12 +23,12 @@ use Rattle.ic_theory.specs.Wires.{Path, IsLoose}
 use Rattle.ic_theory.proofs.Counts.{slim, principal}
 use Rattle.ic_theory.proofs.Future.{loose_end, port_agent}
 use Rattle.ic_theory.proofs.Loose.{path_of}
-use Rattle.ic_shown.specs.Naming.{port_of}
-use Rattle.ic_shown.proofs.ByPorts.{reaches_named, trail_held, trail_named}
-use Rattle.ic_shown.proofs.Elements.{in-map, map_cases}
-use Rattle.ic_shown.proofs.OnePort.{HasSpot, one_port}
-use Rattle.ic_shown.proofs.PathMakers.{no_round}
-use Rattle.ic_shown.proofs.SameEnds.{degree_is}
+use Rattle.ic_cause.specs.Naming.{port_of}
+use Rattle.ic_cause.proofs.ByPorts.{reaches_named, trail_held, trail_named}
+use Rattle.ic_path.proofs.InLists.{in-map, map_cases}
+use Rattle.ic_cause.proofs.OnePort.{HasSpot, one_port}
+use Rattle.ic_cause.proofs.PathMakers.{no_round}
+use Rattle.ic_cause.proofs.SameEnds.{degree_is}
 use Rattle.ic_roster.specs.Rosters.{Member, Stander}
 use Rattle.ic_set.specs.Views.{SetView, standing, agent_of}
 use Rattle.ic_set.specs.Sets.{IsStandingSet, IsKept}

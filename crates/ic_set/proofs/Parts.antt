@@ -1,9 +1,9 @@
 -- Parts that are taken out of lists.
 use Rattle.std.proofs.Common.{◌≡◌, List, [], ◌∷◌, ◌++◌, ◌⊎◌, inl, inr, subst}
-use Rattle.ic_path.specs.Orders.{here, Alike, IsIn}
+use Rattle.ic_path.specs.Orders.{here, Alike, IsIn, IsOnce}
 use Rattle.ic_path.proofs.Picks.{in_first, in_more, in_others}
-use Rattle.ic_path.proofs.Alikes.{alike_self, alike_then, alike-cons, alike-cancel, picked_alike}
-use Rattle.ic_path.proofs.EachOnce.{IsOnce, once_rest}
+use Rattle.ic_path.proofs.Alikes.{alike_self, alike_then, alike-cons, picked_alike}
+use Rattle.ic_path.proofs.EachOnce.{once_rest}
 
 -- members of a list, each once, are taken out of it
 pub taken_all : {X : Type 0} (cs xs : List X) → IsOnce cs → ((c : X) → IsIn c cs → IsIn c xs) → (left : List X) × Alike xs (cs ++ left)
@@ -16,8 +16,3 @@ taken_all {X} (c ∷ cs) xs once within =
     other : {rest : List X} (z : X) → IsIn z cs → (z ≡ c) ⊎ IsIn z rest → IsIn z rest
     other {rest} z j (inl e) = absurd (once c cs here (subst (λ w. IsIn w cs) e j))
     other z j (inr k) = k
-
--- what stands before both of two alike lists is cancelled
-pub cancel_front : {X : Type 0} (zs : List X) {xs ys : List X} → Alike (zs ++ xs) (zs ++ ys) → Alike xs ys
-cancel_front [] a = a
-cancel_front (z ∷ zs) a = cancel_front zs (alike-cancel a)

@@ -10,9 +10,9 @@ use Rattle.ic_path.specs.Orders.{IsIn, Alike}
 use Rattle.ic_path.proofs.Alikes.{alike-in}
 use Rattle.ic_path.proofs.Picks.{none_in, in-cons_cases}
 use Rattle.ic_theory.specs.Active.{IsActive}
-use Rattle.ic_queue.specs.declared.queue.Lead.{Lead}
-use Rattle.ic_queue.specs.Queues.{places, IsHeap, IsLeast}
-use Rattle.ic_queue.proofs.Heaps.{one_least}
+use Rattle.ic_names.specs.declared.queue.Lead.{Lead}
+use Rattle.ic_names.specs.Queues.{places, IsHeap, IsLeast}
+use Rattle.ic_names.proofs.Heaps.{one_least}
 use Rattle.ic_roster.specs.Rosters.{Member}
 use Rattle.ic_set.specs.declared.pairs.ActivePair.{ActivePair}
 use Rattle.ic_set.specs.Pairs.{IsPairOf}

@@ -8,7 +8,7 @@ use Rattle.ic_path.proofs.Picks.{length-pick, in_others}
 use Rattle.ic_theory.specs.Starts.{Start}
 use Rattle.ic_theory.specs.Causes.{IsCause, IsRank}
 use Rattle.ic_theory.proofs.Ranks.{cause_in}
-use Rattle.ic_shown.proofs.Elements.{in-map}
+use Rattle.ic_path.proofs.InLists.{in-map}
 
 -- a list that has each number below a bound is at least as long
 pub each_below_length : (n : ℕ) (ks : List ℕ) → ((k : ℕ) → k < n → IsIn k ks) → n ≤ length ks

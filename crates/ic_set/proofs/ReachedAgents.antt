@@ -32,11 +32,11 @@ use Rattle.ic_theory.proofs.Exact.{exact_degree}
 use Rattle.ic_theory.proofs.Future.{made_alike}
 use Rattle.ic_theory.proofs.Loose.{joints_bound, port_owner, loose_degree, partners_back, partner_wire, wire_partner}
 use Rattle.ic_theory.proofs.Ranks.{sound_order}
-use Rattle.ic_shown.specs.Naming.{port_of}
-use Rattle.ic_shown.proofs.ByPorts.{trail_held}
-use Rattle.ic_shown.proofs.FarSpots.{sound_partner}
-use Rattle.ic_shown.proofs.OnePort.{HasSpot, one_port}
-use Rattle.ic_shown.proofs.SameEnds.{degree_is}
+use Rattle.ic_cause.specs.Naming.{port_of}
+use Rattle.ic_cause.proofs.ByPorts.{trail_held}
+use Rattle.ic_cause.proofs.FarSpots.{sound_partner}
+use Rattle.ic_cause.proofs.OnePort.{HasSpot, one_port}
+use Rattle.ic_cause.proofs.SameEnds.{degree_is}
 use Rattle.ic_roster.specs.Rosters.{Member}
 use Rattle.ic_set.specs.declared.pairs.ActivePair.{ActivePair}
 use Rattle.ic_set.specs.Pairs.{IsPairOf}

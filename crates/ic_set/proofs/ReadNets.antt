@@ -42,14 +42,14 @@ use Rattle.ic_theory.proofs.Future.{made_alike}
 use Rattle.ic_theory.proofs.Loose.{loose_degree}
 use Rattle.ic_theory.proofs.NameKinds.{kind_parts}
 use Rattle.ic_theory.proofs.Ranks.{sound_order}
-use Rattle.ic_shown.specs.Naming.{port_of}
-use Rattle.ic_shown.proofs.ByPorts.{trail_held}
-use Rattle.ic_shown.proofs.Elements.{in-map, in_behind, in-append_cases}
-use Rattle.ic_shown.proofs.FarSpots.{loose-alike, sound_partner}
-use Rattle.ic_shown.proofs.OnePort.{HasSpot}
-use Rattle.ic_shown.proofs.SameEnds.{degree_is, rings_are}
-use Rattle.ic_sheet.specs.Makings.{NetParts, IsLastName, IsLastNumber, listed_parts}
-use Rattle.ic_sheet.proofs.Makings.{found_last, found_last_free, parts_show}
+use Rattle.ic_cause.specs.Naming.{port_of}
+use Rattle.ic_cause.proofs.ByPorts.{trail_held}
+use Rattle.ic_path.proofs.InLists.{in-map, in_behind, in-append_cases}
+use Rattle.ic_cause.proofs.FarSpots.{loose-alike, sound_partner}
+use Rattle.ic_cause.proofs.OnePort.{HasSpot}
+use Rattle.ic_cause.proofs.SameEnds.{degree_is, rings_are}
+use Rattle.ic_net.specs.Makings.{NetParts, IsLastName, IsLastNumber, listed_parts}
+use Rattle.ic_net.proofs.Makings.{found_last, found_last_free, parts_show}
 use Rattle.ic_roster.specs.Rosters.{Member, AreByName}
 use Rattle.ic_set.specs.Reading.{net_in, IsPortAt, IsLiving, ArePartners, AreNetAgents, AreNetFrees, IsPut}
 use Rattle.ic_set.specs.Sets.{IsStandingSet, IsKept}

@@ -11,10 +11,10 @@ use Rattle.ic_link.specs.Links.{shape}
 use Rattle.ic_theory.specs.Starts.{Start, IsProper}
 use Rattle.ic_theory.specs.Sound.{IsSound}
 use Rattle.ic_theory.proofs.Counts.{slim}
-use Rattle.ic_shown.specs.Naming.{Naming, has_spot, port_of}
-use Rattle.ic_shown.specs.Shown.{Shows}
-use Rattle.ic_shown.proofs.OnePort.{HasSpot, AreHeld}
-use Rattle.ic_shown.proofs.SameEnds.{degree_is}
+use Rattle.ic_cause.specs.Naming.{Naming, has_spot, port_of}
+use Rattle.ic_cause.specs.Shown.{Shows}
+use Rattle.ic_cause.proofs.OnePort.{HasSpot, AreHeld}
+use Rattle.ic_cause.proofs.SameEnds.{degree_is}
 
 -- a held spot is no spot that isn't held
 other_spot : (n : Naming) (p q : Spot) → has_spot n p ≡ false → HasSpot n q → same_spot p q ≡ false

@@ -5,11 +5,10 @@ use Rattle.ic_name.specs.Events.{Event}
 use Rattle.ic_name.specs.Names.{Name}
 use Rattle.ic_name.specs.declared.ids.AgentId.{AgentId}
 use Rattle.ic_name.specs.declared.kinds.Kind.{Kind}
-use Rattle.ic_path.specs.Orders.{Pick, there, Alike, IsIn}
-use Rattle.ic_path.proofs.Alikes.{alike_back, alike_then, alike-map, alike-in, picked_alike}
-use Rattle.ic_path.proofs.EachOnce.{IsOnce}
+use Rattle.ic_path.specs.Orders.{Pick, there, Alike, IsIn, IsOnce}
+use Rattle.ic_path.proofs.Alikes.{alike_back, alike_then, alike-map, alike-in, picked_alike, cancel_front}
 use Rattle.ic_path.proofs.Picks.{in_more, pick-map, pick_behind, pick_before}
-use Rattle.ic_shown.proofs.Elements.{in-map}
+use Rattle.ic_path.proofs.InLists.{in-map}
 use Rattle.ic_theory.specs.Born.{born_agents}
 use Rattle.ic_theory.specs.Starts.{Start, IsProper, start_agents}
 use Rattle.ic_theory.specs.Sets.{agents}
@@ -20,7 +19,6 @@ use Rattle.ic_roster.specs.Rosters.{Member, Stander, HaveOwnNames, HaveOwnLines}
 use Rattle.ic_set.specs.Views.{agent_of, events_of, AreChildren}
 use Rattle.ic_set.specs.Sets.{HasChildren}
 use Rattle.ic_set.proofs.Namings.{own_names_from, own_lines_from, own_names_alike, own_lines_alike}
-use Rattle.ic_set.proofs.Parts.{cancel_front}
 use Rattle.ic_set.proofs.SmallerSets.{children_apart, children_new}
 
 -- what stands behind others is in the whole list

@@ -15,14 +15,10 @@ use Rattle.ic_path.proofs.Picks.{none_in, two_picks, in_others, in-cons_cases}
 use Rattle.ic_link.specs.Links.{HaveOwnIds}
 use Rattle.ic_theory.specs.Born.{placed}
 use Rattle.ic_start.specs.Starts.{port_at, join_of, IsStartSpot, AreStartLinks}
-use Rattle.ic_shown.specs.Naming.{Naming, IsHeld, has_maker, maker_of, link_of, port_of}
-use Rattle.ic_shown.proofs.OnePort.{HasSpot, AreHeld}
+use Rattle.ic_cause.specs.Naming.{Naming, IsHeld, has_maker, maker_of, link_of, port_of}
+use Rattle.ic_cause.proofs.OnePort.{HasSpot, AreHeld}
 use Rattle.ic_set.specs.Joining.{no_id, moved_spot, moved_link, HasNumber, HaveNumbers}
-use Rattle.ic_set.proofs.InPlace.{in_at}
-
--- what is found at a number is one of the list
-found_in : {X : Type 0} (xs : List X) (i : ℕ) (x : X) → slice_get xs i ≡ Some x → IsIn x xs
-found_in xs i x e = subst (λ y. IsIn y xs) (get_or_from_slice_get xs i x x e) (in_at xs i x (slice_get_within xs i x e))
+use Rattle.ic_path.proofs.ListPlaces.{found_in}
 
 -- so the numbers of a link's spots have ids
 pub numbered_at : (ids : List AgentId) (ls : List Link) (i : ℕ) (l : Link) → HaveNumbers ids ls → slice_get ls i ≡ Some l → HasNumber ids l.a × HasNumber ids l.b

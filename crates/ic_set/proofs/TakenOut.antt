@@ -9,7 +9,7 @@ use Rattle.ic_link.specs.Links.{Drops}
 use Rattle.ic_theory.specs.Causes.{IsCause, IsRank}
 use Rattle.ic_theory.specs.Sound.{IsSound}
 use Rattle.ic_theory.proofs.Ranks.{rank_one}
-use Rattle.ic_shown.proofs.Elements.{in-map}
+use Rattle.ic_path.proofs.InLists.{in-map}
 use Rattle.ic_roster.specs.Rosters.{Member, Stander}
 use Rattle.ic_set.specs.Changes.{TakesOut}
 use Rattle.ic_set.specs.Removal.{IsFree}

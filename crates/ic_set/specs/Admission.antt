@@ -6,11 +6,11 @@ use Rattle.ic_name.specs.declared.ids.AgentId.{AgentId}
 use Rattle.ic_name.specs.declared.ids.EventId.{EventId}
 use Rattle.ic_name.specs.declared.ids.Link.{Link}
 use Rattle.ic_name.specs.declared.rules.RuleEnd.{RuleEnd}
-use Rattle.ic_path.specs.Orders.{IsIn, Alike}
+use Rattle.ic_path.specs.Orders.{IsIn, Alike, IsOnce}
 use Rattle.ic_path.specs.Rings.{HasEachOnce}
 use Rattle.ic_link.specs.Links.{IsLawful}
 use Rattle.ic_theory.specs.Causes.{IsCause}
-use Rattle.ic_roster.specs.Rosters.{Stander, HaveOwnLines, IsNewEvent, Stands, IsOnce}
+use Rattle.ic_roster.specs.Rosters.{Stander, HaveOwnLines, IsNewEvent, Stands}
 use Rattle.ic_set.specs.declared.pairs.ActivePair.{ActivePair}
 use Rattle.ic_set.specs.Views.{SetView, standing}
 use Rattle.ic_set.specs.Joining.{made_links, HaveDigits}

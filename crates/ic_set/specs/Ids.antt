@@ -3,7 +3,7 @@ use Rattle.std.specs.Prelude.{◌≡◌, true, List}
 use Rattle.ic_name.specs.declared.ids.AgentId.{AgentId}
 use Rattle.ic_name.specs.declared.ids.EventId.{EventId}
 use Rattle.ic_path.specs.Orders.{IsIn}
-use Rattle.ic_shown.specs.Naming.{Naming}
+use Rattle.ic_cause.specs.Naming.{Naming}
 use Rattle.ic_roster.specs.Rosters.{Member, Stander}
 
 -- the naming holds the ids of these agents and events and no others, and each id stands for its agent or event

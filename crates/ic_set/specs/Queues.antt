@@ -10,8 +10,8 @@ use Rattle.ic_theory.specs.Born.{born_agents}
 use Rattle.ic_theory.specs.Wires.{IsWire}
 use Rattle.ic_theory.specs.Starts.{Start}
 use Rattle.ic_names.specs.Tables.{name_at, StandsAt}
-use Rattle.ic_queue.specs.declared.queue.Lead.{Lead}
-use Rattle.ic_queue.specs.Queues.{places}
+use Rattle.ic_names.specs.declared.queue.Lead.{Lead}
+use Rattle.ic_names.specs.Queues.{places}
 use Rattle.ic_roster.specs.Rosters.{Member}
 use Rattle.ic_set.specs.declared.pairs.ActivePair.{ActivePair}
 use Rattle.ic_set.specs.Pairs.{IsPairOf}

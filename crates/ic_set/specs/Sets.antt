@@ -8,8 +8,8 @@ use Rattle.ic_theory.specs.Sets.{agents}
 use Rattle.ic_theory.specs.Sound.{IsSound}
 use Rattle.ic_theory.specs.Causes.{IsRank}
 use Rattle.ic_theory.specs.Machine.{IsDeep}
-use Rattle.ic_shown.specs.Naming.{Naming}
-use Rattle.ic_shown.specs.Shown.{Shows}
+use Rattle.ic_cause.specs.Naming.{Naming}
+use Rattle.ic_cause.specs.Shown.{Shows}
 use Rattle.ic_roster.specs.Rosters.{Member, Stander, HaveOwnNames, HaveOwnLines}
 use Rattle.ic_set.specs.Views.{SetView, standing, agent_of, AreChildren}
 use Rattle.ic_set.specs.Ids.{IsNaming}

@@ -16,9 +16,8 @@ use crate::orders::Placed;
 use ic_cause::{RankedEvent, journal_head, push_line};
 use ic_link::LinkStore;
 use ic_name::Event;
-use ic_net::Net;
+use ic_net::{Net, NetMaker, NetSheet};
 use ic_roster::Roster;
-use ic_sheet::{NetMaker, NetSheet};
 use std::alloc::{AllocError, Global};
 
 /// So many agents are more than a net counts.

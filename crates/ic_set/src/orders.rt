@@ -1,7 +1,6 @@
 ghost use Rattle.std.specs.Prelude.{◌≡◌, All, map, IfOk};
 ghost use Rattle.ic_name.specs.declared.ids.EventId.{EventId as AnEventId};
-ghost use Rattle.ic_path.specs.Orders.{IsIn};
-ghost use Rattle.ic_roster.specs.Rosters.{IsOnce};
+ghost use Rattle.ic_path.specs.Orders.{IsIn, IsOnce};
 ghost use Rattle.ic_set.specs.Orders.{AreInOrder, IsAny, IsCauseOf, DependsOn};
 ghost use Rattle.ic_set.specs.Placed.{keyed_cmp, place, IsPlaced, ArePlaced};
 ghost use Rattle.ic_set.specs.Removal.{Stands};

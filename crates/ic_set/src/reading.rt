@@ -5,15 +5,15 @@ ghost use Rattle.ic_name.specs.declared.kinds.Kind.{Kind as AKind};
 ghost use Rattle.ic_name.specs.declared.ports.Port.{Port as APort};
 ghost use Rattle.ic_name.specs.declared.ports.Port.TheVariants as port_variants;
 ghost use Rattle.ic_names.specs.Tables.{name_at};
-ghost use Rattle.ic_sheet.specs.Makings.{IsLastName};
-ghost use Rattle.ic_sheet.specs.Sheets.{partner_list};
+ghost use Rattle.ic_net.specs.Makings.{IsLastName};
+ghost use Rattle.ic_net.specs.Sheets.{partner_list};
 ghost use Rattle.ic_set.specs.Reading.{net_in, IsPortAt, IsLiving, ArePartners, AreNetAgents, AreNetFrees, IsPut};
 
 use crate::bare::BareSet;
 use ic_link::{Far, LinkStore};
 use ic_name::{AgentId, AgentName, Kind, Port, Spot};
 use ic_names::NameId;
-use ic_sheet::{NetMaker, Partners};
+use ic_net::{NetMaker, Partners};
 use std::alloc::AllocError;
 
 impl<L: LinkStore> BareSet<L> {

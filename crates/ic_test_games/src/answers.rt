@@ -1,16 +1,20 @@
-use ic_answer::{Answer, NoGate, carry_out};
-use ic_command::command_of;
+use ic_command::{Asked, Command, Request, asked_of};
+use ic_desk::answer::carry_out;
+use ic_desk::{Answer, NoGate};
 use ic_journal::{Bench, LinkStore};
 use std::alloc::Global;
 use std::test::Fail;
 
-/// What a bench answers to a command.
+/// What a bench answers to a command. A line that asks for something else is no command.
 pub fn answer_of<L: LinkStore>(
     alloc: Global,
     bench: &mut Bench<L>,
     line: &[u8],
 ) -> Result<Answer, Fail> {
-    let command = command_of(alloc, line)?;
+    let command = match asked_of(alloc, line)? {
+        Asked::Alone(Request::Bench(command)) => command,
+        _ => Command::Malformed,
+    };
     Ok(carry_out(alloc, bench, command, &NoGate)?)
 }
 

@@ -5,9 +5,9 @@ use Rattle.std.specs.List.{fold}
 use Rattle.std.specs.Str.{bytes_eq}
 use Rattle.std.proofs.lemmas.Bool.{eqb-true}
 use Rattle.std.proofs.lemmas.Slice.Eq.{bytes_eq-Decides}
-use Rattle.ic_grammar.specs.Tokens.{Token, symbol, name, opening, closing, comma, equals, semicolon, profile, stray, digit, bad, Item}
+use Rattle.ic_text.specs.Tokens.{Token, symbol, name, opening, closing, comma, equals, semicolon, profile, stray, digit, bad, Item}
 use Rattle.ic_text.specs.Names.{Entry, enter, times, is_free, is_reserved_free}
-use Rattle.ic_grammar.specs.Texts.{is_reserved}
+use Rattle.ic_text.specs.Texts.{is_reserved}
 use Rattle.ic_text.specs.Reading.{State, initial}
 use Rattle.ic_text.proofs.Steps.{step_adds, seen_with}
 use Rattle.ic_text.proofs.Sound.{Runs, texts}

@@ -7,9 +7,9 @@ use Rattle.ic_name.specs.declared.ids.Link.{Link}
 use Rattle.ic_theory.specs.Starts.{Start}
 use Rattle.ic_start.specs.Links.{AreNumbered}
 use Rattle.ic_start.specs.Starts.{join_of, IsStart, start_of}
-use Rattle.ic_grammar.specs.declared.limits.TheConstants.{MAX_TEXT, MAX_FREE_NAMES}
-use Rattle.ic_grammar.specs.Tokens.{items, between}
-use Rattle.ic_grammar.proofs.Proper.{proper}
+use Rattle.ic_text.specs.declared.grammar.limits.TheConstants.{MAX_TEXT, MAX_FREE_NAMES}
+use Rattle.ic_text.specs.Tokens.{items, between}
+use Rattle.ic_text.proofs.Proper.{proper}
 use Rattle.ic_text.specs.declared.builder.Frame.{Frame}
 use Rattle.ic_text.specs.Sides.{Side}
 use Rattle.ic_text.specs.Names.{Entry, is_free, is_reserved_free}

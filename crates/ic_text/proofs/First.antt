@@ -1,22 +1,22 @@
 -- No fault stands in front of the one that is answered.
 use Rattle.ic_name.specs.declared.limits.TheConstants.{MAX_START_AGENTS}
-use Rattle.ic_grammar.specs.declared.limits.TheConstants.{MAX_NAME, MAX_NESTING}
+use Rattle.ic_text.specs.declared.grammar.limits.TheConstants.{MAX_NAME, MAX_NESTING}
 use Rattle.std.specs.Prelude.{nat_lt}
 use Rattle.std.proofs.Common.{◌≡◌, ℕ, ◌≤◌, ◌<◌, ◌⊎◌, Bool, true, false, cond, List, [], ◌∷◌, ◌++◌, length, Some, None, Ok, Err, refl, sym, ap, subst, ◌∙◌, arith, inl, inr, leb}
 use Rattle.std.proofs.lemmas.List.{map-append}
 use Rattle.std.proofs.lemmas.Bool.Decides.{nat_tests}
 use Rattle.ic_name.specs.declared.kinds.Kind.{Kind}
-use Rattle.ic_grammar.specs.declared.refusal.Refusal.{Refusal}
-use Rattle.ic_grammar.specs.declared.refusal.Refusal.TheVariants.{TooLong, BadByte, Syntax, NameTooLong, Thrice, TooManyAgents, TooNested, ReservedFree, TooManyFree}
+use Rattle.ic_text.specs.declared.grammar.refusal.Refusal.{Refusal}
+use Rattle.ic_text.specs.declared.grammar.refusal.Refusal.TheVariants.{TooLong, BadByte, Syntax, NameTooLong, Thrice, TooManyAgents, TooNested, ReservedFree, TooManyFree}
 use Rattle.ic_text.specs.declared.builder.Phase.{Phase}
 use Rattle.ic_text.specs.declared.builder.Phase.TheVariants as phases
 use Rattle.ic_text.specs.declared.builder.Frame.{Frame}
 use Rattle.ic_text.specs.Sides.{Side}
 use Rattle.ic_text.specs.Sides as sides
-use Rattle.ic_grammar.specs.Tokens.{Token, symbol, name, opening, closing, comma, equals, semicolon, profile, stray, digit, bad, between, Item, items}
+use Rattle.ic_text.specs.Tokens.{Token, symbol, name, opening, closing, comma, equals, semicolon, profile, stray, digit, bad, between, Item, items}
 use Rattle.ic_text.specs.Names.{times}
-use Rattle.ic_grammar.specs.Grammar.{symbols, names, occurs}
-use Rattle.ic_grammar.specs.Faults.{At, IsFront, depth, code}
+use Rattle.ic_text.specs.Grammar.{symbols, names, occurs}
+use Rattle.ic_text.specs.Faults.{At, IsFront, depth, code}
 use Rattle.ic_text.specs.Reading.{State, initial, step, over, advance, run, misplaced, mark_at, mark_on, mark_in, with_stack, with_side}
 use Rattle.ic_text.proofs.Steps.{advance_ok}
 use Rattle.ic_text.proofs.Sound.{Runs, runs, runs_symbols, tokens_of}

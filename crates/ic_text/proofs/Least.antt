@@ -4,14 +4,14 @@ use Rattle.std.specs.Prelude.{count_by, find, IfOk}
 use Rattle.std.proofs.lemmas.Bool.{cases_lt}
 use Rattle.ic_name.specs.declared.rules.Profile.{Profile}
 use Rattle.ic_theory.specs.Starts.{Start}
-use Rattle.ic_grammar.specs.Texts.{is_reserved}
-use Rattle.ic_grammar.specs.declared.limits.TheConstants.{MAX_TEXT, MAX_FREE_NAMES}
-use Rattle.ic_grammar.specs.declared.refusal.Refusal.{Refusal}
-use Rattle.ic_grammar.specs.declared.refusal.Refusal.TheVariants.{TooLong, BadByte, Syntax, NameTooLong, Thrice, TooManyAgents, TooNested, ReservedFree, TooManyFree}
-use Rattle.ic_grammar.specs.Tokens.{name, Item, items, between}
-use Rattle.ic_grammar.specs.Grammar.{Equation, text_of, tokens, names, occurs, Denotes}
-use Rattle.ic_grammar.specs.Faults.{Stands, Precedes, IsFirstFault, class, place, code}
-use Rattle.ic_grammar.proofs.Spelling.{one_start}
+use Rattle.ic_text.specs.Texts.{is_reserved}
+use Rattle.ic_text.specs.declared.grammar.limits.TheConstants.{MAX_TEXT, MAX_FREE_NAMES}
+use Rattle.ic_text.specs.declared.grammar.refusal.Refusal.{Refusal}
+use Rattle.ic_text.specs.declared.grammar.refusal.Refusal.TheVariants.{TooLong, BadByte, Syntax, NameTooLong, Thrice, TooManyAgents, TooNested, ReservedFree, TooManyFree}
+use Rattle.ic_text.specs.Tokens.{name, Item, items, between}
+use Rattle.ic_text.specs.Grammar.{Equation, text_of, tokens, names, occurs, Denotes}
+use Rattle.ic_text.specs.Faults.{Stands, Precedes, IsFirstFault, class, place, code}
+use Rattle.ic_text.proofs.Spelling.{one_start}
 use Rattle.ic_text.specs.declared.fault.TextFault.{TextFault}
 use Rattle.ic_text.specs.Names.{Entry, times, is_free, is_reserved_free}
 use Rattle.ic_text.specs.Reading.{State, initial, run, is_at_rest, read_of, Gives}

@@ -4,8 +4,8 @@ use Rattle.std.specs.List.{prefix_len, take_while}
 use Rattle.std.specs.Str.{bytes_eq}
 use Rattle.std.proofs.lemmas.List.Sums.{prefix_len-le-length}
 use Rattle.std.proofs.lemmas.Bool.Decides.{nat_tests}
-use Rattle.ic_grammar.specs.Tokens.{Token, name, profile, stray, bad, single, is_gap, is_comment_byte, Mode, between, in_name, in_comment, token_from, token_at, mode_from, mode_after, Item, items}
-use Rattle.ic_grammar.specs.Texts.{is_letter, is_name_byte}
+use Rattle.ic_text.specs.Tokens.{Token, name, profile, stray, bad, single, is_gap, is_comment_byte, Mode, between, in_name, in_comment, token_from, token_at, mode_from, mode_after, Item, items}
+use Rattle.ic_text.specs.Texts.{is_letter, is_name_byte}
 
 -- a letter is no gap and no `#`
 letter_no_gap : (b : ℕ) → is_letter b ≡ true → (is_gap b || eqb b 35) ≡ false

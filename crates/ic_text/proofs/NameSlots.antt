@@ -7,7 +7,7 @@ use Rattle.std.proofs.Math.Seq.{get_or-append_seam}
 use Rattle.std.proofs.lemmas.Bool.{eq-eqb, eqb-true, false_from_ne_true}
 use Rattle.std.specs.Str.{bytes_eq}
 use Rattle.std.proofs.lemmas.Slice.Eq.{bytes_eq-Decides}
-use Rattle.ic_grammar.proofs.Distinct.{bytes_eq_comm}
+use Rattle.ic_text.proofs.Distinct.{bytes_eq_comm}
 use Rattle.ic_slots.specs.Slots.{slot_of, Gives}
 use Rattle.ic_text.specs.Names.{Entry, enter, place}
 use Rattle.ic_text.specs.NameSlots.{slot_for, texts, text_at, found, IsKept, Finds}

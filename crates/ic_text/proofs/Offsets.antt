@@ -1,6 +1,6 @@
 -- The offsets of tokens ascend, and stay within the text.
 use Rattle.std.proofs.Common.{◌≡◌, ℕ, ◌+◌, ◌≤◌, ◌<◌, List, [], ◌∷◌, ◌++◌, length, Option, Some, None, refl, sym, ap, subst, arith}
-use Rattle.ic_grammar.specs.Tokens.{Mode, between, token_at, mode_after, Item, with_item, items, Token}
+use Rattle.ic_text.specs.Tokens.{Mode, between, token_at, mode_after, Item, with_item, items, Token}
 
 -- each token stands from an offset on, and behind those before it
 abbrev pub IsAbove : ℕ → List Item → Type 0

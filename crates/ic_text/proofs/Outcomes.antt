@@ -3,10 +3,10 @@ use Rattle.std.proofs.Common.{◌≡◌, ℕ, ◌≤◌, ◌<◌, Bool, true, fa
 use Rattle.std.specs.Prelude.{nat_lt, count_by, find, map}
 use Rattle.std.proofs.lemmas.Bool.Decides.{nat_tests}
 use Rattle.ic_theory.specs.Starts.{Start}
-use Rattle.ic_grammar.specs.declared.limits.TheConstants.{MAX_TEXT, MAX_FREE_NAMES}
-use Rattle.ic_grammar.specs.declared.refusal.Refusal.{Refusal}
-use Rattle.ic_grammar.specs.declared.refusal.Refusal.TheVariants.{TooLong, Syntax, ReservedFree, TooManyFree}
-use Rattle.ic_grammar.specs.Tokens.{items, between}
+use Rattle.ic_text.specs.declared.grammar.limits.TheConstants.{MAX_TEXT, MAX_FREE_NAMES}
+use Rattle.ic_text.specs.declared.grammar.refusal.Refusal.{Refusal}
+use Rattle.ic_text.specs.declared.grammar.refusal.Refusal.TheVariants.{TooLong, Syntax, ReservedFree, TooManyFree}
+use Rattle.ic_text.specs.Tokens.{items, between}
 use Rattle.ic_text.specs.Names.{Entry, is_free, is_reserved_free}
 use Rattle.ic_text.specs.Reading.{◌>>=◌, State, initial, run, is_at_rest, finish, read_of}
 

@@ -10,9 +10,9 @@ use Rattle.ic_text.specs.declared.builder.Phase.TheVariants as phases
 use Rattle.ic_text.specs.declared.builder.Frame.{Frame}
 use Rattle.ic_text.specs.Sides.{Side}
 use Rattle.ic_text.specs.Sides as sides
-use Rattle.ic_grammar.specs.Tokens.{Token, symbol, name, opening, closing, comma, equals, semicolon, profile, stray, digit, bad}
+use Rattle.ic_text.specs.Tokens.{Token, symbol, name, opening, closing, comma, equals, semicolon, profile, stray, digit, bad}
 use Rattle.ic_text.specs.Names.{Entry, enter, number}
-use Rattle.ic_grammar.specs.Grammar.{Fork, gamma, delta, kind_of, Term, named, eps, fork, Equation, spell, equation_tokens, text_of, port_of, root, behind, links, text_links}
+use Rattle.ic_text.specs.Grammar.{Fork, gamma, delta, kind_of, Term, named, eps, fork, Equation, spell, equation_tokens, text_of, port_of, root, behind, links, text_links}
 use Rattle.std.proofs.lemmas.List.{append-nil}
 use Rattle.ic_text.proofs.Steps.{some_is, step_adds}
 use Rattle.ic_text.specs.Reading.{State, frame, put, put_at, put_on, put_in, put_symbol, put_name, put_profile, put_profile_on, put_profile_in, push_open, mark, mark_at, mark_on, mark_in, with_stack, with_side, step}

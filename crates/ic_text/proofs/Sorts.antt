@@ -3,12 +3,12 @@ use Rattle.std.proofs.Common.{◌≡◌, ℕ, ◌<◌, inl, inr, Bool, true, fal
 use Rattle.std.specs.Prelude.{nat_lt}
 use Rattle.ic_name.specs.declared.rules.Profile.{Profile}
 use Rattle.ic_name.specs.declared.limits.TheConstants.{MAX_START_AGENTS}
-use Rattle.ic_grammar.specs.declared.limits.TheConstants.{MAX_TEXT, MAX_NAME, MAX_NESTING}
-use Rattle.ic_grammar.specs.declared.refusal.Refusal.{Refusal}
-use Rattle.ic_grammar.specs.declared.refusal.Refusal.TheVariants.{TooLong, BadByte, Syntax, NameTooLong, Thrice, TooManyAgents, TooNested, ReservedFree, TooManyFree}
-use Rattle.ic_grammar.specs.Tokens.{Token, symbol, name, opening, closing, comma, equals, semicolon, profile, stray, digit, bad}
-use Rattle.ic_grammar.specs.Grammar.{Equation, text_of, tokens}
-use Rattle.ic_grammar.specs.Faults.{At, Stands, class, place}
+use Rattle.ic_text.specs.declared.grammar.limits.TheConstants.{MAX_TEXT, MAX_NAME, MAX_NESTING}
+use Rattle.ic_text.specs.declared.grammar.refusal.Refusal.{Refusal}
+use Rattle.ic_text.specs.declared.grammar.refusal.Refusal.TheVariants.{TooLong, BadByte, Syntax, NameTooLong, Thrice, TooManyAgents, TooNested, ReservedFree, TooManyFree}
+use Rattle.ic_text.specs.Tokens.{Token, symbol, name, opening, closing, comma, equals, semicolon, profile, stray, digit, bad}
+use Rattle.ic_text.specs.Grammar.{Equation, text_of, tokens}
+use Rattle.ic_text.specs.Faults.{At, Stands, class, place}
 use Rattle.ic_text.specs.Names.{times}
 use Rattle.ic_text.specs.Reading.{State, step, over, advance, misplaced}
 use Rattle.ic_text.proofs.Standing.{refused, some_refusal}

@@ -1,9 +1,9 @@
 -- What is read is what the text denotes.
-use Rattle.ic_grammar.specs.declared.limits.TheConstants.{MAX_TEXT, MAX_FREE_NAMES, MAX_NAME}
+use Rattle.ic_text.specs.declared.grammar.limits.TheConstants.{MAX_TEXT, MAX_FREE_NAMES, MAX_NAME}
 use Rattle.std.specs.Prelude.{nat_lt}
 use Rattle.std.proofs.Common.{◌≡◌, ℕ, suc, ◌+◌, ◌≤◌, ◌<◌, Bool, true, false, cond, List, [], ◌∷◌, ◌++◌, length, Option, Some, None, Result, Ok, Err, refl, sym, ap, subst, ◌∙◌, arith, add-one, append_assoc, leb, eqb, ◌&&◌}
 use Rattle.std.proofs.lemmas.Bool.Decides.{nat_tests}
-use Rattle.ic_grammar.specs.declared.refusal.Refusal.TheVariants.{TooLong, Syntax, NameTooLong, Thrice, TooManyFree}
+use Rattle.ic_text.specs.declared.grammar.refusal.Refusal.TheVariants.{TooLong, Syntax, NameTooLong, Thrice, TooManyFree}
 use Rattle.std.specs.Prelude.{map, count_by, unwrap_or, find, IfOk}
 use Rattle.std.specs.List.{fold, position_or_len}
 use Rattle.std.specs.Str.{bytes_eq}
@@ -11,20 +11,20 @@ use Rattle.std.proofs.lemmas.Slice.Eq.{bytes_eq-Decides}
 use Rattle.std.proofs.lemmas.List.{append-nil}
 use Rattle.ic_name.specs.declared.kinds.Kind.{Kind}
 use Rattle.ic_name.specs.declared.ports.Port.{Port}
-use Rattle.ic_grammar.specs.declared.refusal.Refusal.{Refusal}
+use Rattle.ic_text.specs.declared.grammar.refusal.Refusal.{Refusal}
 use Rattle.ic_text.specs.declared.builder.Frame.{Frame}
 use Rattle.ic_text.specs.Sides.{Side}
 use Rattle.ic_text.specs.Sides as sides
 use Rattle.ic_text.specs.declared.fault.TextFault.{TextFault}
-use Rattle.ic_grammar.specs.Tokens.{Token, symbol, name, opening, closing, comma, equals, semicolon, profile, stray, digit, bad, Item, items, between}
+use Rattle.ic_text.specs.Tokens.{Token, symbol, name, opening, closing, comma, equals, semicolon, profile, stray, digit, bad, Item, items, between}
 use Rattle.ic_text.specs.Names.{Entry, enter, number, place, times, next, is_free, is_reserved_free}
-use Rattle.ic_grammar.specs.Texts.{is_reserved}
+use Rattle.ic_text.specs.Texts.{is_reserved}
 use Rattle.ic_theory.specs.Starts.{Start}
 use Rattle.ic_name.specs.declared.rules.Profile.{Profile}
 use Rattle.ic_name.specs.declared.rules.Profile.TheVariants.{Classic, Straight}
-use Rattle.ic_grammar.specs.Grammar.{eps, Equation, equation_tokens, text_of, text_links, symbols, names, add, distinct, occurs, AreNames, Denotes, start_of}
+use Rattle.ic_text.specs.Grammar.{eps, Equation, equation_tokens, text_of, text_links, symbols, names, add, distinct, occurs, AreNames, Denotes, start_of}
 use Rattle.ic_text.specs.Reading.{◌>>=◌, State, initial, step, over, advance, run, is_at_rest, finish, finish_names, read_of, Gives}
-use Rattle.ic_grammar.proofs.Headings.{heading_names, heading_symbols}
+use Rattle.ic_text.proofs.Headings.{heading_names, heading_symbols}
 use Rattle.ic_text.proofs.Steps.{step_adds, advance_ok, kinds_with, seen_with}
 use Rattle.ic_text.proofs.Table.{next_some}
 use Rattle.ic_text.proofs.Pending.{over_profile, Comes, Agrees, step_back}

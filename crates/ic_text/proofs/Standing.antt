@@ -1,6 +1,6 @@
 -- The fault that is answered stands in the text, and none stands at a token that was passed.
 use Rattle.ic_name.specs.declared.limits.TheConstants.{MAX_START_AGENTS}
-use Rattle.ic_grammar.specs.declared.limits.TheConstants.{MAX_NAME, MAX_NESTING}
+use Rattle.ic_text.specs.declared.grammar.limits.TheConstants.{MAX_NAME, MAX_NESTING}
 use Rattle.std.specs.Prelude.{nat_lt}
 use Rattle.std.proofs.Common.{◌≡◌, ℕ, ◌+◌, ◌≤◌, ◌<◌, ◌⊎◌, Bool, true, false, cond, List, [], ◌∷◌, ◌++◌, length, Option, Some, None, Result, Ok, Err, refl, sym, ap, subst, ◌∙◌, arith, inl, inr, leb, append_assoc}
 use Rattle.std.specs.List.{fold}
@@ -10,17 +10,17 @@ use Rattle.ic_name.specs.declared.kinds.Kind.{Kind}
 use Rattle.ic_name.specs.declared.kinds.Kind.TheVariants.{Gamma, Delta, Eps}
 use Rattle.ic_name.specs.declared.ports.Port.{Port}
 use Rattle.ic_name.specs.declared.rules.Profile.TheVariants.{Classic}
-use Rattle.ic_grammar.specs.declared.refusal.Refusal.{Refusal}
-use Rattle.ic_grammar.specs.declared.refusal.Refusal.TheVariants.{NameTooLong, Thrice, TooManyAgents, TooNested}
+use Rattle.ic_text.specs.declared.grammar.refusal.Refusal.{Refusal}
+use Rattle.ic_text.specs.declared.grammar.refusal.Refusal.TheVariants.{NameTooLong, Thrice, TooManyAgents, TooNested}
 use Rattle.ic_text.specs.declared.builder.Phase.{Phase}
 use Rattle.ic_text.specs.declared.builder.Phase.TheVariants as phases
 use Rattle.ic_text.specs.declared.builder.Frame.{Frame}
 use Rattle.ic_text.specs.Sides.{Side}
 use Rattle.ic_text.specs.Sides as sides
-use Rattle.ic_grammar.specs.Tokens.{Token, symbol, name, opening, closing, comma, equals, semicolon, profile, stray, digit, bad, Item, items, between}
+use Rattle.ic_text.specs.Tokens.{Token, symbol, name, opening, closing, comma, equals, semicolon, profile, stray, digit, bad, Item, items, between}
 use Rattle.ic_text.specs.Names.{times}
-use Rattle.ic_grammar.specs.Grammar.{eps, text_of, names, occurs, port_of}
-use Rattle.ic_grammar.specs.Faults.{At, IsFront, is_fork, is_closing, depth, Stands}
+use Rattle.ic_text.specs.Grammar.{eps, text_of, names, occurs, port_of}
+use Rattle.ic_text.specs.Faults.{At, IsFront, is_fork, is_closing, depth, Stands}
 use Rattle.ic_text.specs.Reading.{◌>>=◌, State, initial, step, over, advance, run, judge, misplaced, put, put_at, put_on, put_in, put_symbol, put_profile_on, put_profile_in, push_open, mark_at, mark_on, mark_in, with_stack, with_side}
 use Rattle.ic_text.proofs.Steps.{some_is}
 use Rattle.ic_text.proofs.Pending.{Rest, pend, rest_links, rest_profile}

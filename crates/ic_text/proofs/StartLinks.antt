@@ -13,12 +13,12 @@ use Rattle.ic_name.specs.declared.ids.Spot.{Spot}
 use Rattle.ic_name.specs.declared.ids.Spot.TheVariants as spots
 use Rattle.ic_name.specs.declared.ids.Link.{Link}
 use Rattle.ic_name.specs.declared.ports.Port.{Port}
-use Rattle.ic_path.specs.Links.{degree}
+use Rattle.ic_theory.specs.Links.{degree}
 use Rattle.ic_theory.specs.Born.{named}
 use Rattle.ic_theory.specs.Starts.{Start, IsProper, net_shape, start_links, port_times}
 use Rattle.ic_start.specs.Links.{IsOfStart, AreNumbered}
 use Rattle.ic_start.specs.Starts.{port_at, join_of, IsStartSpot, AreStartLinks, start_of}
-use Rattle.ic_grammar.proofs.LinkEnds.{hit, ends, degree_is}
+use Rattle.ic_text.proofs.LinkEnds.{hit, ends, degree_is}
 
 -- no symbol has more than three ports
 few_ports : (k : Kind) → arity k ≤ 2

@@ -1,6 +1,6 @@
 -- One token more: what it adds.
 use Rattle.ic_name.specs.declared.limits.TheConstants.{MAX_START_AGENTS}
-use Rattle.ic_grammar.specs.declared.limits.TheConstants.{MAX_TEXT}
+use Rattle.ic_text.specs.declared.grammar.limits.TheConstants.{MAX_TEXT}
 use Rattle.std.specs.Prelude.{nat_lt}
 use Rattle.std.proofs.Common.{◌≡◌, ℕ, ◌+◌, ◌≤◌, ◌<◌, Bool, true, false, cond, List, [], ◌∷◌, ◌++◌, length, Option, Some, None, Ok, Err, refl, sym, ap, ◌∙◌, arith, leb, length-append}
 use Rattle.std.specs.Prelude.{reverse}
@@ -10,14 +10,14 @@ use Rattle.std.proofs.lemmas.Bool.Decides.{nat_tests}
 use Rattle.ic_name.specs.declared.kinds.Kind.{Kind}
 use Rattle.ic_name.specs.declared.kinds.Kind.TheVariants.{Gamma, Delta, Eps}
 use Rattle.ic_name.specs.declared.ports.Port.{Port}
-use Rattle.ic_grammar.specs.declared.refusal.Refusal.{Refusal}
+use Rattle.ic_text.specs.declared.grammar.refusal.Refusal.{Refusal}
 use Rattle.ic_text.specs.declared.builder.Phase.{Phase}
 use Rattle.ic_text.specs.declared.builder.Phase.TheVariants as phases
 use Rattle.ic_text.specs.declared.builder.Frame.{Frame}
 use Rattle.ic_text.specs.Sides.{Side}
 use Rattle.ic_text.specs.Sides as sides
-use Rattle.ic_grammar.specs.Tokens.{Token, symbol, name, opening, closing, comma, equals, semicolon, profile, stray, digit, bad, Item, items, between}
-use Rattle.ic_grammar.specs.Grammar.{port_of}
+use Rattle.ic_text.specs.Tokens.{Token, symbol, name, opening, closing, comma, equals, semicolon, profile, stray, digit, bad, Item, items, between}
+use Rattle.ic_text.specs.Grammar.{port_of}
 use Rattle.ic_text.specs.Names.{Entry, enter}
 use Rattle.ic_text.specs.Reading.{State, put, put_at, put_on, put_in, put_profile_on, put_profile_in, push_open, mark_at, mark_on, mark_in, with_stack, with_side, step, over, judge, advance, run, Fails, initial, read_of}
 use Rattle.ic_text.specs.declared.fault.TextFault.{TextFault}

@@ -8,8 +8,8 @@ use Rattle.std.specs.Str.{bytes_eq}
 use Rattle.std.proofs.lemmas.Slice.Eq.{bytes_eq-Decides}
 use Rattle.ic_text.specs.declared.seen.Seen.{Seen}
 use Rattle.ic_text.specs.Names.{Entry, enter, next, place, number, times, is_free, is_reserved_free}
-use Rattle.ic_grammar.specs.Texts.{is_reserved}
-use Rattle.ic_grammar.proofs.Distinct.{bytes_eq_comm}
+use Rattle.ic_text.specs.Texts.{is_reserved}
+use Rattle.ic_text.proofs.Distinct.{bytes_eq_comm}
 use Rattle.ic_text.specs.Table.{name_of, names_of, first_of}
 
 -- the number behind a `next`

@@ -11,11 +11,11 @@ use Rattle.ic_text.specs.declared.builder.Phase.TheVariants as phases
 use Rattle.ic_text.specs.declared.builder.Frame.{Frame}
 use Rattle.ic_text.specs.Sides.{Side}
 use Rattle.ic_text.specs.Sides as sides
-use Rattle.ic_grammar.specs.Tokens.{Token, symbol, name, opening, closing, comma, equals, semicolon, profile}
+use Rattle.ic_text.specs.Tokens.{Token, symbol, name, opening, closing, comma, equals, semicolon, profile}
 use Rattle.ic_text.specs.Names.{Entry, enter, number}
-use Rattle.ic_grammar.specs.Grammar.{gamma, delta, Term, named, eps, fork, Equation, spell, equation_tokens, text_of, port_of}
+use Rattle.ic_text.specs.Grammar.{gamma, delta, Term, named, eps, fork, Equation, spell, equation_tokens, text_of, port_of}
 use Rattle.ic_text.specs.Reading.{State, frame, put_on, put_in, push_open, step}
-use Rattle.ic_grammar.proofs.Spelling.{head_is, tail_is}
+use Rattle.ic_text.proofs.Spelling.{head_is, tail_is}
 use Rattle.ic_text.proofs.Pending.{Rest, pend, pend_at, pend_on}
 
 -- a state by its parts

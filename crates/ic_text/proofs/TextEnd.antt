@@ -3,11 +3,11 @@ use Rattle.std.proofs.Common.{◌≡◌, ℕ, Bool, true, false, List, [], ◌�
 use Rattle.std.specs.Prelude.{count_by, find}
 use Rattle.std.proofs.lemmas.List.{append-nil}
 use Rattle.ic_name.specs.declared.rules.Profile.{Profile}
-use Rattle.ic_grammar.specs.declared.refusal.Refusal.TheVariants.{ReservedFree}
-use Rattle.ic_grammar.specs.Tokens.{Token, Item, items, between}
-use Rattle.ic_grammar.specs.Grammar.{Term, eps, Equation, text_of, tokens, names, distinct, occurs, add}
-use Rattle.ic_grammar.specs.Faults.{Stands}
-use Rattle.ic_grammar.proofs.Spelling.{starts}
+use Rattle.ic_text.specs.declared.grammar.refusal.Refusal.TheVariants.{ReservedFree}
+use Rattle.ic_text.specs.Tokens.{Token, Item, items, between}
+use Rattle.ic_text.specs.Grammar.{Term, eps, Equation, text_of, tokens, names, distinct, occurs, add}
+use Rattle.ic_text.specs.Faults.{Stands}
+use Rattle.ic_text.proofs.Spelling.{starts}
 use Rattle.ic_text.specs.declared.builder.Phase.{Phase}
 use Rattle.ic_text.specs.declared.builder.Phase.TheVariants as phases
 use Rattle.ic_text.specs.declared.builder.Frame.{Frame}

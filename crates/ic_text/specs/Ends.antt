@@ -1,7 +1,7 @@
 -- The ends of links by the ports that they are.
 use Rattle.ic_name.specs.declared.ports.Port.{Port}
 use Rattle.ic_name.specs.declared.ports.Port.TheVariants as ports
-use Rattle.ic_grammar.specs.Grammar.{port_of}
+use Rattle.ic_text.specs.Grammar.{port_of}
 use Rattle.ic_start.specs.declared.links.End.{End}
 use Rattle.ic_start.specs.declared.links.End.TheVariants as the_ends
 

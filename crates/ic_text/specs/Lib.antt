@@ -5,4 +5,17 @@ pub mod Reading
 pub mod Table
 pub mod Ends
 pub mod Views
+pub mod ReadingFaults
+pub mod Texts
+pub mod Tokens
+pub mod Grammar
 pub mod Faults
+pub mod AgentsText
+pub mod Lines
+pub mod NetText
+pub mod Numbers
+pub mod NumberedWires
+pub mod Printable
+pub mod Printed
+pub mod Reread
+pub mod ReadBack

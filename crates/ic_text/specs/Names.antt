@@ -1,7 +1,7 @@
 -- The names of a text, numbered by first occurrence.
 use Rattle.std.specs.Prelude.{ℕ, ◌+◌, List, [], ◌∷◌, length, Option, Some, None, unwrap_or, Bool, ◌==◌, ◌&&◌, if◌then◌else◌}
 use Rattle.std.specs.Str.{bytes_eq}
-use Rattle.ic_grammar.specs.Texts.{is_reserved}
+use Rattle.ic_text.specs.Texts.{is_reserved}
 
 -- A name that has occurred: where first, and how often so far.
 pub record Entry : Type 0 where

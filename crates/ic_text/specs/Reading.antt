@@ -8,9 +8,9 @@ use Rattle.ic_name.specs.declared.rules.Profile.{Profile}
 use Rattle.ic_name.specs.declared.rules.Profile.TheVariants.{Classic, Straight}
 use Rattle.ic_name.specs.declared.limits.TheConstants.{MAX_START_AGENTS}
 use Rattle.ic_theory.specs.Starts.{Start}
-use Rattle.ic_grammar.specs.declared.limits.TheConstants.{MAX_TEXT, MAX_FREE_NAMES, MAX_NAME, MAX_NESTING}
-use Rattle.ic_grammar.specs.declared.refusal.Refusal.{Refusal}
-use Rattle.ic_grammar.specs.declared.refusal.Refusal.TheVariants.{TooLong, BadByte, Syntax, NameTooLong, Thrice, TooManyAgents, TooNested, ReservedFree, TooManyFree}
+use Rattle.ic_text.specs.declared.grammar.limits.TheConstants.{MAX_TEXT, MAX_FREE_NAMES, MAX_NAME, MAX_NESTING}
+use Rattle.ic_text.specs.declared.grammar.refusal.Refusal.{Refusal}
+use Rattle.ic_text.specs.declared.grammar.refusal.Refusal.TheVariants.{TooLong, BadByte, Syntax, NameTooLong, Thrice, TooManyAgents, TooNested, ReservedFree, TooManyFree}
 use Rattle.ic_text.specs.declared.fault.TextFault.{TextFault}
 use Rattle.ic_text.specs.declared.fault.TextFault.TheVariants as faults
 use Rattle.ic_text.specs.declared.builder.Phase.{Phase}
@@ -18,8 +18,8 @@ use Rattle.ic_text.specs.declared.builder.Phase.TheVariants as phases
 use Rattle.ic_text.specs.declared.builder.Frame.{Frame}
 use Rattle.ic_text.specs.Sides.{Side}
 use Rattle.ic_text.specs.Sides as sides
-use Rattle.ic_grammar.specs.Grammar.{port_of}
-use Rattle.ic_grammar.specs.Tokens.{Token, symbol, name, opening, closing, comma, equals, semicolon, profile, bad, Item, items, between}
+use Rattle.ic_text.specs.Grammar.{port_of}
+use Rattle.ic_text.specs.Tokens.{Token, symbol, name, opening, closing, comma, equals, semicolon, profile, bad, Item, items, between}
 use Rattle.ic_text.specs.Names.{Entry, enter, number, times, is_free, is_reserved_free}
 
 -- what goes on where reading has not failed

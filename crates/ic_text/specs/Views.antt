@@ -10,7 +10,7 @@ use Rattle.ic_text.specs.declared.builder.Side.TheVariants as declared_sides
 use Rattle.ic_text.specs.Sides.{Side}
 use Rattle.ic_text.specs.Sides as sides
 use Rattle.ic_text.specs.Ends.{port_of_end}
-use Rattle.ic_grammar.specs.Tokens.{Token, symbol, name, opening, closing, comma, equals, semicolon, profile, stray, digit, bad, Mode, between, in_comment, Item, items}
+use Rattle.ic_text.specs.Tokens.{Token, symbol, name, opening, closing, comma, equals, semicolon, profile, stray, digit, bad, Mode, between, in_comment, Item, items}
 
 -- the token that a lexeme is
 abbrev pub token_of : Lexeme → Token

@@ -1,16 +1,16 @@
 ghost use Rattle.std.specs.Prelude.{◌≡◌, ◌<◌, ◌≤◌, ◌^◌, [], length, IfOk};
-ghost use Rattle.ic_grammar.specs.declared.limits.TheConstants.{MAX_TEXT};
-ghost use Rattle.ic_grammar.specs.Tokens.{symbol, name, profile, items, between};
+ghost use Rattle.ic_text.specs.declared.grammar.limits.TheConstants.{MAX_TEXT};
+ghost use Rattle.ic_text.specs.Tokens.{symbol, name, profile, items, between};
 ghost use Rattle.ic_text.specs.Reading.{Gives, initial, put, mark, advance, run, finish, is_at_rest, IsWithin};
 ghost use Rattle.ic_text.specs.Ends.{port_of_end};
 ghost use Rattle.ic_text.specs.Views.{token_of, side_of, state_of, GoesOn};
 
 use crate::fault::TextFault;
+use crate::grammar::Refusal;
+use crate::grammar::limits::{MAX_FREE_NAMES, MAX_NAME, MAX_NESTING};
 use crate::lexer::Lexeme;
 use crate::links::Links;
 use crate::names::Names;
-use ic_grammar::Refusal;
-use ic_grammar::limits::{MAX_FREE_NAMES, MAX_NAME, MAX_NESTING};
 use ic_name::limits::MAX_START_AGENTS;
 use ic_name::{Kind, Profile};
 use ic_start::{End, Start};

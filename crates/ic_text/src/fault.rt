@@ -1,8 +1,8 @@
 ghost use Rattle.std.specs.Prelude.{◌≡◌};
-ghost use Rattle.ic_text.specs.Faults.{text_number};
+ghost use Rattle.ic_text.specs.ReadingFaults.{text_number};
 ghost use Rattle.ic_text.specs.declared.fault.TextFault.TheVariants.{Memory};
 
-use ic_grammar::Refusal;
+use crate::grammar::Refusal;
 use ic_name::numbers;
 use std::alloc::{AllocError, AllocFailed};
 use thiserror::Error;

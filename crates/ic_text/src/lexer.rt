@@ -1,11 +1,11 @@
 ghost use Rattle.std.specs.Prelude.{◌≡◌, ◌+◌, ◌<◌, ◌≤◌, ◌^◌, [], ◌∷◌, length, MatchOption, IfSome, if◌then◌else◌, codes};
 ghost use Rattle.std.specs.Str.{bytes_eq};
 ghost use Rattle.std.specs.List.{prefix_len};
-ghost use Rattle.ic_grammar.specs.Texts.{is_name_byte};
-ghost use Rattle.ic_grammar.specs.Tokens.{is_gap, is_comment_byte, profile, stray, single, between, items};
+ghost use Rattle.ic_text.specs.Texts.{is_name_byte};
+ghost use Rattle.ic_text.specs.Tokens.{is_gap, is_comment_byte, profile, stray, single, between, items};
 ghost use Rattle.ic_text.specs.Views.{token_of, Takes, left};
 
-use ic_grammar::bytes::{is_letter, is_name_byte};
+use crate::grammar::bytes::{is_letter, is_name_byte};
 use ic_name::Kind;
 
 /// A token of a text. An `@` that begins no profile, a digit that no name runs over, and a byte that may not stand where

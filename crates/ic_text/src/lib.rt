@@ -3,13 +3,17 @@
 
 mod builder;
 pub mod fault;
+pub mod grammar;
 mod lexer;
 mod links;
 mod name_slots;
 mod names;
+pub mod print;
 pub mod read;
+pub mod round_trip;
 mod seen;
 
 pub use fault::TextFault;
-pub use ic_grammar::Refusal;
+pub use grammar::Refusal;
+pub use print::{print_agents, print_net, print_view};
 pub use read::read_net;

@@ -1,11 +1,11 @@
 ghost use Rattle.std.specs.Prelude.{◌≡◌, ℕ, ◌/◌, ◌<◌, List, length, min, None, IfOk, IfSome, OnOk, OnErr};
-ghost use Rattle.ic_grammar.specs.declared.limits.TheConstants.{MAX_TEXT};
+ghost use Rattle.ic_text.specs.declared.grammar.limits.TheConstants.{MAX_TEXT};
 ghost use Rattle.ic_slots.specs.Slots.{slot_of};
 ghost use Rattle.ic_text.specs.NameSlots.{hash_of, slot_for, found, other_of, IsKept};
 ghost use Rattle.ic_text.specs.Table.{names_of};
 
+use crate::grammar::limits::MAX_TEXT;
 use crate::seen::Seen;
-use ic_grammar::limits::MAX_TEXT;
 use ic_slots::SlotIndex;
 use std::alloc::{AllocError, Global};
 use std::collections::BTreeMap;

@@ -1,5 +1,5 @@
 ghost use Rattle.std.specs.Prelude.{◌≡◌, ◌<◌, ◌≤◌, [], length, IfOk, map, count_by, find, option_map, ◌==◌, ◌&&◌};
-ghost use Rattle.ic_grammar.specs.Texts.{is_reserved};
+ghost use Rattle.ic_text.specs.Texts.{is_reserved};
 ghost use Rattle.ic_text.specs.Names.{enter, number, times, is_free, is_reserved_free};
 ghost use Rattle.ic_text.specs.Table.{first_of};
 

@@ -1,15 +1,15 @@
 ghost use Rattle.std.specs.Prelude.{◌≡◌, ◌≤◌, length, IfOk};
 ghost use Rattle.ic_theory.specs.Starts.{Start as Denoted};
-ghost use Rattle.ic_grammar.specs.Grammar.{Denotes};
-ghost use Rattle.ic_grammar.specs.Faults.{Stands, IsFirstFault};
-ghost use Rattle.ic_grammar.specs.declared.refusal.Refusal.{Refusal as Fault};
+ghost use Rattle.ic_text.specs.Grammar.{Denotes};
+ghost use Rattle.ic_text.specs.Faults.{Stands, IsFirstFault};
+ghost use Rattle.ic_text.specs.declared.grammar.refusal.Refusal.{Refusal as Fault};
 ghost use Rattle.ic_text.specs.Reading.{Gives, read_of};
 
 use crate::builder::Builder;
 use crate::fault::TextFault;
+use crate::grammar::Refusal;
+use crate::grammar::limits::MAX_TEXT;
 use crate::lexer::Lexer;
-use ic_grammar::Refusal;
-use ic_grammar::limits::MAX_TEXT;
 use ic_start::Start;
 use std::alloc::Global;
 

@@ -7,7 +7,7 @@ use Rattle.std.specs.Ordering.{ordering_reverse}
 use Rattle.std.specs.declared.cmp.Ordering.TheVariants.{Less, Greater}
 use Rattle.ic_name.specs.Events.{Event}
 use Rattle.ic_path.specs.Orders.{Pick, here, there, IsIn, Alike, none, more}
-use Rattle.ic_path.proofs.Alikes.{alike_self}
+use Rattle.ic_path.proofs.Alikes.{alike_self, alike_then, alike_back}
 use Rattle.ic_theory.specs.Starts.{Start, IsProper}
 use Rattle.ic_theory.specs.Causes.{IsCause, IsRank, canonical_cmp}
 use Rattle.ic_theory.specs.CausalOrders.{IsCausalOrder, AreIndependent, Reorders}
@@ -20,7 +20,7 @@ use Rattle.ic_theory.specs.Steps.{steps, AreDefined}
 use Rattle.ic_theory.proofs.AnyOrder.{net-alike}
 use Rattle.ic_theory.proofs.Closed.{cause_stays}
 use Rattle.ic_theory.proofs.Exchanging.{ordered}
-use Rattle.ic_theory.proofs.Future.{alike_back, alike_then, earlier}
+use Rattle.ic_theory.proofs.Future.{earlier}
 use Rattle.ic_theory.proofs.Neighbours.{swapped_at, fired_at}
 use Rattle.ic_theory.proofs.Ranks.{cause_included, same_set, sound-alike}
 use Rattle.ic_theory.proofs.Replies.{canonical_total}

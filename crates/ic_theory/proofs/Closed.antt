@@ -18,9 +18,11 @@ use Rattle.ic_theory.specs.Wires.{Path}
 use Rattle.ic_theory.specs.Causes.{IsCause}
 use Rattle.ic_theory.specs.Sound.{IsSound}
 use Rattle.ic_theory.proofs.Counts.{names_once, port_degree}
-use Rattle.ic_theory.proofs.Future.{alike_back, made_alike, in_included, trail_included, in_alike, consumed_in, same_links, unequal, kind_once, pick_behind}
+use Rattle.ic_theory.proofs.Future.{made_alike, in_included, trail_included, in_alike, consumed_in, same_links, unequal, kind_once}
 use Rattle.ic_theory.proofs.Sound.{narrow_all, agent_in, consumed-append}
 use Rattle.ic_theory.proofs.Ranks.{consumed-alike, cause_included}
+use Rattle.ic_path.proofs.Alikes.{alike_back}
+use Rattle.ic_path.proofs.Picks.{pick_behind}
 
 module _ (s : Start) (ok : IsProper s) where
   -- causes are the same in a sound set and in one that includes it

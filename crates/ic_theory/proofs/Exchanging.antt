@@ -6,14 +6,14 @@ use Rattle.std.specs.Ordering.{nat_cmp, ordering_then, ordering_reverse}
 use Rattle.std.proofs.lemmas.Cmp.{ranked}
 use Rattle.ic_name.specs.Events.{Event}
 use Rattle.ic_path.specs.Orders.{here, there, IsIn, Alike, none, more}
-use Rattle.ic_path.proofs.Alikes.{alike_self}
+use Rattle.ic_path.proofs.Alikes.{alike_self, alike_then, alike_back}
 use Rattle.ic_theory.specs.Starts.{Start, IsProper}
 use Rattle.ic_theory.specs.Sets.{consumed_times}
 use Rattle.ic_theory.specs.Firings.{IsFired, nothing, fired}
 use Rattle.ic_theory.specs.Causes.{IsCause, canonical_cmp}
 use Rattle.ic_theory.specs.Exchanges.{Exchanges, done, exchanged, IsCanonical}
 use Rattle.ic_theory.proofs.Closed.{cause_stays}
-use Rattle.ic_theory.proofs.Future.{alike_back, alike_then, in_alike, consumed_in, loose_agent, earlier, last_active, includes_self, includes_more}
+use Rattle.ic_theory.proofs.Future.{in_alike, consumed_in, loose_agent, earlier, last_active, includes_self, includes_more}
 use Rattle.ic_theory.proofs.Normal.{active-alike}
 use Rattle.ic_theory.proofs.Ranks.{cause_included, cause_in, first_or_in, same_set}
 use Rattle.ic_theory.proofs.Replies.{canonical_total, canonical_tied}
@@ -35,7 +35,7 @@ abbrev RisesBy : Start → (Event → ℕ) → List Event → Type 0
 RisesBy s rank all = (e c : Event) → IsIn e all → IsCause s all e c → rank c < rank e
 
 -- an event that isn't greater has no greater rank
-not_above : (rank : Event → ℕ) (x y : Event) → canonical_cmp rank x y ≡ Less → rank x ≤ rank y
+pub not_above : (rank : Event → ℕ) (x y : Event) → canonical_cmp rank x y ≡ Less → rank x ≤ rank y
 not_above rank x y h = go _ (nat_cmp (rank x) (rank y)) refl h
   where
     go : (o r : Ordering) → nat_cmp (rank x) (rank y) ≡ r → ordering_then r o ≡ Less → rank x ≤ rank y

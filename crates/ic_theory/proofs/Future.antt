@@ -15,7 +15,7 @@ use Rattle.ic_path.specs.Trails.{Trail, Reaches}
 use Rattle.ic_path.specs.FarEnds.{far}
 use Rattle.ic_path.proofs.Walks.{widened, determined}
 use Rattle.ic_path.proofs.Ends.{reversed, hit, hit_self, even-trail, degree-trail, reaches_far, reaches_one}
-use Rattle.ic_path.proofs.Alikes.{alike_self, alike_pick, picked_alike}
+use Rattle.ic_path.proofs.Alikes.{alike_self, alike_pick, picked_alike, alike_then, alike_back, alike_more, alike_past}
 use Rattle.ic_path.proofs.Orders.{trail-alike}
 use Rattle.ic_name.specs.Same.{same_name}
 use Rattle.ic_name.proofs.SameFacts.{same_name_true, same_name_self}
@@ -29,31 +29,7 @@ use Rattle.ic_theory.specs.Active.{ArePresent, IsActive}
 use Rattle.ic_theory.specs.Firings.{IsFired, nothing, fired}
 use Rattle.ic_theory.specs.Future.{Includes, Union}
 use Rattle.ic_theory.proofs.Counts.{names_once, slim, principal}
-
--- lists with the same elements
-pub alike_more : {X : Type 0} (zs : List X) {xs ys : List X} → Alike xs ys → Alike (zs ++ xs) (zs ++ ys)
-alike_more [] a = a
-alike_more (z ∷ zs) a = more here (alike_more zs a)
-
--- one order, then another one
-pub alike_then : {X : Type 0} {xs ys zs : List X} → Alike xs ys → Alike ys zs → Alike xs zs
-alike_then none a = a
-alike_then (more k a) b = let r = alike_pick b k in more r.1 (alike_then a r.2)
-
--- an element of the second part of a list is taken out there
-pub pick_behind : {X : Type 0} {x : X} (zs : List X) {xs rest : List X} → Pick x xs rest → Pick x (zs ++ xs) (zs ++ rest)
-pick_behind [] k = k
-pick_behind (z ∷ zs) k = there (pick_behind zs k)
-
--- and one of the first part there
-pub pick_before : {X : Type 0} {x : X} {xs rest : List X} (zs : List X) → Pick x xs rest → Pick x (xs ++ zs) (rest ++ zs)
-pick_before zs here = here
-pick_before zs (there k) = there (pick_before zs k)
-
--- two parts of a list change places
-pub alike_past : {X : Type 0} (xs ys zs : List X) → Alike (xs ++ (ys ++ zs)) (ys ++ (xs ++ zs))
-alike_past [] ys zs = alike_self _
-alike_past (x ∷ xs) ys zs = more (pick_behind ys here) (alike_past xs ys zs)
+use Rattle.ic_path.proofs.Picks.{pick_behind, pick_before}
 
 -- what a set of events makes doesn't depend on their order
 made_pick : {X : Type 0} (made : Event → List X) (first : List X) {e : Event} {es rest : List Event} → Pick e es rest → Alike (made e ++ with_made made first rest) (with_made made first es)
@@ -288,11 +264,6 @@ pub pick_part : {X : Type 0} {x : X} (xs ys : List X) {rest : List X} → Pick x
 pick_part [] ys k = inr (_, k)
 pick_part (y ∷ xs) ys here = inl (xs, here)
 pick_part (y ∷ xs) ys (there k) = elim (pick_part xs ys k) [ inl i ↦ inl (_, there i.1) | inr i ↦ inr i ]
-
--- the other way round
-pub alike_back : {X : Type 0} {xs ys : List X} → Alike xs ys → Alike ys xs
-alike_back none = none
-alike_back (more k a) = alike_then (picked_alike k) (more here (alike_back a))
 
 -- the lead of an event of the list is consumed
 pub consumed_in : {e : Event} {es rest : List Event} → Pick e es rest → 1 ≤ consumed_times e.lead es

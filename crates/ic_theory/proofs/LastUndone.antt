@@ -9,10 +9,11 @@ use Rattle.ic_theory.specs.Starts.{Start, IsProper}
 use Rattle.ic_theory.specs.Causes.{IsCause, IsDependent}
 use Rattle.ic_theory.specs.Firings.{IsFired}
 use Rattle.ic_theory.specs.Machine.{Standing, State, events, MachineStep, undone, IsHistory}
-use Rattle.ic_theory.proofs.Future.{in_alike, alike_back}
+use Rattle.ic_theory.proofs.Future.{in_alike}
 use Rattle.ic_theory.proofs.Machines.{history_kept}
 use Rattle.ic_theory.proofs.Normal.{last_free}
 use Rattle.ic_theory.proofs.Ranks.{sound_order, cause_included, same_set}
+use Rattle.ic_path.proofs.Alikes.{alike_back}
 
 -- a standing event, and what stands beside it
 record Found (e : Event) (xs : List Standing) : Type 0 where

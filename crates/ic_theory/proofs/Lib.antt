@@ -27,3 +27,13 @@ pub mod Exchanging
 pub mod CausalOrders
 pub mod LastUndone
 pub mod LinkOrder
+pub mod SameStates
+pub use Rattle.ic_path.proofs.Alikes
+pub use Rattle.ic_path.proofs.Degrees
+pub use Rattle.ic_path.proofs.EachOnce
+pub use Rattle.ic_path.proofs.Ends
+pub use Rattle.ic_path.proofs.InLists
+pub use Rattle.ic_path.proofs.ListTests
+pub use Rattle.ic_path.proofs.OnceLists
+pub use Rattle.ic_path.proofs.Orders
+pub use Rattle.ic_path.proofs.Picks

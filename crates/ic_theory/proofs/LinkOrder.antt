@@ -1,12 +1,12 @@
 -- The stated order of links orders those of a sound set.
-use Rattle.std.proofs.Common.{◌≡◌, ℕ, ◌+◌, ◌≤◌, true, false, List, [], ◌∷◌, ◌⊎◌, inl, inr, refl, sym, ap, arith, ◌∙◌, Option, Some, None}
+use Rattle.std.proofs.Common.{◌≡◌, ℕ, ◌+◌, ◌≤◌, true, List, [], ◌∷◌, ◌⊎◌, inl, inr, refl, sym, ap, arith, ◌∙◌, Option, Some, None}
 use Rattle.std.proofs.lemmas.Cmp.{ranked, tied_itself, then_total, on_total, nat_cmp_total}
 use Rattle.std.specs.declared.cmp.Ordering.{Ordering}
 use Rattle.std.specs.declared.cmp.Ordering.TheVariants.{Less, Equal, Greater}
 use Rattle.std.specs.Cmp.{IsTotalOrder}
 use Rattle.std.specs.Cmp.Lexicographic.{options_total}
 use Rattle.std.specs.Option.{option_cmp}
-use Rattle.std.specs.Ordering.{is_lt, ordering_then, ordering_reverse, nat_cmp}
+use Rattle.std.specs.Ordering.{is_lt, nat_cmp}
 use Rattle.ic_name.specs.Names.{Name}
 use Rattle.ic_name.specs.Events.{Event}
 use Rattle.ic_name.specs.Same.{same_name}
@@ -21,6 +21,7 @@ use Rattle.ic_theory.specs.Sound.{IsSound}
 use Rattle.ic_theory.specs.Seals.{event_cmp, link_cmp, comes_before}
 use Rattle.ic_theory.proofs.Future.{is_named, pick_part}
 use Rattle.ic_theory.proofs.Sound.{maker_in, placed_maker}
+use Rattle.ic_name.proofs.Orderings.{then_tied, neither_less}
 
 -- the order of links is total up to ties
 link_cmp_total : IsTotalOrder link_cmp
@@ -28,25 +29,11 @@ link_cmp_total =
     let events : IsTotalOrder event_cmp = then_total (on_total (λ (e : Event). e.lead) name_cmp_total) (on_total (λ (e : Event). e.other) name_cmp_total) in
     then_total (on_total (λ (l : Link). l.maker) (options_total events)) (on_total (λ (l : Link). l.place) nat_cmp_total)
 
--- both parts of a tied comparison are tied
-then_tied : (a b : Ordering) → ordering_then a b ≡ Equal → (a ≡ Equal) × (b ≡ Equal)
-then_tied Equal b h = (refl, h)
-then_tied Less b h = cc
-then_tied Greater b h = cc
-
 -- what comes before is less
 less_if : (a : Ordering) → is_lt a ≡ true → a ≡ Less
 less_if Less h = refl
 less_if Equal h = cc
 less_if Greater h = cc
-
--- where neither is less they are tied
-tied_if : (a b : Ordering) → a ≡ ordering_reverse b → is_lt a ≡ false → is_lt b ≡ false → a ≡ Equal
-tied_if Less b r h k = cc
-tied_if Equal b r h k = refl
-tied_if Greater Less r h k = cc
-tied_if Greater Equal r h k = cc
-tied_if Greater Greater r h k = cc
 
 -- an event that leads with the agent consumes it
 led_in : (n : Name) {e : Event} {es rest : List Event} → n ≡ e.lead → Pick e es rest → 1 ≤ consumed_times n es
@@ -84,9 +71,9 @@ of_start s (e ∷ es) {l = l} i h = go (pick_part (born_links s.profile e) (link
     go (inr j) f = f j
 
 -- a link of the set that an event made is among those of the event
-of_event : (s : Start) (es : List Event) {l : Link} {c : Event} → IsIn l (links s es) → l.maker ≡ Some c → IsIn l (born_links s.profile c)
-of_event s [] {l = l} i h = let m : l.maker ≡ None = placed_maker None 0 s.joins i.1 in cc
-of_event s (e ∷ es) {l = l} {c = c} i h = go (pick_part (born_links s.profile e) (links s es) i.1) (λ j. of_event s es j h)
+pub made_by_maker : (s : Start) (es : List Event) {l : Link} {c : Event} → IsIn l (links s es) → l.maker ≡ Some c → IsIn l (born_links s.profile c)
+made_by_maker s [] {l = l} i h = let m : l.maker ≡ None = placed_maker None 0 s.joins i.1 in cc
+made_by_maker s (e ∷ es) {l = l} {c = c} i h = go (pick_part (born_links s.profile e) (links s es) i.1) (λ j. made_by_maker s es j h)
   where
     go : IsIn l (born_links s.profile e) ⊎ IsIn l (links s es) → (IsIn l (links s es) → IsIn l (born_links s.profile c)) → IsIn l (born_links s.profile c)
     go (inl j) f = let m : l.maker ≡ Some e = placed_maker (Some e) 0 (born_joins s.profile e) j.1 in let same : e ≡ c = cc in rw (← same) j
@@ -105,12 +92,12 @@ module _ (s : Start) (es : List Event) (sound : IsSound s es) where
           let lead : c.lead ≡ f.lead = name_tied c.lead f.lead (then_tied _ _ t).0 in
           let same : c ≡ f = one_lead c.lead refl lead (sound.apart c.lead) (maker_in s es i p).1 (maker_in s es j q).1 in
           let q' : m.maker ≡ Some c = q ∙ ap Some (sym same) in
-          placed_once (Some c) 0 (born_joins s.profile c) (of_event s es i p).1 (of_event s es j q').1 e
+          placed_once (Some c) 0 (born_joins s.profile c) (made_by_maker s es i p).1 (made_by_maker s es j q').1 e
 
   -- the links of a sound set stand in one order
   pub ordered : IsOrder comes_before (links s es)
   ordered = record {
     not_below_itself = λ l. ap is_lt (tied_itself link_cmp_total l);
     passes_on = λ k l m h i. ap is_lt (link_cmp_total.trans k l m (less_if (link_cmp k l) h) (less_if (link_cmp l m) i));
-    equal_if_neither = λ l m i j h k. one_link l m i j (tied_if (link_cmp l m) (link_cmp m l) (link_cmp_total.antisymm l m) h k);
+    equal_if_neither = λ l m i j h k. one_link l m i j (neither_less (link_cmp l m) (link_cmp m l) (link_cmp_total.antisymm l m) h k);
   }

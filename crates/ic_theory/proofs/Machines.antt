@@ -7,14 +7,14 @@ use Rattle.ic_name.specs.declared.lines.Call.{Call}
 use Rattle.ic_name.specs.declared.lines.Reply.{Reply}
 use Rattle.ic_name.specs.declared.lines.Line.{Line}
 use Rattle.ic_path.specs.Orders.{Pick, here, there, IsIn, Alike, more}
-use Rattle.ic_path.proofs.Alikes.{alike_self, picked_alike}
+use Rattle.ic_path.proofs.Alikes.{alike_self, picked_alike, alike_back}
 use Rattle.ic_theory.specs.Starts.{Start, IsProper}
 use Rattle.ic_theory.specs.Active.{IsActive}
 use Rattle.ic_theory.specs.Firings.{IsFired, fired}
 use Rattle.ic_theory.specs.Causes.{IsDependent}
 use Rattle.ic_theory.specs.Sound.{IsSound}
 use Rattle.ic_theory.specs.Machine.{Standing, State, events, noted, MachineStep, not_active, deep, full, fired as fired_now, not_standing, held, undone, IsHistory, begins, goes_on}
-use Rattle.ic_theory.proofs.Future.{alike_back, in_rest}
+use Rattle.ic_theory.proofs.Future.{in_rest}
 use Rattle.ic_theory.proofs.Sound.{fired_sound}
 use Rattle.ic_theory.proofs.Ranks.{sound-alike, sound_order, first_or_in}
 use Rattle.ic_theory.proofs.Swaps.{undo_sound}

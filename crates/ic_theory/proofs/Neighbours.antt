@@ -2,12 +2,12 @@
 use Rattle.std.proofs.Common.{List, [], ◌∷◌, ◌++◌}
 use Rattle.ic_name.specs.Events.{Event}
 use Rattle.ic_path.specs.Orders.{here, there, Alike, more}
-use Rattle.ic_path.proofs.Alikes.{alike_self}
+use Rattle.ic_path.proofs.Alikes.{alike_self, alike_then, alike_more}
 use Rattle.ic_theory.specs.Starts.{Start, IsProper}
 use Rattle.ic_theory.specs.Causes.{IsCause}
 use Rattle.ic_theory.specs.Firings.{IsFired, fired}
 use Rattle.ic_theory.specs.Exchanges.{Exchanges, done, exchanged}
-use Rattle.ic_theory.proofs.Future.{alike_more, alike_then, earlier, last_active}
+use Rattle.ic_theory.proofs.Future.{earlier, last_active}
 use Rattle.ic_theory.proofs.Normal.{active-alike}
 use Rattle.ic_theory.proofs.Swaps.{fired_swap}
 

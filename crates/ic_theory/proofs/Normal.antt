@@ -4,7 +4,7 @@ use Rattle.ic_name.specs.Events.{Event}
 use Rattle.ic_theory.specs.Born.{born_agents}
 use Rattle.ic_theory.proofs.Future.{earlier, last_active, in_included}
 use Rattle.ic_path.specs.Orders.{Pick, here, there, Alike, more}
-use Rattle.ic_path.proofs.Alikes.{alike_self, alike_pick, picked_alike}
+use Rattle.ic_path.proofs.Alikes.{alike_self, alike_pick, picked_alike, alike_back}
 use Rattle.ic_theory.specs.Starts.{Start, start_agents, IsProper}
 use Rattle.ic_path.specs.Orders.{IsIn}
 use Rattle.ic_theory.specs.Active.{IsActive}
@@ -13,7 +13,7 @@ use Rattle.ic_theory.specs.Causes.{IsCause}
 use Rattle.ic_theory.specs.Sound.{IsSound}
 use Rattle.ic_theory.specs.Sets.{consumed_times}
 use Rattle.ic_theory.specs.Letters.{Letter, Fire, Undo, HasNoDependent, Runs, stops, fires, undoes, IsLegal, AreConcurrent, swaps, fire_undo, AreEquivalent, same, forth, back}
-use Rattle.ic_theory.proofs.Future.{alike_back, includes_self, includes_more, in_alike, consumed_in, loose_agent, present_included, path_included}
+use Rattle.ic_theory.proofs.Future.{includes_self, includes_more, in_alike, consumed_in, loose_agent, present_included, path_included}
 use Rattle.ic_theory.proofs.Sound.{fired_sound}
 use Rattle.ic_theory.proofs.Ranks.{cause_included, same_set, cause_in, first_or_in, sound_union, consumed-alike}
 use Rattle.ic_theory.proofs.Closed.{cause_stays}

@@ -2,13 +2,13 @@
 use Rattle.std.proofs.Common.{◌≡◌, List, [], ◌∷◌, ◌++◌, inl, inr, refl, arith, length-append}
 use Rattle.ic_name.specs.Events.{Event}
 use Rattle.ic_path.specs.Orders.{Alike}
-use Rattle.ic_path.proofs.Alikes.{alike-length}
+use Rattle.ic_path.proofs.Alikes.{alike-length, alike_then, alike_back, alike_more}
 use Rattle.ic_theory.specs.Starts.{Start, IsProper}
 use Rattle.ic_theory.specs.Active.{IsActive}
 use Rattle.ic_theory.specs.Firings.{IsFired, nothing, fired}
 use Rattle.ic_theory.specs.Future.{Includes}
 use Rattle.ic_theory.specs.Sound.{IsSound}
-use Rattle.ic_theory.proofs.Future.{there_or_active, includes_none, alike_more, alike_then, alike_back}
+use Rattle.ic_theory.proofs.Future.{there_or_active, includes_none}
 use Rattle.ic_theory.proofs.Normal.{active-alike}
 use Rattle.ic_theory.proofs.Ranks.{sound_order}
 

@@ -52,9 +52,9 @@ fits_rule pair v Delta Delta e c l o = (l 1 refl, o 1 refl, refl, (l 2 refl, o 2
 fits_rule pair v Eps Eps e c l o = tt
 
 -- a test counts 1 at most
-test_most : (b : Bool) → (if b then 1 else 0) ≤ 1
-test_most true = omega arith
-test_most false = omega arith
+pub at_most_one : (b : Bool) → (if b then 1 else 0) ≤ 1
+at_most_one true = omega arith
+at_most_one false = omega arith
 
 -- or false changes nothing
 or_false : (b : Bool) → (b || false) ≡ b
@@ -194,8 +194,8 @@ module _ (s : Start) (ok : IsProper s) (e : Event) (es : List Event) (f : IsFire
   once (Of n i) = go (whose n)
     where
       go : Whose n → end_times (Of n i) joins ≤ 1
-      go (leads h) = rw h (let k = ends_lead i in let m = test_most (is_auxiliary i e.lead_kind) in omega arith)
-      go (others h) = rw h (let k = ends_other i in let m = test_most (is_auxiliary i e.other_kind) in omega arith)
+      go (leads h) = rw h (let k = ends_lead i in let m = at_most_one (is_auxiliary i e.lead_kind) in omega arith)
+      go (others h) = rw h (let k = ends_other i in let m = at_most_one (is_auxiliary i e.other_kind) in omega arith)
       go (neither x y) = let k = ends_neither n i x y in let b = ports_bound n i (born_agents e) in let o = named_once n in omega arith
 
   -- before the first link is taken only the principal ports are gone

@@ -24,7 +24,7 @@ use Rattle.ic_theory.specs.Nets.{IsSameNet, is_loose, net_of}
 use Rattle.ic_theory.specs.Steps.{Wiring, without_pair, take_links, kind_after, plain_step}
 use Rattle.ic_theory.proofs.Counts.{rule_ports, free_degree}
 use Rattle.ic_theory.proofs.Exact.{is_auxiliary}
-use Rattle.ic_theory.proofs.Future.{named_in, in_included, includes_more, includes_self, pick_before}
+use Rattle.ic_theory.proofs.Future.{named_in, in_included, includes_more, includes_self}
 use Rattle.ic_theory.proofs.NameKinds.{consumed_there}
 use Rattle.ic_theory.proofs.Loose.{partner_is, has_partner, no_partner, partners_back, port_owner}
 use Rattle.ic_theory.proofs.Splices.{Ends, join_all, spliced_step}
@@ -32,6 +32,7 @@ use Rattle.ic_theory.proofs.Wirings.{read, read_gone, read_bare, read_far}
 use Rattle.ic_theory.proofs.Cases.{Tracks, gone, end_times, take_all, bare_all, begins}
 use Rattle.ic_theory.proofs.PairPorts.{is_of_pair, Whose, leads, others, neither, whose, meet, lead_gone, other_gone, only_principal, pair_loose, loose_pair, lead_port, other_port, once, fits, ends_name, ends_lead, ends_other, ends_neither, pair_lead, pair_other, named_once}
 use Rattle.ic_theory.proofs.Steps.{step_is}
+use Rattle.ic_path.proofs.Picks.{pick_before}
 
 module _ (s : Start) (ok : IsProper s) (e : Event) (es : List Event) (f : IsFired s es) (a : IsActive s es e) where
   -- the rule's links

@@ -5,7 +5,7 @@ use Rattle.std.proofs.lemmas.Bool.{leb-true, leb-false}
 use Rattle.ic_name.specs.Names.{Name}
 use Rattle.ic_name.specs.Events.{Event}
 use Rattle.ic_path.specs.Orders.{Pick, here, there, Alike, none, more}
-use Rattle.ic_path.proofs.Alikes.{alike_self}
+use Rattle.ic_path.proofs.Alikes.{alike_self, alike_then, alike_back, alike_more}
 use Rattle.ic_name.specs.Same.{same_name}
 use Rattle.ic_theory.specs.Future.{Includes}
 use Rattle.ic_theory.specs.Starts.{Start, IsProper}
@@ -14,7 +14,7 @@ use Rattle.ic_path.specs.Orders.{IsIn}
 use Rattle.ic_theory.specs.Firings.{IsFired, AreAfterCauses}
 use Rattle.ic_theory.specs.Causes.{IsCause, IsRank}
 use Rattle.ic_theory.specs.Sound.{IsSound}
-use Rattle.ic_theory.proofs.Future.{alike_then, alike_back, alike_more, union, path_included, present_included, trail_included, pick_part, in_alike}
+use Rattle.ic_theory.proofs.Future.{union, path_included, present_included, trail_included, pick_part, in_alike}
 use Rattle.ic_theory.proofs.Sound.{maker_in, sound_fired, fired_sound, trail_link}
 
 -- a set includes another order of itself

@@ -1,10 +1,8 @@
 -- What a call answers is determined.
-use Rattle.std.proofs.Common.{◌≡◌, ◌≢◌, ℕ, ◌+◌, ◌≤◌, Bool, false, List, [], ◌∷◌, map, refl, sym, ap, arith, ◌∙◌, subst}
+use Rattle.std.proofs.Common.{◌≡◌, ◌≢◌, ℕ, ◌+◌, ◌≤◌, Bool, List, [], ◌∷◌, map, refl, sym, ap, arith, ◌∙◌, subst}
 use Rattle.std.proofs.lemmas.Bool.{eq-eqb}
 use Rattle.std.proofs.lemmas.Cmp.{then_total, on_total, nat_cmp_total}
-use Rattle.std.specs.declared.cmp.Ordering.{Ordering}
-use Rattle.std.specs.declared.cmp.Ordering.TheVariants.{Less, Equal, Greater}
-use Rattle.std.specs.Ordering.{is_gt, ordering_then, ordering_reverse}
+use Rattle.std.specs.declared.cmp.Ordering.TheVariants.{Equal}
 use Rattle.std.specs.Cmp.{IsTotalOrder}
 use Rattle.ic_name.specs.Names.{Name}
 use Rattle.ic_name.specs.Events.{Event}
@@ -25,16 +23,11 @@ use Rattle.ic_theory.specs.Sound.{IsSound}
 use Rattle.ic_theory.specs.Machine.{Standing, State, events, noted, IsDeep, IsFull, IsLeastDependent, MachineStep, not_active, deep, full, fired, not_standing, held, undone}
 use Rattle.ic_theory.proofs.Future.{is_named}
 use Rattle.ic_theory.proofs.Machines.{times, one_that, two_picks, line_is, IsKept}
+use Rattle.ic_name.proofs.Orderings.{then_tied, neither_greater}
 
 -- the canonical order is total, and ties only events with the same lead
 pub canonical_total : (rank : Event → ℕ) → IsTotalOrder (canonical_cmp rank)
 canonical_total rank = then_total (on_total rank nat_cmp_total) (then_total (on_total (λ (e : Event). e.lead) name_cmp_total) (on_total (λ (e : Event). e.other) name_cmp_total))
-
--- both parts of a tied comparison are tied
-then_tied : (a b : Ordering) → ordering_then a b ≡ Equal → (a ≡ Equal) × (b ≡ Equal)
-then_tied Equal b h = (refl, h)
-then_tied Less b h = cc
-then_tied Greater b h = cc
 
 -- events that it ties have the same lead
 pub canonical_tied : (rank : Event → ℕ) (e f : Event) → canonical_cmp rank e f ≡ Equal → e.lead ≡ f.lead
@@ -42,14 +35,6 @@ canonical_tied rank e f h =
     let one = then_tied _ _ h in
     let two = then_tied _ _ one.1 in
     name_tied e.lead f.lead two.0
-
--- where neither is greater they are tied
-neither_greater : (a b : Ordering) → a ≡ ordering_reverse b → is_gt a ≡ false → is_gt b ≡ false → a ≡ Equal
-neither_greater Less Less r h k = cc
-neither_greater Less Equal r h k = cc
-neither_greater Less Greater r h k = cc
-neither_greater Equal b r h k = refl
-neither_greater Greater b r h k = cc
 
 -- two least dependents have the same lead
 pub least_lead : {s : Start} {es : List Event} (e f g : Event) → IsSound s es → IsLeastDependent s es e f → IsLeastDependent s es e g → f.lead ≡ g.lead

@@ -7,7 +7,7 @@ use Rattle.ic_name.specs.declared.lines.Line.{Line}
 use Rattle.ic_name.specs.declared.lines.Reply.{Reply}
 use Rattle.ic_name.specs.declared.lines.Reply.TheVariants.{Fired, Undone}
 use Rattle.ic_path.specs.Orders.{here, IsIn, Alike}
-use Rattle.ic_path.proofs.Alikes.{alike-map}
+use Rattle.ic_path.proofs.Alikes.{alike-map, alike_back}
 use Rattle.ic_theory.specs.Starts.{Start, IsProper}
 use Rattle.ic_theory.specs.Active.{IsActive}
 use Rattle.ic_theory.specs.Causes.{IsDependent, IsRank}
@@ -16,7 +16,7 @@ use Rattle.ic_theory.specs.Nets.{IsSameNet, net_of}
 use Rattle.ic_theory.specs.Machine.{State, events, MachineStep, not_active, deep, full, fired as fired_now, not_standing, held, undone, IsHistory, goes_on}
 use Rattle.ic_theory.proofs.AnyOrder.{net-alike}
 use Rattle.ic_theory.proofs.Closed.{cause_stays}
-use Rattle.ic_theory.proofs.Future.{in_alike, alike_back, loose_agent, consumed_in, includes_self, includes_more}
+use Rattle.ic_theory.proofs.Future.{in_alike, loose_agent, consumed_in, includes_self, includes_more}
 use Rattle.ic_theory.proofs.Machines.{fire_sound, history_kept}
 use Rattle.ic_theory.proofs.Ranks.{same_set, cause_in, cause_included, first_or_in}
 use Rattle.ic_theory.proofs.Replies.{one_answer}

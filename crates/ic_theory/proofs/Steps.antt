@@ -15,7 +15,7 @@ use Rattle.ic_path.specs.Orders.{here, there, Alike, more}
 use Rattle.ic_path.specs.Links.{degree, IsSlim}
 use Rattle.ic_path.specs.FarEnds.{far, splice}
 use Rattle.ic_path.specs.Rings.{rings}
-use Rattle.ic_path.proofs.Alikes.{alike_self}
+use Rattle.ic_path.proofs.Alikes.{alike_self, alike_then, alike_back}
 use Rattle.ic_path.proofs.Orders.{far-alike, rings-alike, slim-alike, degree-alike, far_bare}
 use Rattle.ic_name.specs.Same.{same_name}
 use Rattle.ic_name.specs.Names.{child_name}
@@ -30,7 +30,7 @@ use Rattle.ic_theory.specs.Nets.{kind_among, kind_of, has_port, is_loose, net_of
 use Rattle.ic_theory.proofs.Splices.{Ends, join, join_all, spliced_step}
 use Rattle.ic_theory.specs.Steps.{kind_after}
 use Rattle.ic_theory.proofs.Counts.{names_once, slim, port_degree, free_degree, named_times-append, children_bound, rule_ports}
-use Rattle.ic_theory.proofs.Future.{fired_apart, alike_then, alike_back, loose_agent}
+use Rattle.ic_theory.proofs.Future.{fired_apart, loose_agent}
 use Rattle.ic_theory.proofs.NameKinds.{none_among, among-append, some_times, consumed_there, kind_there}
 
 -- links that come one by one
@@ -98,7 +98,7 @@ agree_rule f h v Delta Delta e c l o = (l 1 refl, o 1 refl, (l 2 refl, o 2 refl,
 agree_rule f h v Eps Eps e c l o = tt
 
 -- a value is given where the test is true
-some_if : {X : Type 0} (b : Bool) (x : X) → is_some (if b then Some x else None) ≡ b
+pub some_if : {X : Type 0} (b : Bool) (x : X) → is_some (if b then Some x else None) ≡ b
 some_if true x = refl
 some_if false x = refl
 

@@ -2,13 +2,13 @@
 use Rattle.std.proofs.Common.{◌≡◌, List, [], ◌∷◌, ◌⊎◌, inl, inr, subst}
 use Rattle.ic_name.specs.Events.{Event}
 use Rattle.ic_path.specs.Orders.{Pick, here, there, Alike, more}
-use Rattle.ic_path.proofs.Alikes.{alike_self, picked_alike}
+use Rattle.ic_path.proofs.Alikes.{alike_self, picked_alike, alike_back}
 use Rattle.ic_theory.specs.Starts.{Start, IsProper}
 use Rattle.ic_path.specs.Orders.{IsIn}
 use Rattle.ic_theory.specs.Firings.{IsFired, AreAfterCauses}
 use Rattle.ic_theory.specs.Causes.{IsCause}
 use Rattle.ic_theory.specs.Sound.{IsSound}
-use Rattle.ic_theory.proofs.Future.{alike_back, in_alike}
+use Rattle.ic_theory.proofs.Future.{in_alike}
 use Rattle.ic_theory.proofs.Sound.{fired_sound, sound_fired}
 use Rattle.ic_theory.proofs.Ranks.{sound-alike, cause_included, same_set, cause_in, first_or_in}
 use Rattle.ic_theory.proofs.Closed.{closed_sound}

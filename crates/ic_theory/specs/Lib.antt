@@ -16,3 +16,8 @@ pub mod Exchanges
 pub mod Machine
 pub mod Listed
 pub mod Seals
+pub use Rattle.ic_path.specs.Orders
+pub use Rattle.ic_path.specs.Links
+pub use Rattle.ic_path.specs.Trails
+pub use Rattle.ic_path.specs.FarEnds
+pub use Rattle.ic_path.specs.Rings

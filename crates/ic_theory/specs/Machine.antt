@@ -9,7 +9,7 @@ use Rattle.ic_name.specs.declared.lines.Call.TheVariants.{Fire, Undo}
 use Rattle.ic_name.specs.declared.lines.Reply.{Reply}
 use Rattle.ic_name.specs.declared.lines.Reply.TheVariants.{Fired, NotActive, Deep, Full, Undone, NotStanding, Held}
 use Rattle.ic_name.specs.declared.lines.Line.{Line}
-use Rattle.ic_path.specs.Orders.{Pick, IsIn}
+use Rattle.ic_path.specs.Orders.{Pick, IsIn, Alike}
 use Rattle.ic_theory.specs.Rules.{born_kinds}
 use Rattle.ic_theory.specs.Born.{born_agents}
 use Rattle.ic_theory.specs.Starts.{Start}
@@ -71,3 +71,8 @@ pub data IsHistory (s : Start) : List Line → State → Type 0 where
   begins : IsHistory s [] initial
   goes_on : {lines : List Line} {st next : State} {call : Call} {reply : Reply} → IsHistory s lines st → MachineStep s st call reply next
       → IsHistory s (lines ++ record { call = call; reply = reply } ∷ []) next
+
+-- the same events stand, each with its line, in any order, after as many lines
+pub record AreSame (st tt : State) : Type 0 where
+  pub standing : Alike st.standing tt.standing
+  pub lines : st.lines ≡ tt.lines

@@ -3,7 +3,7 @@ use Rattle.std.proofs.Common.{◌≡◌, ◌↔◌, ℕ, ◌<◌, ◌⊎◌, Boo
 use Rattle.std.specs.Prelude.{IsTrue}
 use Rattle.ic_path.specs.Orders.{IsIn}
 use Rattle.ic_set.proofs.InPlace.{in_at}
-use Rattle.ic_shown.proofs.Elements.{map_cases, in-map}
+use Rattle.ic_path.proofs.InLists.{map_cases, in-map}
 use Rattle.ic_theory.specs.Starts.{Start, IsProper}
 use Rattle.ic_theory.specs.Causes.{IsCause}
 use Rattle.ic_theory.specs.Letters.{AreConcurrent}

@@ -3,7 +3,7 @@ use Rattle.std.proofs.Common.{◌≡◌, ℕ, ◌+◌, ◌<◌, List, [], ◌∷
 use Rattle.std.proofs.lemmas.List.{map-append, length-map, reverse-append}
 use Rattle.ic_path.specs.Orders.{here, there}
 use Rattle.ic_path.proofs.Picks.{pick_before, in-cons_cases}
-use Rattle.ic_shown.proofs.Elements.{in-append_cases, in_behind}
+use Rattle.ic_path.proofs.InLists.{in-append_cases, in_behind}
 use Rattle.ic_theory.specs.Starts.{Start}
 use Rattle.ic_theory.specs.Letters as theory
 use Rattle.ic_trace.specs.declared.known.Known.{Known}

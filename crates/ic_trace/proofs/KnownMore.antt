@@ -6,7 +6,7 @@ use Rattle.ic_path.specs.Orders.{here, IsIn, more}
 use Rattle.ic_path.specs.Rings.{HasEachOnce}
 use Rattle.ic_path.proofs.Alikes.{alike_then, alike_back, append-alike-comm}
 use Rattle.ic_path.proofs.Picks.{in_first, in_more, in-cons_cases, none_in}
-use Rattle.ic_shown.proofs.Elements.{map_cases, in-map, in-append_cases, in_behind}
+use Rattle.ic_path.proofs.InLists.{map_cases, in-map, in-append_cases, in_behind}
 use Rattle.ic_set.proofs.KeptRanks.{part_ranks, in_whole}
 use Rattle.ic_theory.specs.Starts.{Start, IsProper}
 use Rattle.ic_theory.specs.Active.{IsActive}

@@ -2,11 +2,11 @@
 use Rattle.std.proofs.Common.{List, ◌∷◌}
 use Rattle.ic_name.specs.Events.{Event}
 use Rattle.ic_path.specs.Orders.{Pick, here, there, more}
-use Rattle.ic_path.proofs.Alikes.{picked_alike}
+use Rattle.ic_path.proofs.Alikes.{picked_alike, alike_back}
 use Rattle.ic_theory.specs.Starts.{Start, IsProper}
 use Rattle.ic_theory.specs.Firings.{IsFired, fired}
 use Rattle.ic_theory.specs.Letters.{HasNoDependent}
-use Rattle.ic_theory.proofs.Future.{earlier, alike_back, includes_self, includes_more}
+use Rattle.ic_theory.proofs.Future.{earlier, includes_self, includes_more}
 use Rattle.ic_theory.proofs.Normal.{active-alike}
 use Rattle.ic_theory.proofs.Ranks.{cause_included, same_set}
 use Rattle.ic_theory.proofs.Swaps.{fired_swap}

@@ -2,11 +2,10 @@
 use Rattle.std.proofs.Common.{List, ◌∷◌, ◌++◌}
 use Rattle.ic_name.specs.Events.{Event}
 use Rattle.ic_path.specs.Orders.{Alike, here}
-use Rattle.ic_path.proofs.Alikes.{alike_rest, picked_alike}
+use Rattle.ic_path.proofs.Alikes.{alike_rest, picked_alike, alike_back}
 use Rattle.ic_theory.specs.Starts.{Start, IsProper}
 use Rattle.ic_theory.specs.Firings.{IsFired, nothing}
 use Rattle.ic_theory.specs.Letters.{Letter, Fire, Undo, Runs, fires, undoes, IsLegal, Move, swaps, fire_undo, undo_fire, AreEquivalent, same, forth}
-use Rattle.ic_theory.proofs.Future.{alike_back}
 use Rattle.ic_trace.specs.declared.moving.Move.{Move as ListMove}
 use Rattle.ic_trace.specs.Moves as moves
 use Rattle.ic_trace.proofs.Runs.{runs_on, runs_parted, runs_fired, runs-alike}

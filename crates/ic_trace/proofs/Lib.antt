@@ -23,3 +23,13 @@ pub mod FiredFronts
 pub mod SortedFronts
 pub mod SortedLists
 pub mod AcceptedRuns
+pub mod DeepLinks
+pub mod WithoutDeep
+pub mod EmptyPasts
+pub mod SeenSoFar
+pub mod DeepKinds
+pub mod Flags
+pub mod FiredPasts
+pub mod UndonePasts
+pub mod NamedCauses
+pub mod ListedFirings

@@ -6,7 +6,7 @@ use Rattle.ic_name.specs.Names.{Name, name_cmp}
 use Rattle.ic_name.proofs.NameOrder.{name_less_apart}
 use Rattle.ic_name.specs.declared.kinds.Kind.{Kind}
 use Rattle.ic_name.specs.Events.{Event, Pair, pair, event_of}
-use Rattle.ic_past.specs.Pasts.{PastView}
+use Rattle.ic_trace.specs.Pasts.{PastView}
 use Rattle.ic_theory.specs.Starts.{IsProper}
 use Rattle.ic_theory.specs.Active.{IsActive}
 use Rattle.ic_theory.specs.Nets.{kind_of}

@@ -5,7 +5,7 @@ use Rattle.ic_name.specs.Events.{Event, Pair, pair}
 use Rattle.ic_path.specs.Orders.{here, IsIn, Alike, more}
 use Rattle.ic_path.specs.Rings.{HasEachOnce}
 use Rattle.ic_path.proofs.Alikes.{alike_then, alike_back, alike_more, alike-in, alike_past, append-alike-comm}
-use Rattle.ic_past.specs.Pasts.{PastView, IsWith, AreCausesNamed}
+use Rattle.ic_trace.specs.Pasts.{PastView, IsWith, AreCausesNamed}
 use Rattle.ic_set.proofs.KeptRanks.{in_whole}
 use Rattle.ic_theory.specs.Starts.{Start, IsProper}
 use Rattle.ic_theory.specs.Active.{IsActive}

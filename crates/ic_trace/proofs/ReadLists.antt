@@ -6,8 +6,8 @@ use Rattle.ic_name.specs.declared.limits.TheConstants.{MAX_LINES}
 use Rattle.ic_path.specs.Orders.{none}
 use Rattle.ic_path.proofs.Alikes.{alike_then, alike_back, alike_more, alike-length}
 use Rattle.ic_path.proofs.Picks.{in_first, in_more, in-cons_cases, none_in, length-pick}
-use Rattle.ic_past.specs.Pasts.{PastView}
-use Rattle.ic_shown.proofs.Elements.{in-append_cases}
+use Rattle.ic_trace.specs.Pasts.{PastView}
+use Rattle.ic_path.proofs.InLists.{in-append_cases}
 use Rattle.ic_theory.specs.Starts.{Start, IsProper}
 use Rattle.ic_theory.specs.Firings.{nothing}
 use Rattle.ic_theory.specs.Letters as theory

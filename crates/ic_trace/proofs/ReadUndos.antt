@@ -3,7 +3,7 @@ use Rattle.std.proofs.Common.{◌≡◌, ℕ, [], ◌∷◌, ◌++◌, sym, ap, 
 use Rattle.ic_name.specs.Events.{Pair, pair}
 use Rattle.ic_path.specs.Orders.{here, IsIn}
 use Rattle.ic_path.proofs.Alikes.{alike_then, alike_back, alike_more, alike-in, alike_pick}
-use Rattle.ic_past.specs.Pasts.{PastView, Undoes}
+use Rattle.ic_trace.specs.Pasts.{PastView, Undoes}
 use Rattle.ic_set.proofs.KeptRanks.{in_whole}
 use Rattle.ic_theory.specs.Letters as theory
 use Rattle.ic_trace.specs.declared.known.EventTable.{EventTable}

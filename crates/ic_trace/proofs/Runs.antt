@@ -2,11 +2,11 @@
 use Rattle.std.proofs.Common.{List, [], ◌∷◌, ◌++◌}
 use Rattle.ic_name.specs.Events.{Event}
 use Rattle.ic_path.specs.Orders.{Alike, here, more}
-use Rattle.ic_path.proofs.Alikes.{alike_pick}
+use Rattle.ic_path.proofs.Alikes.{alike_pick, alike_back}
 use Rattle.ic_theory.specs.Starts.{Start, IsProper}
 use Rattle.ic_theory.specs.Firings.{IsFired, fired}
 use Rattle.ic_theory.specs.Letters.{Letter, Fire, Undo, Runs, stops, fires, undoes}
-use Rattle.ic_theory.proofs.Future.{alike_back, in_alike}
+use Rattle.ic_theory.proofs.Future.{in_alike}
 use Rattle.ic_theory.proofs.Normal.{active-alike}
 use Rattle.ic_theory.proofs.Ranks.{cause_included, same_set}
 use Rattle.ic_trace.proofs.LastFired.{fired_rest}

@@ -2,8 +2,8 @@
 use Rattle.std.proofs.Common.{◌≡◌, List, [], ◌∷◌, ◌⊎◌, inl, inr, refl, subst, sym, arith}
 use Rattle.ic_name.specs.Events.{Event}
 use Rattle.ic_path.specs.Orders.{Pick, here, there, Alike, IsIn, more}
-use Rattle.ic_path.proofs.Alikes.{alike_self, picked_alike}
-use Rattle.ic_path.proofs.Picks.{picks_swap}
+use Rattle.ic_path.proofs.Alikes.{alike_self, picked_alike, alike_back}
+use Rattle.ic_path.proofs.Picks.{picks_swap, pick_behind}
 use Rattle.ic_theory.specs.Starts.{Start, IsProper}
 use Rattle.ic_theory.specs.Active.{IsActive}
 use Rattle.ic_theory.specs.Causes.{IsCause}
@@ -13,7 +13,7 @@ use Rattle.ic_theory.specs.Letters.{Letter, Fire, Undo, event_of, HasNoDependent
 use Rattle.ic_theory.specs.Sets.{consumed_times}
 use Rattle.ic_theory.specs.Sound.{IsSound}
 use Rattle.ic_theory.proofs.Closed.{cause_stays}
-use Rattle.ic_theory.proofs.Future.{earlier, last_active, alike_back, includes_self, includes_more, in_alike, in_rest, consumed_in, loose_agent, there_or_active, pick_behind}
+use Rattle.ic_theory.proofs.Future.{earlier, last_active, includes_self, includes_more, in_alike, in_rest, consumed_in, loose_agent, there_or_active}
 use Rattle.ic_theory.proofs.Normal.{active-alike}
 use Rattle.ic_theory.proofs.Ranks.{cause_included, first_or_in}
 use Rattle.ic_theory.proofs.Sound.{fired_sound}

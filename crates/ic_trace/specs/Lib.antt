@@ -7,3 +7,6 @@ pub mod Known
 pub mod Readings
 pub mod Cursors
 pub mod Sortings
+pub mod Pasts
+pub mod DeepEvents
+pub mod Taken

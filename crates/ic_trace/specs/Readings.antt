@@ -2,7 +2,7 @@
 use Rattle.std.specs.Prelude.{◌≡◌, ℕ, ◌<◌, List, [], ◌∷◌, ◌++◌, length, map, Option, Some, None}
 use Rattle.ic_name.specs.Events.{Event, Pair, pair}
 use Rattle.ic_path.specs.Orders.{Alike, IsIn}
-use Rattle.ic_past.specs.Pasts.{PastView}
+use Rattle.ic_trace.specs.Pasts.{PastView}
 use Rattle.ic_theory.specs.Starts.{Start}
 use Rattle.ic_theory.specs.Active.{IsActive}
 use Rattle.ic_theory.specs.Future.{Includes}

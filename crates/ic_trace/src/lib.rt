@@ -12,6 +12,7 @@ mod known;
 pub mod laws;
 pub mod lists;
 pub mod moving;
+pub mod past;
 mod reading;
 mod sorting;
 
@@ -22,3 +23,4 @@ pub use faults::TraceFault;
 pub use laws::{causes_are_those_of_the_firing, consistency, moves_keep_what_stands};
 pub use lists::Letter;
 pub use moving::Move;
+pub use past::{Past, is_causal_order};

@@ -8,8 +8,8 @@ ghost use Rattle.ic_trace.specs.Readings.{IsFollowed, ReadsAs, IsReadingOf, IsOn
 
 use crate::known::{EventTable, Known, rank_above};
 use crate::lists::Letter;
+use crate::past::Past;
 use ic_name::{Event, EventName};
-use ic_past::Past;
 use ic_start::Start;
 use std::alloc::{AllocError, Global};
 

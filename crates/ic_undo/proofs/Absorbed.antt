@@ -20,7 +20,6 @@ use Rattle.ic_set.specs.Views.{standing}
 use Rattle.ic_journal.specs.Benches.{IsAt, IsBench}
 use Rattle.ic_journal.specs.Calls.{Stays}
 use Rattle.ic_journal.specs.Views.{BenchView, set_of}
-use Rattle.ic_journal.proofs.Answering.{same_set}
 use Rattle.ic_journal.proofs.MachineSteps.{events_at}
 use Rattle.ic_journal.proofs.SameSets.{full-alike}
 use Rattle.ic_undo.specs.declared.faults.AbsorbFault.TheVariants as absorb
@@ -34,6 +33,7 @@ use Rattle.ic_undo.proofs.ComingEvents.{none_came, stands_now, came_length, next
 use Rattle.ic_undo.proofs.MissingNames.{all_stand, least_never}
 use Rattle.ic_undo.proofs.StayedBenches.{unchanged, none_undone, free_same}
 use Rattle.ic_undo.proofs.TakenBack.{taken_back}
+use Rattle.ic_set.proofs.Admissions.{same_self}
 
 -- why a machine answers that an event is deep
 deep_reply : {s : Start} {st next : State} {call : Call} {r : Reply} (e : Event) → call ≡ Fire e → r ≡ reply.Deep → MachineStep s st call r next → IsDeep e
@@ -63,7 +63,7 @@ reserved_fits old start names s lawful room = let short = lawful.running.short i
 pub nothing_absorbed : (v : BenchView) (names : List Pair) → IsBench v → Fits v names → AbsorbsNone v names absorb.Memory v
 unfolding none_came
 nothing_absorbed v names lawful fits =
-    ([], taken_back v v v v names [] [] lawful lawful lawful (none_came v names) (same_set (set_of v)) (sym (append-nil v.lines)) (omega arith) (none_undone v v (unchanged v)) fits)
+    ([], taken_back v v v v names [] [] lawful lawful lawful (none_came v names) (same_self (set_of v)) (sym (append-nil v.lines)) (omega arith) (none_undone v v (unchanged v)) fits)
 
 module _ (old start : BenchView) (names : List Pair) (lawful : IsBench old) (stays : Stays old start) (fits : Fits old names) where
   module _ (mid : BenchView) (lawful' : IsBench mid) (ids : List EventId) (came : Comes start names ids mid) (none : NoneListed mid names) (test : Pair → Bool) (tells : TellsMissing (set_of mid) names test) where
@@ -93,7 +93,7 @@ module _ (old start : BenchView) (names : List Pair) (lawful : IsBench old) (sta
       (
         whole.came,
         none_next,
-        taken_back old mid mid new names ids [] lawful lawful' after whole (same_set (set_of mid)) (sym (append-nil mid.lines)) (omega arith) (u whole.fired.came whole.free whole.under) fits,
+        taken_back old mid mid new names ids [] lawful lawful' after whole (same_self (set_of mid)) (sym (append-nil mid.lines)) (omega arith) (u whole.fired.came whole.free whole.under) fits,
       ),
     )
       where

@@ -5,11 +5,11 @@ use Rattle.ic_path.specs.Orders.{IsIn, Alike}
 use Rattle.ic_path.proofs.Alikes.{alike_back, alike-in}
 use Rattle.ic_roster.specs.Rosters.{Stander}
 use Rattle.ic_set.specs.Cleared.{AreAll}
-use Rattle.ic_set.proofs.PlacedOrders.{alike_by_length}
 use Rattle.ic_journal.specs.Views.{BenchView, set_of}
 use Rattle.ic_journal.specs.Undone.{AreIdsOfFree}
-use Rattle.ic_shown.proofs.Elements.{in-map, map_cases}
+use Rattle.ic_path.proofs.InLists.{in-map, map_cases}
 use Rattle.ic_undo.proofs.PlacedEvents.{order_length}
+use Rattle.ic_path.proofs.OnceLists.{alike_by_length}
 
 -- the ids of events that can be undone from the last one on are those of all events, where they are as many
 pub all_there : (v : BenchView) (ids : List EventId) → AreIdsOfFree v ids → length ids ≡ length v.events → AreAll (set_of v) ids

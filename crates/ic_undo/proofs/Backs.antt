@@ -5,7 +5,7 @@ use Rattle.ic_name.specs.declared.ids.EventId.{EventId}
 use Rattle.ic_path.specs.Orders.{IsIn, Alike}
 use Rattle.ic_path.proofs.Picks.{in_others, pick_before}
 use Rattle.ic_path.proofs.Alikes.{alike_back, alike_pick, alike-in}
-use Rattle.ic_shown.proofs.Elements.{in_behind}
+use Rattle.ic_path.proofs.InLists.{in_behind}
 use Rattle.ic_roster.specs.Rosters.{Stander, HaveOwnLines}
 use Rattle.ic_journal.specs.Reads.{StandsIn, IsEventUnder}
 use Rattle.ic_journal.specs.Views.{BenchView}

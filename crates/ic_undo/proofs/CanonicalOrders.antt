@@ -1,5 +1,5 @@
 -- Standing events listed in canonical order.
-use Rattle.std.proofs.Common.{◌≡◌, ℕ, Bool, true, List, [], ◌∷◌, map, false, refl, sym, ap, subst, ◌∙◌}
+use Rattle.std.proofs.Common.{◌≡◌, ℕ, Bool, List, [], ◌∷◌, map, false, refl, sym, ap, subst, ◌∙◌}
 use Rattle.std.specs.List.{AllByRecursion}
 use Rattle.std.specs.List.Sorted.{IsStrictlySortedBy}
 use Rattle.std.specs.Ordering.{is_lt, nat_cmp, ordering_then, ordering_reverse}
@@ -8,37 +8,24 @@ use Rattle.std.specs.declared.cmp.Ordering.TheVariants.{Less, Equal, Greater}
 use Rattle.std.proofs.lemmas.Cmp.{tied_itself}
 use Rattle.ic_name.specs.Events.{Event}
 use Rattle.ic_name.specs.declared.ids.EventId.{EventId}
-use Rattle.ic_path.specs.Orders.{here, IsIn}
+use Rattle.ic_path.specs.Orders.{here, IsIn, IsOnce}
 use Rattle.ic_path.specs.Rings.{IsOrder}
 use Rattle.ic_path.proofs.Alikes.{alike_back, alike-in}
-use Rattle.ic_path.proofs.EachOnce.{IsOnce, once_rest}
+use Rattle.ic_path.proofs.EachOnce.{once_rest}
 use Rattle.ic_path.proofs.Picks.{in_first, in_more}
 use Rattle.ic_path.proofs.Sorts.{Ascends, sorted}
 use Rattle.ic_theory.specs.Causes.{IsRank, canonical_cmp}
 use Rattle.ic_theory.specs.Seals.{event_cmp}
 use Rattle.ic_theory.proofs.Ranks.{rank_one}
 use Rattle.ic_theory.proofs.Replies.{canonical_total, canonical_tied}
-use Rattle.ic_cause.proofs.OnceLists.{once-alike}
+use Rattle.ic_path.proofs.OnceLists.{once-alike}
 use Rattle.ic_roster.specs.Rosters.{Stander}
 use Rattle.ic_set.specs.Orders.{AreInOrder, IsAny}
 use Rattle.ic_set.specs.Sets.{IsStandingSet}
 use Rattle.ic_set.specs.Views.{SetView, standing, events_of}
 use Rattle.ic_set.proofs.Namings.{same_lead}
-use Rattle.ic_shown.proofs.Elements.{in-map}
-
--- what passes the test is less
-is_less : (o : Ordering) → is_lt o ≡ true → o ≡ Less
-is_less Less h = refl
-is_less Equal h = cc
-is_less Greater h = cc
-
--- where neither is less they are tied
-neither_less : (a b : Ordering) → a ≡ ordering_reverse b → is_lt a ≡ false → is_lt b ≡ false → a ≡ Equal
-neither_less Less b r h k = cc
-neither_less Equal b r h k = refl
-neither_less Greater Less r h k = cc
-neither_less Greater Equal r h k = cc
-neither_less Greater Greater r h k = cc
+use Rattle.ic_path.proofs.InLists.{in-map}
+use Rattle.ic_name.proofs.Orderings.{lt_less, neither_less}
 
 -- where two differ and the second isn't less the first is
 less_than : (a b : Ordering) → a ≡ ordering_reverse b → (a ≡ Equal → ⊥) → is_lt b ≡ false → a ≡ Less
@@ -57,7 +44,7 @@ module _ (v : SetView) (set : IsStandingSet v) where
   orders : IsOrder before v.events
   orders = record {
     not_below_itself = λ x. ap is_lt (tied_itself (canonical_total set.sound.rank) x.event);
-    passes_on = λ x y z h i. ap is_lt ((canonical_total set.sound.rank).trans x.event y.event z.event (is_less _ h) (is_less _ i));
+    passes_on = λ x y z h i. ap is_lt ((canonical_total set.sound.rank).trans x.event y.event z.event (lt_less _ h) (lt_less _ i));
     equal_if_neither = λ x y i j h k. same_lead v.events x y set.own_lines i j
         (canonical_tied set.sound.rank x.event y.event (neither_less _ _ ((canonical_total set.sound.rank).antisymm x.event y.event) h k));
   }

@@ -4,9 +4,9 @@ use Rattle.std.specs.List.{AllByRecursion}
 use Rattle.std.specs.List.Sorted.{IsStrictlySortedBy}
 use Rattle.std.specs.declared.cmp.Ordering.{Ordering}
 use Rattle.std.specs.declared.cmp.Ordering.TheVariants.{Less}
-use Rattle.ic_path.specs.Orders.{here, IsIn}
+use Rattle.ic_path.specs.Orders.{here, IsIn, IsOnce}
 use Rattle.ic_path.proofs.Picks.{none_in, in_first, in_more, in-cons_cases}
-use Rattle.ic_path.proofs.EachOnce.{IsOnce, once_rest, once_cons}
+use Rattle.ic_path.proofs.EachOnce.{once_rest, once_cons}
 
 -- the second list has the elements of the first that have the property, in their order
 pub data Chosen {X : Type 0} (P : X → Type 0) : List X → List X → Type 0 where

@@ -14,7 +14,7 @@ use Rattle.ic_journal.specs.Views.{BenchView, set_of}
 use Rattle.ic_undo.specs.Absorbing.{IsLeastListed, AreLeastInTurn}
 use Rattle.ic_undo.specs.Coming.{Comes}
 use Rattle.ic_undo.specs.GoingBack.{firing}
-use Rattle.ic_shown.proofs.Elements.{in_behind, in-append_cases}
+use Rattle.ic_path.proofs.InLists.{in_behind, in-append_cases}
 use Rattle.ic_undo.proofs.Backs.{alike_reverse}
 use Rattle.ic_undo.proofs.FiredInTurn.{none_fired, fired_more}
 use Rattle.ic_undo.proofs.FreeToUndo.{free_more}

@@ -17,7 +17,7 @@ use Rattle.ic_theory.proofs.Ranks.{sound-alike, same_set, cause_included}
 use Rattle.ic_theory.proofs.Sound.{active_there}
 use Rattle.ic_journal.proofs.SameSets.{agent_count, full-alike}
 use Rattle.ic_undo.specs.GoingBack.{AreFirable}
-use Rattle.ic_shown.proofs.Elements.{in_behind, in-append_cases}
+use Rattle.ic_path.proofs.InLists.{in_behind, in-append_cases}
 
 -- what can be fired over a set can be fired over it in any order
 pub firable-alike : (s : Start) {es fs : List Event} (later : List Event) → Alike es fs → AreFirable s es later → AreFirable s fs later

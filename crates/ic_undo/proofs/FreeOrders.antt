@@ -1,9 +1,6 @@
 -- Standing events in canonical order, with all that depends on them, can be undone from the last one on.
-use Rattle.std.proofs.Common.{◌≡◌, ℕ, ◌<◌, ◌≤◌, List, [], ◌∷◌, ◌++◌, inl, inr, refl, sym, ap, subst, arith, ◌∙◌}
-use Rattle.std.specs.declared.cmp.Ordering.{Ordering}
-use Rattle.std.specs.declared.cmp.Ordering.TheVariants.{Less, Equal, Greater}
-use Rattle.std.specs.Ordering.{ordering_then, nat_cmp}
-use Rattle.std.proofs.lemmas.Cmp.{ranked}
+use Rattle.std.proofs.Common.{◌≡◌, ℕ, ◌<◌, List, [], ◌∷◌, ◌++◌, inl, inr, sym, ap, subst, arith, ◌∙◌}
+use Rattle.std.specs.declared.cmp.Ordering.TheVariants.{Less}
 use Rattle.std.specs.List.{AllByRecursion}
 use Rattle.std.specs.List.Sorted.{IsStrictlySortedBy}
 use Rattle.std.proofs.lemmas.Map.Keys.{sorted_head, sorted_tail}
@@ -19,16 +16,8 @@ use Rattle.ic_journal.specs.Views.{BenchView, set_of}
 use Rattle.ic_journal.specs.Benches.{IsBench}
 use Rattle.ic_undo.specs.Undone.{RestsOn, through}
 use Rattle.ic_journal.specs.Undone.{AreFree}
-use Rattle.ic_shown.proofs.Elements.{in_behind, in-append_cases, in-map}
-
--- an event that comes first has no greater rank
-not_above : (rank : Event → ℕ) (x y : Event) → canonical_cmp rank x y ≡ Less → rank x ≤ rank y
-not_above rank x y h = go _ (nat_cmp (rank x) (rank y)) refl h
-  where
-    go : (o r : Ordering) → nat_cmp (rank x) (rank y) ≡ r → ordering_then r o ≡ Less → rank x ≤ rank y
-    go o Less e k = let l = ranked (rank x) (rank y) Less (sym e) in omega arith
-    go o Equal e k = let l = ranked (rank x) (rank y) Equal (sym e) in omega arith
-    go o Greater e k = cc
+use Rattle.ic_path.proofs.InLists.{in_behind, in-append_cases, in-map}
+use Rattle.ic_theory.proofs.Exchanging.{not_above}
 
 -- the first of sorted events is below each event behind it
 below_each : (rank : Event → ℕ) (e : Event) (xs : List Stander) → AllByRecursion (λ f. canonical_cmp rank e f ≡ Less) (events_of xs) → (x : Stander) → IsIn x xs → canonical_cmp rank e x.event ≡ Less

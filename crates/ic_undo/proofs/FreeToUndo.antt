@@ -2,9 +2,9 @@
 use Rattle.std.proofs.Common.{◌≡◌, List, [], ◌∷◌, ◌++◌, ◌⊎◌, inl, inr, Ok, refl, sym, ap, subst, arith, ◌∙◌}
 use Rattle.ic_name.specs.Events.{Event}
 use Rattle.ic_name.specs.declared.ids.EventId.{EventId}
-use Rattle.ic_path.specs.Orders.{IsIn, Alike}
+use Rattle.ic_path.specs.Orders.{IsIn, Alike, IsOnce}
 use Rattle.ic_path.proofs.Alikes.{alike_back, alike-in, alike-map, append-alike-comm}
-use Rattle.ic_path.proofs.EachOnce.{IsOnce, once_cons}
+use Rattle.ic_path.proofs.EachOnce.{once_cons}
 use Rattle.ic_path.proofs.Picks.{none_in, in_first, in_more, in-cons_cases, pick_before}
 use Rattle.ic_theory.specs.Active.{IsActive}
 use Rattle.ic_theory.specs.Causes.{IsCause}
@@ -12,14 +12,14 @@ use Rattle.ic_theory.specs.Future.{Includes}
 use Rattle.ic_theory.specs.Sound.{IsSound}
 use Rattle.ic_theory.proofs.Closed.{cause_stays}
 use Rattle.ic_theory.proofs.Ranks.{cause_in}
-use Rattle.ic_cause.proofs.OnceLists.{once-alike}
+use Rattle.ic_path.proofs.OnceLists.{once-alike}
 use Rattle.ic_roster.specs.Rosters.{Stander}
 use Rattle.ic_set.specs.Views.{standing}
 use Rattle.ic_journal.specs.Benches.{IsBench}
 use Rattle.ic_journal.specs.Calls.{Fires}
 use Rattle.ic_journal.specs.Views.{BenchView, set_of}
 use Rattle.ic_journal.specs.Undone.{AreFree}
-use Rattle.ic_shown.proofs.Elements.{in_behind, in-append_cases, in-map}
+use Rattle.ic_path.proofs.InLists.{in_behind, in-append_cases, in-map}
 use Rattle.ic_undo.proofs.Backs.{apart}
 use Rattle.ic_undo.proofs.WithinSets.{active_absent}
 

@@ -13,9 +13,10 @@ use Rattle.ic_set.specs.Views.{standing}
 use Rattle.ic_journal.specs.Benches.{IsBench}
 use Rattle.ic_journal.specs.Views.{BenchView, set_of}
 use Rattle.ic_journal.proofs.MachineSteps.{events_at}
-use Rattle.ic_journal.proofs.SameSets.{agent_count, rank-alike}
+use Rattle.ic_journal.proofs.SameSets.{agent_count}
 use Rattle.ic_undo.specs.Marks.{IsMark}
 use Rattle.ic_undo.proofs.HistoryLimits.{IsWithin, history_within}
+use Rattle.ic_theory.proofs.Restored.{rank-alike}
 
 -- the standing events in canonical order are those of a mark
 pub bench_mark : (v : BenchView) → IsBench v → length v.start.kinds ≤ MAX_START_AGENTS → (es : List Event) → AreCanonical (set_of v) es → IsMark (record { start = v.start; events = es })

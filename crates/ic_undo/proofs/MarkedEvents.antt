@@ -6,9 +6,9 @@ use Rattle.std.proofs.lemmas.List.{map-id, map-append}
 use Rattle.ic_name.specs.Events.{Event}
 use Rattle.ic_name.specs.Same.{same_name}
 use Rattle.ic_name.proofs.SameFacts.{same_name_self}
-use Rattle.ic_path.specs.Orders.{here, IsIn, Alike}
+use Rattle.ic_path.specs.Orders.{here, IsIn, Alike, IsOnce}
 use Rattle.ic_path.proofs.Alikes.{alike_back, alike_then, alike-in, alike-map, picked_alike}
-use Rattle.ic_path.proofs.EachOnce.{IsOnce, once_rest, once_cons, once_alike}
+use Rattle.ic_path.proofs.EachOnce.{once_rest, once_cons, once_alike}
 use Rattle.ic_path.proofs.Picks.{in_first, in_more, pick_before}
 use Rattle.ic_theory.specs.Causes.{canonical_cmp}
 use Rattle.ic_theory.specs.Sets.{consumed_times}
@@ -24,13 +24,13 @@ use Rattle.ic_journal.specs.Views.{BenchView, set_of}
 use Rattle.ic_journal.specs.Undone.{AreUndone}
 use Rattle.ic_undo.specs.Marks.{MarkView, IsMark}
 use Rattle.ic_undo.specs.GoingBack.{IsOutside, AreOutside, AreMissing, AreFired}
-use Rattle.ic_shown.proofs.Elements.{in-append_cases, in_behind, in-map, map_cases}
+use Rattle.ic_path.proofs.InLists.{in-append_cases, in_behind, in-map, map_cases}
 use Rattle.ic_undo.proofs.Backs.{apart}
 use Rattle.ic_undo.proofs.ChosenLists.{Chosen, chosen_from, chosen_in, chosen_once, chosen_sorted}
 use Rattle.ic_undo.proofs.FirableEvents.{HaveCausesBefore}
 use Rattle.ic_undo.proofs.FreeOrders.{AreWithDependents}
 use Rattle.ic_undo.proofs.Places.{parts, sorted_behind}
-use Rattle.ic_undo.proofs.RestingOrder.{not_above}
+use Rattle.ic_theory.proofs.Exchanging.{not_above}
 
 -- events of two sound sets that one agent leads are one
 pub one_led : (s : Start) → IsProper s → {es fs : List Event} → IsSound s es → IsSound s fs → (e f : Event) → IsIn e es → IsIn f fs → e.lead ≡ f.lead → e ≡ f

@@ -18,7 +18,7 @@ use Rattle.ic_journal.specs.Views.{BenchView, set_of}
 use Rattle.ic_undo.specs.Absorbing.{IsWithin, IsNever, IsLeastNever}
 use Rattle.ic_undo.specs.Coming.{Comes, NoneListed}
 use Rattle.ic_undo.specs.Ready.{IsMissingName, TellsMissing}
-use Rattle.ic_shown.proofs.Elements.{in_behind, in-map, map_cases}
+use Rattle.ic_path.proofs.InLists.{in_behind, in-map, map_cases}
 use Rattle.ic_undo.proofs.ComingEvents.{stood_or_listed, stands_still}
 use Rattle.ic_undo.proofs.PairTests.{pair_only, pair_fails, stands_or_missing}
 use Rattle.ic_undo.proofs.Places.{parts}

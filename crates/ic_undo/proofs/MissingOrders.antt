@@ -22,7 +22,7 @@ use Rattle.ic_journal.specs.Views.{BenchView, set_of}
 use Rattle.ic_undo.specs.Among.{AreMissingPlaces}
 use Rattle.ic_undo.specs.GoingBack.{AreMissing, IsMissing}
 use Rattle.ic_undo.specs.Marks.{MarkView, IsMark}
-use Rattle.ic_shown.proofs.Elements.{in-map, map_cases}
+use Rattle.ic_path.proofs.InLists.{in-map, map_cases}
 use Rattle.ic_undo.proofs.LedPlaces.{in_at}
 use Rattle.ic_undo.proofs.LentEvents.{lent, lent-append}
 use Rattle.ic_undo.proofs.MarkedEvents.{one_led, stands_led, led_stands}

@@ -6,7 +6,7 @@ use Rattle.ic_name.specs.declared.ids.EventId.{EventId}
 use Rattle.ic_path.specs.Orders.{IsIn}
 use Rattle.ic_path.proofs.Picks.{in_first}
 use Rattle.ic_roster.specs.Rosters.{Stander}
-use Rattle.ic_shown.proofs.Elements.{in_behind}
+use Rattle.ic_path.proofs.InLists.{in_behind}
 use Rattle.ic_undo.proofs.Backs.{reverse_more}
 
 -- an order is as long as its ids

@@ -4,8 +4,8 @@ use Rattle.std.specs.List.{AllByRecursion, list_any}
 use Rattle.std.specs.List.Sorted.{IsStrictlySortedBy}
 use Rattle.std.specs.declared.cmp.Ordering.{Ordering}
 use Rattle.std.specs.declared.cmp.Ordering.TheVariants.{Less}
-use Rattle.ic_path.specs.Orders.{Pick, here, there, IsIn}
-use Rattle.ic_path.proofs.EachOnce.{IsOnce, once_cons}
+use Rattle.ic_path.specs.Orders.{Pick, here, there, IsIn, IsOnce}
+use Rattle.ic_path.proofs.EachOnce.{once_cons}
 use Rattle.ic_path.proofs.Picks.{none_in, in_first, in_more, in-cons_cases, pick_behind}
 
 -- the element at a place, with those before it and those behind it

@@ -21,7 +21,7 @@ use Rattle.ic_journal.specs.Views.{BenchView, set_of}
 use Rattle.ic_undo.specs.Absorbing.{IsLeastListed}
 use Rattle.ic_undo.specs.Coming.{NoneListed}
 use Rattle.ic_undo.specs.Ready.{TellsMissing, AreReady, AddsPairs}
-use Rattle.ic_shown.proofs.Elements.{in_behind}
+use Rattle.ic_path.proofs.InLists.{in_behind}
 use Rattle.ic_undo.proofs.MissingNames.{active_missing}
 use Rattle.ic_undo.proofs.PairTests.{pair_only, pair_fails, pair_apart, lead_not_above}
 use Rattle.ic_undo.proofs.Places.{parts}

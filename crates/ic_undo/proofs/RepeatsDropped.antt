@@ -12,12 +12,11 @@ use Rattle.std.proofs.lemmas.List.Kept.{Contains-dedup, Contains-from_dedup, IsS
 use Rattle.std.proofs.lemmas.List.Sorted.{IsPermutation-sym, Contains-permutation}
 use Rattle.ic_name.specs.Spots.{same_event}
 use Rattle.ic_name.specs.declared.ids.EventId.{EventId}
-use Rattle.ic_path.specs.Orders.{IsIn}
-use Rattle.ic_path.proofs.EachOnce.{IsOnce}
+use Rattle.ic_path.specs.Orders.{IsIn, IsOnce}
 use Rattle.ic_path.proofs.Picks.{in-contains, contains-in}
-use Rattle.ic_cause.specs.EventOrders.{event_cmp}
-use Rattle.ic_cause.proofs.EventOrder.{event_at}
-use Rattle.ic_cause.proofs.StrictOrders.{strict_once}
+use Rattle.ic_name.specs.EventOrders.{event_cmp}
+use Rattle.ic_name.proofs.EventOrder.{event_at}
+use Rattle.ic_path.proofs.StrictOrders.{strict_once}
 
 module _ {X : Type 0} {R : X → X → Ordering} {E : X → X → Bool} (total : IsTotalOrder R) (equal : IsEquivalence E) (ties : (x y : X) → E x y ≡ is_eq (R x y)) (one : (x y : X) → E x y ≡ true → x ≡ y)
     (xs sorted ys : List X) (moved : IsPermutation xs sorted) (rises : IsSorted R sorted) (left : IsFiltered (DiffersFromLast E) [] sorted ys) where

@@ -2,13 +2,9 @@
 use Rattle.std.proofs.Common.{◌≡◌, ◌≢◌, ◌↔◌, ℕ, ◌≤◌, ◌<◌, Bool, true, false, cond, IsTrue, List, [], ◌∷◌, ◌++◌, map, length, take, ◌⊎◌, inl, inr, refl, sym, ap, subst, arith, ◌∙◌}
 use Rattle.std.specs.BTreeMap.{is_at}
 use Rattle.std.specs.List.Sorted.{IsStrictlySortedBy}
-use Rattle.std.specs.Ordering.{nat_cmp, ordering_then}
-use Rattle.std.specs.declared.cmp.Ordering.{Ordering}
-use Rattle.std.specs.declared.cmp.Ordering.TheVariants.{Less, Equal, Greater}
+use Rattle.std.specs.Ordering.{nat_cmp}
 use Rattle.std.proofs.lemmas.Bool.Decides.{nat_tests}
-use Rattle.std.proofs.lemmas.Cmp.{ranked}
 use Rattle.std.proofs.lemmas.List.{map-append}
-use Rattle.ic_name.specs.Events.{Event}
 use Rattle.ic_name.specs.declared.ids.EventId.{EventId}
 use Rattle.ic_path.specs.Orders.{IsIn}
 use Rattle.ic_path.proofs.Picks.{none_in, pick_before, pick-map}
@@ -23,6 +19,7 @@ use Rattle.ic_undo.proofs.ChosenLists.{Chosen, nothing, chosen_more, chosen_same
 use Rattle.ic_undo.proofs.ChosenOrders.{all_chosen}
 use Rattle.ic_undo.proofs.Places.{parts, in_part, sorted_behind}
 use Rattle.ic_undo.proofs.RestingCauses.{same_line, HasCause}
+use Rattle.ic_theory.proofs.Exchanging.{not_above}
 
 -- of the first events in order, those that rest on the line are found, with their ids and a test for their lines
 pub record Found (v : BenchView) (line : ℕ) (first : List Stander) (ids : List EventId) (has : ℕ → Bool) : Type 0 where
@@ -71,15 +68,6 @@ found_more v line {ids = ids} {has = has} new x rests f put = record {
       | inl j ↦ (f.tells n).1 (y, j, s)
       | inr k ↦ elim k [ inl q ↦ (let t : is_at (nat_cmp x.id.line) n ≡ true = subst (λ m. is_at (nat_cmp x.id.line) m ≡ true) (ap (λ (z : Stander). z.id.line) (sym q) ∙ s) (at_itself x.id.line) in absurd cc) | inr r ↦ absurd (none_in r) ]
     ]
-
--- an event that is less in canonical order has no greater rank
-pub not_above : (rank : Event → ℕ) (x y : Event) → canonical_cmp rank x y ≡ Less → rank x ≤ rank y
-not_above rank x y h = go _ (nat_cmp (rank x) (rank y)) refl h
-  where
-    go : (o r : Ordering) → nat_cmp (rank x) (rank y) ≡ r → ordering_then r o ≡ Less → rank x ≤ rank y
-    go o Less e k = let l = ranked (rank x) (rank y) Less (sym e) in omega arith
-    go o Equal e k = let l = ranked (rank x) (rank y) Equal (sym e) in omega arith
-    go o Greater e k = cc
 
 -- an event rests on the line by itself, or by a direct cause
 rests_cases : {v : BenchView} {line : ℕ} {x : Stander} → RestsOn v line x

@@ -11,12 +11,12 @@ use Rattle.ic_set.specs.Changes.{IsSame}
 use Rattle.ic_set.specs.Views.{standing}
 use Rattle.ic_journal.specs.Views.{BenchView, set_of}
 use Rattle.ic_journal.specs.Calls.{Stays}
-use Rattle.ic_journal.proofs.Answering.{same_set}
 use Rattle.ic_journal.specs.Undone.{AreUndone, AreFree}
+use Rattle.ic_set.proofs.Admissions.{same_self}
 
 -- a bench stays as it is
 pub unchanged : (v : BenchView) → Stays v v
-unchanged v = record { same = same_set (set_of v); lines = refl; room = omega arith }
+unchanged v = record { same = same_self (set_of v); lines = refl; room = omega arith }
 
 -- where only the room changes no event is undone
 pub none_undone : (old new : BenchView) → Stays old new → AreUndone old [] new

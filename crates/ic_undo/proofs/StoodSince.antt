@@ -13,14 +13,14 @@ use Rattle.ic_theory.specs.Machine.{Standing, State, events, MachineStep, not_ac
 use Rattle.ic_theory.proofs.Machines.{history_length}
 use Rattle.ic_roster.specs.Rosters.{Stander}
 use Rattle.ic_journal.specs.Benches.{IsBench}
-use Rattle.ic_history.specs.Changed.{IsFiredIn, IsChanged}
+use Rattle.ic_journal.specs.Changed.{IsFiredIn, IsChanged}
 use Rattle.ic_journal.specs.Views.{BenchView}
 use Rattle.ic_journal.proofs.FiredLines.{first_behind, AreFiredIn, fired_lines}
 use Rattle.ic_journal.proofs.MachineSteps.{events_at}
 use Rattle.ic_undo.specs.GoingBack.{IsOutside, IsMissing}
 use Rattle.ic_undo.specs.Marks.{MarkView}
 use Rattle.ic_undo.specs.Stood.{StoodAt}
-use Rattle.ic_shown.proofs.Elements.{in-map}
+use Rattle.ic_path.proofs.InLists.{in-map}
 use Rattle.ic_undo.proofs.SameHistories.{same_history}
 
 -- a list that isn't empty has a last element

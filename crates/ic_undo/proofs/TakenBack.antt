@@ -1,12 +1,12 @@
 -- Events that came to stand and were undone again, the last first.
-use Rattle.std.proofs.Common.{◌≡◌, ◌+◌, ◌≤◌, List, [], ◌∷◌, ◌++◌, map, length, reverse, refl, sym, ap, subst, arith, ◌∙◌}
+use Rattle.std.proofs.Common.{◌≡◌, ◌+◌, ◌≤◌, List, ◌++◌, map, length, reverse, refl, sym, ap, subst, arith, ◌∙◌}
 use Rattle.std.proofs.lemmas.List.{length-map}
 use Rattle.ic_name.specs.Events.{Pair}
 use Rattle.ic_name.specs.declared.ids.EventId.{EventId}
 use Rattle.ic_name.specs.declared.lines.Line.{Line}
-use Rattle.ic_path.specs.Orders.{IsIn, Alike}
-use Rattle.ic_path.proofs.Alikes.{alike_back, alike_then, alike-cancel, alike-append, alike_self, alike-in, alike-map, alike-length}
-use Rattle.ic_path.proofs.EachOnce.{IsOnce, once_alike}
+use Rattle.ic_path.specs.Orders.{IsIn, Alike, IsOnce}
+use Rattle.ic_path.proofs.Alikes.{alike_back, alike_then, alike-append, alike_self, alike-in, alike-map, alike-length, cancel_front}
+use Rattle.ic_path.proofs.EachOnce.{once_alike}
 use Rattle.ic_theory.specs.Born.{born_agents}
 use Rattle.ic_theory.specs.Sets.{agents}
 use Rattle.ic_theory.specs.Starts.{start_agents}
@@ -22,13 +22,8 @@ use Rattle.ic_undo.specs.Absorbing.{Fits, TakesBack}
 use Rattle.ic_undo.specs.Coming.{Comes}
 use Rattle.ic_undo.specs.GoingBack.{firing}
 use Rattle.ic_journal.specs.Undone.{AreUndone, undoing}
-use Rattle.ic_shown.proofs.Elements.{in-map}
+use Rattle.ic_path.proofs.InLists.{in-map}
 use Rattle.ic_undo.proofs.Backs.{alike_reverse}
-
--- what stands in front of both can go
-cancel_front : {X : Type 0} (zs : List X) {xs ys : List X} → Alike (zs ++ xs) (zs ++ ys) → Alike xs ys
-cancel_front [] a = a
-cancel_front (z ∷ zs) a = cancel_front zs (alike-cancel a)
 
 -- agents are listed once
 agents_once : (v : SetView) → IsStandingSet v → IsOnce v.agents

@@ -24,7 +24,7 @@ use Rattle.ic_journal.specs.declared.faults.UndoFault.{UndoFault}
 use Rattle.ic_journal.specs.declared.faults.UndoFault.TheVariants as undo
 use Rattle.ic_journal.proofs.MachineSteps.{events_at}
 use Rattle.ic_journal.specs.Undone.{AreUndone, undoing, AreFree}
-use Rattle.ic_shown.proofs.Elements.{in_behind, in-append_cases, in-map, map_cases}
+use Rattle.ic_path.proofs.InLists.{in_behind, in-append_cases, in-map, map_cases}
 use Rattle.ic_undo.proofs.Backs.{alike_reverse, one_in_line, apart, reverse_more}
 
 -- an event is the next one: those behind it in the order are undone, and nothing else

@@ -20,7 +20,7 @@ use Rattle.ic_journal.specs.Undone.{AreUndone, AreIdsOfFree, AreUndoneFrom}
 use Rattle.ic_undo.specs.Undone.{AreLastFirst, IsCleared, IsUnwound}
 use Rattle.ic_undo.specs.Backwards.{AreUndoneBack}
 use Rattle.ic_undo.specs.Unwinding.{DontFit}
-use Rattle.ic_shown.proofs.Elements.{in_behind}
+use Rattle.ic_path.proofs.InLists.{in_behind}
 use Rattle.ic_undo.proofs.Backs.{alike_reverse, map-reverse, apart}
 use Rattle.ic_undo.proofs.PlacedEvents.{order_length}
 use Rattle.ic_undo.proofs.FreeOrders.{AreWithDependents, in_free_order}

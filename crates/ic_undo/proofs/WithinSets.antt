@@ -15,7 +15,7 @@ use Rattle.ic_theory.proofs.Normal.{active-alike}
 use Rattle.ic_theory.proofs.Ranks.{sound_order, sound_union}
 use Rattle.ic_undo.specs.Absorbing.{IsLeastNever}
 use Rattle.ic_undo.specs.Ready.{AreNamesOf}
-use Rattle.ic_shown.proofs.Elements.{in_behind}
+use Rattle.ic_path.proofs.InLists.{in_behind}
 
 -- an active event isn't in the set, nor is another of its name
 pub active_absent : (s : Start) (es : List Event) (e f : Event) → IsActive s es e → IsIn f es → pair f ≡ pair e → ⊥

@@ -3,7 +3,7 @@ use Rattle.std.proofs.Common.{◌≡◌, ℕ, ◌+◌, ◌++◌, length, arith, 
 use Rattle.std.proofs.lemmas.List.{length-map}
 use Rattle.ic_path.specs.Orders.{Alike}
 use Rattle.ic_path.proofs.Alikes.{alike_back, alike_then, alike_more, alike-length}
-use Rattle.ic_roster.specs.Rosters.{Stander}
+use Rattle.ic_journal.specs.Rosters.{Stander}
 use Rattle.ic_set.specs.Views.{standing}
 use Rattle.ic_theory.specs.Machine.{State}
 use Rattle.ic_journal.specs.Views.{BenchView, set_of}

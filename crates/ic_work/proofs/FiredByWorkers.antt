@@ -3,7 +3,7 @@ use Rattle.std.specs.Prelude.{◌≡◌, ◌≤◌, ℕ}
 use Rattle.ic_theory.specs.Machine.{State}
 use Rattle.ic_journal.specs.Views.{BenchView}
 use Rattle.ic_journal.specs.Benches.{IsAt}
-use Rattle.ic_reduce.specs.Continuing.{Continues}
+use Rattle.ic_journal.specs.Continuing.{Continues}
 use Rattle.ic_work.specs.Firings.{AreFirings}
 use Rattle.ic_work.specs.Sweeps.{Extends}
 

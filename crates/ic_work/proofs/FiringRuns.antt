@@ -12,9 +12,9 @@ use Rattle.ic_path.proofs.Picks.{in_first, in_more, pick_behind}
 use Rattle.ic_theory.specs.Starts.{Start}
 use Rattle.ic_theory.specs.Machine.{State, events, MachineStep}
 use Rattle.ic_theory.specs.Machine as machine
-use Rattle.ic_reduce.specs.Continuing.{IsFire, fired_by, fired_lines}
-use Rattle.ic_reduce.specs.Reducing.{AreFiredInTurn}
-use Rattle.ic_reduce.specs.Reducing as turn
+use Rattle.ic_journal.specs.Continuing.{IsFire, fired_by, fired_lines}
+use Rattle.ic_journal.specs.Reducing.{AreFiredInTurn}
+use Rattle.ic_journal.specs.Reducing as turn
 use Rattle.ic_work.specs.Firings.{AreFirings, none, fired, refused}
 use Rattle.ic_work.proofs.HistoryParts.{AreAnswered}
 use Rattle.ic_work.proofs.HistoryParts as history

@@ -6,7 +6,9 @@ use Rattle.ic_name.specs.declared.lines.Reply.{Reply}
 use Rattle.ic_theory.specs.Starts.{Start, IsProper}
 use Rattle.ic_theory.specs.Machine.{State, initial, MachineStep, IsHistory, begins, goes_on}
 use Rattle.ic_theory.proofs.Machines.{history_kept}
-use Rattle.ic_work.proofs.SameStates.{AreSame, same_self, moved, one_next}
+use Rattle.ic_theory.specs.Machine.{AreSame}
+use Rattle.ic_work.proofs.SameStates.{moved, one_next}
+use Rattle.ic_theory.proofs.SameStates.{same_self}
 
 -- a history of equal lines over an equal start
 pub same_history : {s t : Start} {xs ys : List Line} {st : State} → s ≡ t → xs ≡ ys → IsHistory s xs st → IsHistory t ys st

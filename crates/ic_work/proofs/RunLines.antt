@@ -5,13 +5,13 @@ use Rattle.std.proofs.lemmas.List.Elements.{All-head, All-tail, All-nil, All-con
 use Rattle.ic_name.specs.Names.{Name}
 use Rattle.ic_name.specs.declared.lines.Line.{Line}
 use Rattle.ic_path.specs.Orders.{Pick, here, there, IsIn}
-use Rattle.ic_reduce.specs.Continuing.{IsFire}
-use Rattle.ic_roster.specs.declared.interaction.Interaction.{Interaction}
-use Rattle.ic_history.specs.declared.notes.PairNote.{PairNote}
-use Rattle.ic_history.specs.declared.limit.Limit.{Limit}
-use Rattle.ic_history.specs.Kept.{event_kept}
-use Rattle.ic_history.specs.Noted.{line_in}
-use Rattle.ic_history.specs.Notes.{firing_of, line_read}
+use Rattle.ic_journal.specs.Continuing.{IsFire}
+use Rattle.ic_journal.specs.Interaction.{Interaction}
+use Rattle.ic_journal.specs.PairNote.{PairNote}
+use Rattle.ic_journal.specs.Limit.{Limit}
+use Rattle.ic_journal.specs.Kept.{event_kept}
+use Rattle.ic_journal.specs.Noted.{line_in}
+use Rattle.ic_journal.specs.Notes.{firing_of, line_read}
 use Rattle.ic_shared.specs.declared.receipts.RunReceipt.{RunReceipt}
 use Rattle.ic_shared.specs.Passes.{PassView, Told, told_by, told_in, columns}
 use Rattle.ic_shared.specs.Settles.{owned, AreFor, Settles}

@@ -6,36 +6,12 @@ use Rattle.ic_name.specs.declared.lines.Reply.{Reply}
 use Rattle.ic_path.specs.Orders.{here, Alike, more}
 use Rattle.ic_path.proofs.Alikes.{alike_self, alike_back, alike_pick, alike_then, alike-in, alike-map}
 use Rattle.ic_theory.specs.Starts.{Start}
-use Rattle.ic_theory.specs.Machine.{Standing, State, events, noted, MachineStep, not_active, deep, full, fired, not_standing, held, undone}
+use Rattle.ic_theory.specs.Machine.{AreSame, Standing, State, events, noted, MachineStep, not_active, deep, full, fired, not_standing, held, undone}
 use Rattle.ic_theory.proofs.Machines.{IsKept}
 use Rattle.ic_theory.proofs.Normal.{active-alike}
 use Rattle.ic_theory.proofs.Replies.{one_answer}
 use Rattle.ic_journal.proofs.SameSets.{full-alike, dependent-alike, least-alike}
-
--- the same events stand, each with its line, in any order, after as many lines
-pub record AreSame (st tt : State) : Type 0 where
-  pub standing : Alike st.standing tt.standing
-  pub lines : st.lines ≡ tt.lines
-
--- a state is the same as itself
-pub same_self : (st : State) → AreSame st st
-same_self st = record { standing = alike_self st.standing; lines = refl }
-
--- a line more in both
-same_noted : {st tt : State} → AreSame st tt → AreSame (noted st) (noted tt)
-same_noted same = record { standing = same.standing; lines = ap (λ n. n + 1) same.lines }
-
--- the events are the same
-same_events : {st tt : State} → AreSame st tt → Alike (events st) (events tt)
-same_events same = alike-map (λ (x : Standing). x.event) same.standing
-
--- an event more in both
-same_fired : {st tt : State} (e : Event) → AreSame st tt
-    → AreSame (record { standing = record { event = e; line = st.lines } ∷ st.standing; lines = st.lines + 1 }) (record { standing = record { event = e; line = tt.lines } ∷ tt.standing; lines = tt.lines + 1 })
-same_fired {st} {tt} e same = record {
-  standing = subst (λ n. Alike (record { event = e; line = st.lines } ∷ st.standing) (record { event = e; line = n } ∷ tt.standing)) same.lines (more here same.standing);
-  lines = ap (λ n. n + 1) same.lines;
-}
+use Rattle.ic_theory.proofs.SameStates.{same_noted, same_events, same_fired}
 
 -- the same answer from another state, and the state that it leaves there
 pub record Moved (s : Start) (tt : State) (c : Call) (q : Reply) (next : State) : Type 0 where

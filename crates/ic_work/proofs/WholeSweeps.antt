@@ -14,12 +14,12 @@ use Rattle.ic_journal.specs.Views.{BenchView, set_of}
 use Rattle.ic_journal.specs.Benches.{IsAt, IsBench}
 use Rattle.ic_journal.proofs.MachineSteps.{events_at}
 use Rattle.ic_journal.proofs.SameSets.{full-alike}
-use Rattle.ic_reduce.specs.declared.end.End.{End}
-use Rattle.ic_reduce.specs.declared.end.End.TheVariants.{Normal, Budget, Limit, Memory}
-use Rattle.ic_reduce.specs.Reduced.{IsReduced, Reduces}
-use Rattle.ic_reduce.specs.Reducing.{AreFiredInTurn, IsLeastActive}
-use Rattle.ic_reduce.specs.Reducing as turn
-use Rattle.ic_reduce.proofs.Continuing.{then_continues}
+use Rattle.ic_journal.specs.declared.reducing.end.End.{End}
+use Rattle.ic_journal.specs.declared.reducing.end.End.TheVariants.{Normal, Budget, Limit, Memory}
+use Rattle.ic_journal.specs.Reduced.{IsReduced, Reduces}
+use Rattle.ic_journal.specs.Reducing.{AreFiredInTurn, IsLeastActive}
+use Rattle.ic_journal.specs.Reducing as turn
+use Rattle.ic_journal.proofs.Continuing.{then_continues}
 use Rattle.ic_work.proofs.FiredByWorkers.{FiredByWorkers}
 use Rattle.ic_work.specs.Sweeps.{MeetsLimit, Ends, Sweeps}
 use Rattle.ic_work.proofs.Extending.{extends, then_extends}

@@ -11,7 +11,7 @@ use Rattle.ic_theory.proofs.Machines.{history_length}
 use Rattle.ic_claim.specs.Seats.{SeatValue}
 use Rattle.ic_journal.specs.Views.{BenchView}
 use Rattle.ic_journal.specs.Benches.{IsAt, IsBench}
-use Rattle.ic_reduce.specs.Continuing.{IsFire}
+use Rattle.ic_journal.specs.Continuing.{IsFire}
 use Rattle.ic_shared.specs.Agrees.{Agrees}
 use Rattle.ic_shared.specs.Openings.{OpeningView, opened}
 use Rattle.ic_shared.specs.Passes.{PassView, added_by_all}
@@ -24,7 +24,7 @@ use Rattle.ic_work.proofs.FiringRuns.{firings_add, few_fired, count_fired, are_f
 use Rattle.ic_work.proofs.HistoryParts.{same_history, history_parts, history_on, carried, one_state}
 use Rattle.ic_work.proofs.Passes.{added_by_all-append}
 use Rattle.ic_work.proofs.RunLines.{lines_fire}
-use Rattle.ic_work.proofs.SameStates.{AreSame}
+use Rattle.ic_theory.specs.Machine.{AreSame}
 
 -- the lines are firings from a state on, and lead to one that the bench is at
 record FiresFrom (old new : BenchView) (lines : List Line) (st : State) : Type 0 where

@@ -12,11 +12,11 @@ use Rattle.ic_theory.specs.Sound.{IsSound}
 use Rattle.ic_set.specs.Views.{standing}
 use Rattle.ic_journal.specs.Views.{BenchView, set_of}
 use Rattle.ic_journal.specs.Benches.{IsAt}
-use Rattle.ic_reduce.specs.declared.end.End.{End}
-use Rattle.ic_reduce.specs.declared.end.End.TheVariants.{Normal, Budget, Limit, Memory}
-use Rattle.ic_reduce.specs.Continuing.{Continues}
-use Rattle.ic_reduce.specs.Reduced.{IsReduced}
-use Rattle.ic_reduce.specs.Reducing.{IsNormal, IsLeastActive}
+use Rattle.ic_journal.specs.declared.reducing.end.End.{End}
+use Rattle.ic_journal.specs.declared.reducing.end.End.TheVariants.{Normal, Budget, Limit, Memory}
+use Rattle.ic_journal.specs.Continuing.{Continues}
+use Rattle.ic_journal.specs.Reduced.{IsReduced}
+use Rattle.ic_journal.specs.Reducing.{IsNormal, IsLeastActive}
 use Rattle.ic_work.specs.declared.swept.SweepFault.{SweepFault}
 use Rattle.ic_work.specs.declared.swept.SweepFault.TheVariants as fault
 use Rattle.ic_work.specs.Firings.{AreFirings}

@@ -4,7 +4,7 @@ ghost use Rattle.ic_work.specs.Workers.{IsFirst, IsGuest};
 use crate::floor::Floor;
 use crate::worker::Worker;
 use ic_claim::{Claims, MAX_WORKERS};
-use ic_reduce::Gate;
+use ic_journal::Gate;
 use ic_shared::Pass;
 use std::alloc::Global;
 use std::snapshot::Snapshot;

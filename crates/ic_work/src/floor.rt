@@ -1,8 +1,8 @@
 use crate::hints::Hint;
 use crossbeam_deque::Stealer;
 use ic_claim::Claims;
+use ic_journal::Gate;
 use ic_name::AgentId;
-use ic_reduce::Gate;
 use ic_shared::Shared;
 use std::sync::ledger::Ledger;
 

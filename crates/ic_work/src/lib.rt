@@ -18,6 +18,6 @@ mod tickets;
 mod worker;
 
 pub use ic_claim::{MAX_BUDGET, MAX_WORKERS};
-pub use ic_reduce::{End, Gate, NoGate};
+pub use ic_journal::{End, Gate, NoGate};
 pub use sweeping::sweep;
 pub use swept::{SweepFault, Swept};

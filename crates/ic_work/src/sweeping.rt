@@ -1,6 +1,6 @@
 ghost use Rattle.std.specs.Prelude.{◌≡◌, ◌+◌, ◌<◌, ◌≤◌, ℕ, [], All, IfErr, IfOk, replicate, vec_len, vec_capacity};
 ghost use Rattle.ic_claim.specs.Views.{new_view};
-ghost use Rattle.ic_reduce.specs.Reduced.{Reduces};
+ghost use Rattle.ic_journal.specs.Reduced.{Reduces};
 ghost use Rattle.ic_shared.specs.Passes.{empty_pass};
 ghost use Rattle.ic_work.specs.Sweeps.{IsGivenBack, Sweeps};
 ghost use Rattle.ic_work.specs.Workers.{IsFirst, IsGuest};
@@ -14,9 +14,8 @@ use crate::swept::{SweepFault, Swept};
 use crate::worker::Worker;
 use crossbeam_deque::Worker as Deque;
 use ic_claim::{Claims, MAX_BUDGET, MAX_WORKERS, Seat};
-use ic_journal::{Bench, Store};
+use ic_journal::{Bench, Gate, Store, fire_least};
 use ic_name::AgentId;
-use ic_reduce::{Gate, fire_least};
 use ic_shared::{Pass, settle, share};
 use std::alloc::Global;
 use std::collections::VecDeque;

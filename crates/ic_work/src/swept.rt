@@ -1,9 +1,8 @@
 ghost use Rattle.std.specs.Prelude.{◌≡◌};
 ghost use Rattle.ic_work.specs.Faults.{sweep_number};
 
-use ic_journal::{Bench, Store};
+use ic_journal::{Bench, End, Store};
 use ic_name::numbers;
-use ic_reduce::End;
 use ic_shared::SettleFault;
 
 /// What a sweep leaves.

@@ -1,7 +1,7 @@
 use Rattle.std.proofs.Common.{◌≡◌, ◌≢◌, rules, refl}
 use Rattle.clap.specs.Words.{kind_of}
 use Rattle.clap.specs.declared.error.kind.ErrorKind.TheVariants.{OutOfMemory}
-use Rattle.ic_lines.specs.Faults.{AppendsFront}
+use Rattle.ic_command.specs.Faults.{AppendsFront}
 use Rattle.ic_session.specs.declared.fault.Fault.TheVariants.{Write}
 use Rattle.ic_bench.specs.Runs.{IsMistake}
 use Rattle.ic_bench.specs.Runs.Explains.{helped, unheard, wanting, refused}

@@ -1,6 +1,6 @@
 use Rattle.std.proofs.Common.{◌≢◌, ◌∙◌, sym, ap, [], length, drop, take}
 use Rattle.std.proofs.lemmas.Bool.{eqb-true, eqb-false}
-use Rattle.ic_lines.proofs.Taken.{no_bytes}
+use Rattle.ic_command.proofs.Taken.{no_bytes}
 use Rattle.ic_command.proofs.WordFacts.{cut_word, cut_none}
 use Rattle.ic_command.proofs.words.next_word.Goals as goal
 

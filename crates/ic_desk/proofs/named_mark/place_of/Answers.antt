@@ -3,8 +3,8 @@ use Rattle.std.proofs.lemmas.List.{take_all}
 use Rattle.std.proofs.lemmas.Option.{slice_get-get_or}
 use Rattle.ic_path.specs.Orders.{IsIn}
 use Rattle.ic_desk.specs.Views.{NamedView}
-use Rattle.ic_desk.proofs.Marks.{none_more}
 use Rattle.ic_desk.proofs.named_mark.place_of.Goals as goal
+use Rattle.ic_path.proofs.ListPlaces.{none_more}
 
 pub returns-then-is : goal.returns-then-is
 returns-then-is c =

@@ -2,8 +2,9 @@ use Rattle.std.proofs.Common.{◌≡◌, ℕ, ◌∙◌, ◌+◌, ◌-◌, Some,
 use Rattle.ic_name.specs.Spots.{same_spot}
 use Rattle.ic_net.specs.FarTables.{end_at}
 use Rattle.std.specs.Prelude.{if◌then◌else◌}
-use Rattle.ic_net.proofs.FarTableFacts.{link_inside, one_more, table_more, rings_more, at_most_one}
+use Rattle.ic_net.proofs.FarTableFacts.{link_inside, one_more, table_more, rings_more}
 use Rattle.ic_net.proofs.far.far_table.Goals as goal
+use Rattle.ic_theory.proofs.PairPorts.{at_most_one}
 
 pub join-requires-clause-left : goal.join-requires-clause-left
 join-requires-clause-left c = (link_inside _ _ _ _ _ _ c.requires.links (sym c.get.ensures ∙ c.in-Some.is)).0

@@ -1,6 +1,6 @@
 use Rattle.std.proofs.Common.{◌≡◌, ◌++◌, map}
 use Rattle.std.specs.List.{filter_map}
-use Rattle.ic_sheet.specs.Sheets.{listed_agent}
+use Rattle.ic_net.specs.Sheets.{listed_agent}
 use Rattle.ic_net.specs.Nets.{pair_led_by}
 use Rattle.ic_net.proofs.pairs.active_of.Given as goal
 

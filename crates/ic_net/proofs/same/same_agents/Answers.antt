@@ -2,7 +2,7 @@ use Rattle.std.proofs.Common.{◌≡◌, ◌∙◌, rules, length, map, sym}
 use borrow.Author.Tests.{tests}
 use Rattle.std.proofs.lemmas.List.{length-map}
 use Rattle.std.proofs.lemmas.Iterator.{YieldsList-from_zip, same_from_all}
-use Rattle.ic_sheet.specs.Sheets.{listed_agent}
+use Rattle.ic_net.specs.Sheets.{listed_agent}
 use Rattle.ic_net.proofs.SameTables.{listed_rest}
 use Rattle.ic_net.proofs.same.same_agents.Goals as goal
 

@@ -2,7 +2,7 @@ use Rattle.std.proofs.Common.{◌≡◌, length, map, take}
 use Rattle.std.specs.BTreeMap.{IsOrdered}
 use Rattle.ic_name.specs.Names.{name_cmp}
 use Rattle.ic_net.specs.FarTables.{agent_partner}
-use Rattle.ic_sheet.specs.Sheets.{listed_agent}
+use Rattle.ic_net.specs.Sheets.{listed_agent}
 use Rattle.ic_net.specs.Nets.{listed_from}
 use Rattle.ic_net.proofs.tables.agents_of.Given as goal
 

@@ -1,6 +1,6 @@
 use Rattle.std.proofs.Common.{◌≡◌, ◌++◌, map}
-use Rattle.ic_sheet.specs.Sheets.{listed_agent}
-use Rattle.ic_sheet.specs.Views.{shown_agent}
+use Rattle.ic_net.specs.Sheets.{listed_agent}
+use Rattle.ic_net.specs.Views.{shown_agent}
 use Rattle.ic_net.proofs.views.agent_views.Given as goal
 
 abbrev pub invariant-loop-name : goal.invariant-loop-name

@@ -1,5 +1,5 @@
 use Rattle.std.proofs.Common.{◌≡◌, ◌++◌, map}
-use Rattle.ic_sheet.specs.Views.{shown_free}
+use Rattle.ic_net.specs.Views.{shown_free}
 use Rattle.ic_net.proofs.views.free_views.Given as goal
 
 abbrev pub invariant-loop-number : goal.invariant-loop-number

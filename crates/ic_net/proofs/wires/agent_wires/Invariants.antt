@@ -1,7 +1,7 @@
 use Rattle.std.proofs.Common.{◌≡◌, ◌≤◌, ◌+◌, ◌*◌, length, map}
 use Rattle.std.specs.Prelude.{count_by}
 use Rattle.std.specs.List.{flat_map}
-use Rattle.ic_sheet.specs.Sheets.{listed_agent, agent_ends, is_lesser_end}
+use Rattle.ic_net.specs.Sheets.{listed_agent, agent_ends, is_lesser_end}
 use Rattle.ic_net.proofs.wires.agent_wires.Given as goal
 
 abbrev pub invariant-loop-name : goal.invariant-loop-name

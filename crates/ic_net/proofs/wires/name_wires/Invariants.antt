@@ -1,6 +1,6 @@
 use Rattle.std.proofs.Common.{◌≡◌, ◌≤◌, ◌+◌, length, map}
 use Rattle.std.specs.Prelude.{count_by}
-use Rattle.ic_sheet.specs.Sheets.{name_end, is_lesser_end}
+use Rattle.ic_net.specs.Sheets.{name_end, is_lesser_end}
 use Rattle.ic_net.proofs.wires.name_wires.Given as goal
 
 abbrev pub invariant-loop-number : goal.invariant-loop-number

@@ -2,7 +2,7 @@ use Rattle.std.proofs.Common.{subst, sym, ◌∷◌}
 use Rattle.ic_path.specs.Orders.{Alike}
 use Rattle.ic_path.proofs.Alikes.{alike_back}
 use Rattle.ic_roster.specs.RecordChanges.{Puts}
-use Rattle.ic_cause.proofs.ListEnds.{last_first}
+use Rattle.ic_path.proofs.ListEnds.{last_first}
 use Rattle.ic_roster.proofs.RecordFacts.{room_lines, changes_after}
 use Rattle.ic_roster.proofs.dependents.put_at.Goals as goal
 

@@ -7,10 +7,11 @@ use Rattle.std.proofs.lemmas.List.Quantifiers.{position-Some}
 use Rattle.ic_path.specs.Orders.{Alike}
 use Rattle.ic_name.specs.declared.ids.EventId.{EventId}
 use Rattle.ic_name.specs.Spots.{same_event}
-use Rattle.ic_cause.proofs.EventOrder.{same_event_true, same_event_flips}
-use Rattle.ic_cause.proofs.ListTests.{found_any}
-use Rattle.ic_cause.proofs.SwapRemoves.{swap_removed}
+use Rattle.ic_name.proofs.EventOrder.{same_event_flips}
+use Rattle.ic_path.proofs.ListTests.{found_any}
+use Rattle.ic_path.proofs.SwapRemoves.{swap_removed}
 use Rattle.ic_roster.proofs.dependents.take_out.Goals as goal
+use Rattle.ic_name.proofs.SameFacts.{same_event_true}
 
 pub returns-in-Some : goal.returns-in-Some
 returns-in-Some c =

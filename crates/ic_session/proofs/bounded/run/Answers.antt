@@ -1,7 +1,7 @@
 use Rattle.std.proofs.Common.{ℕ, List, Option, subst}
 use Rattle.std.specs.Prelude.{IfOk, IfSome, OnErr}
 use Rattle.std.specs.Io.KnownBytes.{Appends}
-use Rattle.ic_cause.proofs.Errors.{at_error}
+use Rattle.ic_path.proofs.Errors.{at_error}
 use Rattle.ic_session.specs.Sessions.{IsBegun, Writes}
 use Rattle.ic_session.proofs.SessionFacts.{begun_nothing, fresh_left}
 use Rattle.ic_session.proofs.bounded.run.Goals as goal

@@ -1,5 +1,5 @@
 use Rattle.std.proofs.Common.{◌≡◌, ◌+◌, true, sym, subst, arith}
-use Rattle.ic_lines.specs.Left.{left}
+use Rattle.ic_command.specs.Left.{left}
 use Rattle.ic_session.proofs.ListedLines.{HasListed, listed_none, listed_more, listed_fails, listed_all, listed_none_all}
 use Rattle.ic_session.proofs.listed_events.listed_events.Goals as goal
 use Rattle.ic_session.proofs.listed_events.listed_events.Goals.{in-Event+in_ok-push-in-Event, in-Unlisted}

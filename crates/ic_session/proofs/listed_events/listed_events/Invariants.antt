@@ -1,5 +1,5 @@
 use Rattle.std.proofs.Common.{◌≤◌}
-use Rattle.ic_lines.specs.Left.{left, work}
+use Rattle.ic_command.specs.Left.{left, work}
 use Rattle.ic_session.proofs.ListedLines.{HasListed}
 use Rattle.ic_session.proofs.listed_events.listed_events.Given as goal
 

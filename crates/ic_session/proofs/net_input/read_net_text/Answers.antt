@@ -1,7 +1,7 @@
 use Rattle.std.proofs.Common.{rules, arith, ◌∙◌, sym, ap, ◌++◌, ◌<◌, length, subst}
-use Rattle.ic_grammar.specs.declared.limits.TheConstants.{MAX_TEXT}
+use Rattle.ic_text.specs.declared.grammar.limits.TheConstants.{MAX_TEXT}
 use Rattle.ic_session.specs.InputLines.{is_bar, whole_line}
-use Rattle.ic_lines.specs.Left.{left}
+use Rattle.ic_command.specs.Left.{left}
 use Rattle.ic_session.proofs.InputFacts.{HasRead, read_more, read_bar, read_long, read_over}
 use Rattle.ic_session.proofs.net_input.read_net_text.Goals as goal
 

@@ -1,5 +1,5 @@
 use Rattle.std.proofs.Common.{◌≤◌}
-use Rattle.ic_lines.specs.Left.{left, work}
+use Rattle.ic_command.specs.Left.{left, work}
 use Rattle.ic_session.proofs.InputFacts.{HasRead}
 use Rattle.ic_session.proofs.net_input.read_net_text.Given as goal
 

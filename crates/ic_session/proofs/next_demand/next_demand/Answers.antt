@@ -1,6 +1,6 @@
 use Rattle.std.proofs.Common.{◌≡◌, ℕ, List, Option, subst}
 use Rattle.ic_command.specs.declared.question.Question.{Question}
-use Rattle.ic_lines.specs.Left.{left}
+use Rattle.ic_command.specs.Left.{left}
 use Rattle.ic_session.specs.Modes.{IsQuestionAt}
 use Rattle.ic_session.specs.declared.mode.Mode.{Mode}
 use Rattle.ic_session.proofs.DemandsTaken.{question_taken, request_taken, long_demand}

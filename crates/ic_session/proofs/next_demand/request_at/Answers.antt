@@ -1,7 +1,7 @@
 use Rattle.std.proofs.Common.{◌≡◌, ℕ, List, subst}
 use Rattle.ic_command.specs.Asked.{IsAsked}
 use Rattle.ic_command.specs.declared.asked.Asked.{Asked}
-use Rattle.ic_lines.specs.Left.{left}
+use Rattle.ic_command.specs.Left.{left}
 use Rattle.ic_session.proofs.RequestsTaken.{alone_at, absorb_at, refused_at}
 use Rattle.ic_session.proofs.next_demand.request_at.Goals as goal
 

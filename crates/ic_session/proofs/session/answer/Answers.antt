@@ -1,7 +1,7 @@
 use Rattle.std.proofs.Common.{◌≡◌, ◌≢◌, sym, ap, ◌∙◌, subst}
 use Rattle.std.proofs.lemmas.Result.{err_from_is_err_and}
-use Rattle.ic_lines.specs.Faults.{AppendsFront}
-use Rattle.ic_cause.proofs.Errors.{at_error}
+use Rattle.ic_command.specs.Faults.{AppendsFront}
+use Rattle.ic_path.proofs.Errors.{at_error}
 use Rattle.ic_session.specs.declared.fault.Fault.{Fault}
 use Rattle.ic_session.specs.declared.fault.Fault.TheVariants as fault
 use Rattle.ic_session.specs.Faults.{fault_of}

@@ -1,6 +1,6 @@
 use Rattle.std.proofs.Common.{refl, arith, ◌∙◌}
-use Rattle.ic_lines.specs.Left.{left}
-use Rattle.ic_cause.proofs.Errors.{at_error}
+use Rattle.ic_command.specs.Left.{left}
+use Rattle.ic_path.proofs.Errors.{at_error}
 use Rattle.ic_session.proofs.AnswerFacts.{answered_none, answered_more, answered_all, all_answered, answered_begun, answered_broken, all_begun}
 use Rattle.ic_session.proofs.session.answer_all.Goals as goal
 

@@ -1,5 +1,5 @@
 use Rattle.std.proofs.Common.{◌≡◌, ◌≤◌}
-use Rattle.ic_lines.specs.Left.{left, work}
+use Rattle.ic_command.specs.Left.{left, work}
 use Rattle.ic_desk.specs.Desks.{State}
 use Rattle.ic_desk.specs.Views.{IsDeskAt}
 use Rattle.ic_session.proofs.AnswerFacts.{HasAnswered}

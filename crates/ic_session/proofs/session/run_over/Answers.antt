@@ -1,10 +1,10 @@
 use Rattle.std.proofs.Common.{Err, ap, ◌∙◌, subst}
 use Rattle.std.proofs.lemmas.Result.{IfOk-weaker, on_err_weaker}
-use Rattle.ic_cause.proofs.Errors.{at_error}
-use Rattle.ic_grammar.specs.Grammar.{Denotes}
-use Rattle.ic_grammar.specs.Faults.{Stands, IsFirstFault}
-use Rattle.ic_grammar.specs.declared.refusal.Refusal.{Refusal}
-use Rattle.ic_lines.specs.Left.{left}
+use Rattle.ic_path.proofs.Errors.{at_error}
+use Rattle.ic_text.specs.Grammar.{Denotes}
+use Rattle.ic_text.specs.Faults.{Stands, IsFirstFault}
+use Rattle.ic_text.specs.declared.grammar.refusal.Refusal.{Refusal}
+use Rattle.ic_command.specs.Left.{left}
 use Rattle.ic_session.proofs.SessionFacts.{wrote_too_long, wrote_fault, wrote_answers, begun_nothing, begun_too_long, begun_fault, begun_answers}
 use Rattle.ic_session.proofs.AnswerFacts.{opened_answers, opened_begun}
 use Rattle.ic_session.proofs.session.run_over.Goals as goal

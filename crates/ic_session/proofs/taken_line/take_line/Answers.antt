@@ -1,4 +1,4 @@
-use Rattle.ic_lines.specs.Left.{left}
+use Rattle.ic_command.specs.Left.{left}
 use Rattle.ic_session.proofs.LineTaking.{line_taken, long_taken}
 use Rattle.ic_session.proofs.taken_line.take_line.Goals as goal
 

@@ -2,7 +2,7 @@ use Rattle.std.proofs.Common.{sym, ap, ◌∙◌, subst}
 use Rattle.ic_name.specs.declared.ids.EventId.{EventId}
 use Rattle.ic_path.specs.Orders.{Alike}
 use Rattle.ic_path.proofs.Alikes.{alike_self, alike_back}
-use Rattle.ic_cause.proofs.Errors.{at_error}
+use Rattle.ic_path.proofs.Errors.{at_error}
 use Rattle.ic_roster.specs.Rosters.{RosterView}
 use Rattle.ic_set.specs.Admission.{LeavesAll}
 use Rattle.ic_set.proofs.Namings.{own_lines_alike}

@@ -4,7 +4,7 @@ use Rattle.ic_name.specs.declared.rules.RuleEnd.{RuleEnd}
 use Rattle.ic_name.specs.declared.rules.RuleEnd.TheVariants.{Child}
 use Rattle.ic_path.specs.Orders.{Alike}
 use Rattle.ic_path.proofs.Alikes.{alike_self}
-use Rattle.ic_cause.proofs.Errors.{at_error}
+use Rattle.ic_path.proofs.Errors.{at_error}
 use Rattle.ic_link.specs.Links.{CanAdd}
 use Rattle.ic_set.specs.Joining.{made_links}
 use Rattle.ic_set.proofs.AddedInTurn.{next_in, can_add_next}

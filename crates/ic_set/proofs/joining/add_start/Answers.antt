@@ -2,7 +2,7 @@ use Rattle.std.proofs.Common.{◌<◌, ◌≤◌, ◌∷◌, length, map, sym, t
 use Rattle.std.proofs.lemmas.List.{take_all, take-append-drop, length-map}
 use Rattle.ic_path.specs.Orders.{Alike}
 use Rattle.ic_path.proofs.Alikes.{alike_self}
-use Rattle.ic_cause.proofs.Errors.{at_error}
+use Rattle.ic_path.proofs.Errors.{at_error}
 use Rattle.ic_link.specs.Links.{CanAdd}
 use Rattle.ic_set.specs.Joining.{moved_link}
 use Rattle.ic_set.proofs.AddedInTurn.{next_in, can_add_next}

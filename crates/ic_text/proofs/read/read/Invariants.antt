@@ -1,6 +1,6 @@
 use Rattle.std.proofs.Common.{◌≡◌, ◌+◌, ◌≤◌, length}
-use Rattle.ic_grammar.specs.declared.limits.TheConstants.{MAX_TEXT}
-use Rattle.ic_grammar.specs.Tokens.{items, between}
+use Rattle.ic_text.specs.declared.grammar.limits.TheConstants.{MAX_TEXT}
+use Rattle.ic_text.specs.Tokens.{items, between}
 use Rattle.ic_text.specs.Reading.{run, initial, IsWithin}
 use Rattle.ic_text.specs.Views.{left, state_of}
 use Rattle.ic_text.proofs.read.read.Given as goal

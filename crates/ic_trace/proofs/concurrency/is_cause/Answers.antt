@@ -1,7 +1,7 @@
 use Rattle.std.proofs.Common.{◌≡◌, ℕ, refl, sym, subst, ◌∙◌, nat_eq}
 use Rattle.std.specs.List.{list_any}
 use Rattle.std.proofs.lemmas.Bool.{eqb-true, eq-eqb}
-use Rattle.ic_cause.proofs.ListTests.{any-picked, any_in}
+use Rattle.ic_path.proofs.ListTests.{any-picked, any_in}
 use Rattle.ic_trace.specs.declared.known.Known.{Known}
 use Rattle.ic_trace.proofs.CausesByNumber.{cause_by_number}
 use Rattle.ic_trace.proofs.concurrency.is_cause.Goals as goal

@@ -5,13 +5,13 @@ use Rattle.std.specs.declared.cmp.Ordering.{Ordering}
 use Rattle.std.specs.declared.cmp.Ordering.TheVariants.{Less, Equal, Greater}
 use Rattle.ic_path.specs.Orders.{IsIn}
 use Rattle.ic_path.proofs.Picks.{in-cons_cases, none_in, in_first, pick_before}
-use Rattle.ic_past.proofs.SeenSoFar.{seen_more}
 use Rattle.ic_set.proofs.InPlace.{in_at}
-use Rattle.ic_shown.proofs.Elements.{in-append_cases, in_behind}
+use Rattle.ic_path.proofs.InLists.{in-append_cases, in_behind}
 use Rattle.ic_trace.specs.declared.known.Known.{Known}
 use Rattle.ic_trace.specs.Known.{rank_at, IsRankAbove}
 use Rattle.ic_trace.proofs.ByNumber.{read_rank}
 use Rattle.ic_trace.proofs.known.rank_above.Goals as goal
+use Rattle.ic_path.proofs.ListPlaces.{seen_more}
 
 -- the greater of two numbers
 record Greatest (a b new : ℕ) : Type 0 where

@@ -1,13 +1,13 @@
 use Rattle.std.proofs.Common.{◌≤◌, Option, length, refl, sym, ap, arith, subst}
 use Rattle.std.proofs.lemmas.List.{length-take-le, take_all}
 use Rattle.ic_name.specs.declared.limits.TheConstants.{MAX_LINES}
-use Rattle.ic_past.specs.Pasts.{PastView}
-use Rattle.ic_past.proofs.SeenSoFar.{seen_more}
+use Rattle.ic_trace.specs.Pasts.{PastView}
 use Rattle.ic_theory.specs.Starts.{IsProper}
 use Rattle.ic_trace.specs.declared.reading.Step.{Step}
 use Rattle.ic_trace.specs.Readings.{ReadsAs}
 use Rattle.ic_trace.proofs.ReadLists.{followed_none, read_none, read_more, few_stand, refused_first, read_all}
 use Rattle.ic_trace.proofs.reading.read.Goals as goal
+use Rattle.ic_path.proofs.ListPlaces.{seen_more}
 
 pub loop-number-init : goal.loop-number-init
 loop-number-init c =

@@ -1,7 +1,7 @@
 use Rattle.std.proofs.Common.{◌≡◌, ℕ, List, Bool, Option, Some, None, true, option_map, refl, subst, Vec, Global}
 use Rattle.ic_name.specs.Names.{Name}
 use Rattle.ic_name.specs.Events.{Event, Pair}
-use Rattle.ic_past.specs.Pasts.{PastView, Fires, AreCausesNamed, IsWith}
+use Rattle.ic_trace.specs.Pasts.{PastView, Fires, AreCausesNamed, IsWith}
 use Rattle.ic_theory.specs.Active.{IsActive}
 use Rattle.ic_trace.specs.declared.known.Known.{Known}
 use Rattle.ic_trace.specs.Readings.{IsOnlyActive}

@@ -1,6 +1,6 @@
 use Rattle.std.proofs.Common.{Bool, Some, None, subst}
 use Rattle.ic_name.specs.Names.{Name}
-use Rattle.ic_past.specs.Pasts.{Undoes}
+use Rattle.ic_trace.specs.Pasts.{Undoes}
 use Rattle.ic_trace.specs.Known.{IsNumberOf}
 use Rattle.ic_trace.proofs.ReadUndos.{undo_refused, undone_known, accepted_undo}
 use Rattle.ic_trace.proofs.reading.read_undo.Goals as goal

@@ -1,7 +1,7 @@
 -- The active pair with the least lead is fired.
 use Rattle.std.proofs.lemmas.Result.{IfOk-weaker}
 use Rattle.ic_command.specs.declared.question.Question.TheVariants.{Step}
-use Rattle.ic_reduce.proofs.LeastFired.{least_at}
+use Rattle.ic_journal.proofs.LeastFired.{least_at}
 use Rattle.ic_desk.proofs.DeskTellings.{nothing_told, memory_told, step_told}
 use Rattle.ic_desk.proofs.desk.Desk.step.Goals as goal
 

@@ -1,6 +1,6 @@
 use Rattle.std.proofs.Common.{◌≡◌, ◌≤◌, ◌+◌, ◌∷◌, ◌++◌, [], None, Ok, refl, sym, subst, ◌∙◌, arith}
 use Rattle.std.proofs.lemmas.List.{length-map}
-use Rattle.ic_cause.proofs.Errors.{at_error}
+use Rattle.ic_path.proofs.Errors.{at_error}
 use Rattle.ic_theory.specs.Machine.{IsDeep}
 use Rattle.ic_set.specs.Pairs.{IsPairOf}
 use Rattle.ic_set.proofs.GrownNames.{grown_keeps}

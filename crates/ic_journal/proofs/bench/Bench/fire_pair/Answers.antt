@@ -6,10 +6,10 @@ use Rattle.ic_history.specs.Noted.{NotedLine, Limited, line_in}
 use Rattle.ic_journal.specs.Views.{set_of, view_of}
 use Rattle.ic_history.specs.Limits.{reply_of}
 use Rattle.ic_journal.specs.Calls.{FiresPair}
-use Rattle.ic_journal.proofs.Answering.{same_set}
 use Rattle.ic_journal.proofs.KeptBenches.{keeps_self, same_kept, same_stays, refused_kept, refuses, roomier_fires}
 use Rattle.ic_journal.proofs.PairLimits.{meets_same, limit_answer, pair_refused}
 use Rattle.ic_journal.proofs.bench.Bench.fire_pair.Goals as goal
+use Rattle.ic_set.proofs.Admissions.{same_self}
 
 pub returns-in_default : goal.returns-in_default
 returns-in_default g c =
@@ -17,7 +17,7 @@ returns-in_default g c =
     let count = c.len-line.ensures.count in
     let not_full = c.if-line-eq-MAX_LINES.false in
     let long = length-map c.self.inside.history.lines (line_in c.self.inside.set.names) in
-    rw (← c.self.view_is) (λ e p. (omega (arith, few, count, not_full, long), same_stays c.self.inside.set c.self.inside.set c.self.inside.history c.reserve.new.self c.self.invariant (same_set _) (keeps_self _) c.reserve.ensures.lines c.reserve.ensures.more))
+    rw (← c.self.view_is) (λ e p. (omega (arith, few, count, not_full, long), same_stays c.self.inside.set c.self.inside.set c.self.inside.history c.reserve.new.self c.self.invariant (same_self _) (keeps_self _) c.reserve.ensures.lines c.reserve.ensures.more))
 
 pub invariant_of-self-in-Some : goal.invariant_of-self-in-Some
 invariant_of-self-in-Some g c =
@@ -72,4 +72,4 @@ returns-in-Ok-admit_noted g c =
     subst (λ v. FiresPair v e (Ok fired) c.admit_noted.new.self) c.self.view_is fires)
 
 pub invariant_of-self-in_default-limit_of : goal.invariant_of-self-in_default-limit_of
-invariant_of-self-in_default-limit_of g c = same_kept c.self.inside.set c.self.inside.set c.self.inside.history c.reserve.new.self c.self.invariant (same_set _) (keeps_self _) c.reserve.ensures.lines c.reserve.ensures.few
+invariant_of-self-in_default-limit_of g c = same_kept c.self.inside.set c.self.inside.set c.self.inside.history c.reserve.new.self c.self.invariant (same_self _) (keeps_self _) c.reserve.ensures.lines c.reserve.ensures.few

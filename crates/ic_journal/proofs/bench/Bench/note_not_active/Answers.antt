@@ -6,14 +6,14 @@ use Rattle.ic_set.specs.Views.{standing}
 use Rattle.ic_history.specs.Noted.{NotActive}
 use Rattle.ic_journal.specs.Views.{view_of}
 use Rattle.ic_journal.specs.Calls.{Fires}
-use Rattle.ic_journal.proofs.Answering.{same_set}
 use Rattle.ic_journal.proofs.KeptBenches.{keeps_self, same_kept, same_stays, refused_kept, refuses}
 use Rattle.ic_journal.proofs.MachineSteps.{inactive_answer}
 use Rattle.ic_journal.proofs.bench.Bench.note_not_active.Goals as goal
 use Rattle.ic_journal.proofs.bench.Bench.note_not_active.Goals.{in-Ok-note_not_active, in-Err}
+use Rattle.ic_set.proofs.Admissions.{same_self}
 
 pub returns-in_default : goal.returns-in_default
-returns-in_default g c = rw (← c.self.view_is) (rw (← c.self.view_is) at c.requires.short, refl, same_stays c.self.inside.set c.self.inside.set c.self.inside.history c.reserve.new.self c.self.invariant (same_set _) (keeps_self _) c.reserve.ensures.lines c.reserve.ensures.more)
+returns-in_default g c = rw (← c.self.view_is) (rw (← c.self.view_is) at c.requires.short, refl, same_stays c.self.inside.set c.self.inside.set c.self.inside.history c.reserve.new.self c.self.invariant (same_self _) (keeps_self _) c.reserve.ensures.lines c.reserve.ensures.more)
 
 pub invariant_of-self-2 : goal.invariant_of-self-2
 invariant_of-self-2 g c =
@@ -25,7 +25,7 @@ invariant_of-self-2 g c =
       | in-Ok-note_not_active w ↦
           let more : c.note_not_active.new.self.lines ≡ h.lines ++ NotActive e ∷ [] = rw c.reserve.ensures.lines at w.in-Ok-note_not_active.ensures.lines in
           refused_kept s h c.note_not_active.new.self c.self.invariant (NotActive e) (Fire e) reply.NotActive more tt refl (inactive_answer (view_of s h) e none) w.in-Ok-note_not_active.ensures.few
-      | in-Err w ↦ rw w.in-Err.ensures.error (same_kept s s h c.reserve.new.self c.self.invariant (same_set _) (keeps_self _) c.reserve.ensures.lines c.reserve.ensures.few)
+      | in-Err w ↦ rw w.in-Err.ensures.error (same_kept s s h c.reserve.new.self c.self.invariant (same_self _) (keeps_self _) c.reserve.ensures.lines c.reserve.ensures.few)
     ]
 
 pub returns : goal.returns
@@ -43,6 +43,6 @@ returns g c =
           let refused = refuses s h c.note_not_active.new.self c.self.invariant (NotActive e) (Fire e) reply.NotActive more tt refl (inactive_answer (view_of s h) e none) room in
           subst (λ f. Fires (view_of s h) e (Err f) (view_of s c.note_not_active.new.self)) (sym w.result-is) refused
       | in-Err w ↦
-          let stays = same_stays s s h c.note_not_active.new.self c.self.invariant (same_set _) (keeps_self _) (rw w.in-Err.ensures.error c.reserve.ensures.lines) (rw w.in-Err.ensures.error c.reserve.ensures.more) in
+          let stays = same_stays s s h c.note_not_active.new.self c.self.invariant (same_self _) (keeps_self _) (rw w.in-Err.ensures.error c.reserve.ensures.lines) (rw w.in-Err.ensures.error c.reserve.ensures.more) in
           subst (λ f. Fires (view_of s h) e (Err f) (view_of s c.note_not_active.new.self)) (sym w.result-is) (rw (← c.self.view_is) at c.requires.short, w.in-Err.ensures.back, stays)
     ])

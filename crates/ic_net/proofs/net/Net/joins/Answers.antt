@@ -1,7 +1,7 @@
 use Rattle.std.proofs.Common.{◌≡◌, ◌∙◌, map, ap, sym, None}
 use Rattle.std.specs.Prelude.{slice_get}
 use Rattle.ic_theory.specs.Listed.{agent_among, partner_at}
-use Rattle.ic_sheet.specs.Sheets.{listed_agent}
+use Rattle.ic_net.specs.Sheets.{listed_agent}
 use Rattle.ic_net.specs.Tables.{partner_in}
 use Rattle.ic_net.proofs.Lookups.{found_partner}
 use Rattle.ic_net.proofs.net.Net.joins.Goals as goal

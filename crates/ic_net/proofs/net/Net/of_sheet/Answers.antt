@@ -3,7 +3,7 @@ use Rattle.std.proofs.IntoIterSteps.{All-taken}
 use Rattle.std.specs.BTreeMap.{IsFromIterResult}
 use Rattle.std.specs.Ordering.{nat_cmp}
 use Rattle.ic_name.specs.Names.{name_cmp}
-use Rattle.ic_sheet.specs.Sheets.{IsNet}
+use Rattle.ic_net.specs.Sheets.{IsNet}
 use Rattle.ic_net.proofs.Collected.{collected_agents, collected_frees}
 use Rattle.ic_net.proofs.net.Net.of_sheet.Goals as goal
 

@@ -8,11 +8,11 @@ use Rattle.ic_path.specs.FarEnds.{far}
 use Rattle.ic_link.specs.Links.{shape}
 use Rattle.ic_net.specs.FarTables.{HasFarEnds, agent_partner}
 use Rattle.ic_start.specs.Starts.{join_of}
-use Rattle.ic_sheet.specs.Sheets.{listed_agent}
+use Rattle.ic_net.specs.Sheets.{listed_agent}
 use Rattle.ic_theory.specs.Firings.{nothing}
-use Rattle.ic_net.proofs.FarTableFacts.{rings-le}
 use Rattle.ic_net.proofs.StartNets.{few_ends, start_is_net, start_net_by, length-listed}
 use Rattle.ic_net.proofs.net.Net.of_start.Goals as goal
+use Rattle.ic_link.proofs.RowRings.{rings-le}
 
 pub name_ends-requires-clause-few : goal.name_ends-requires-clause-few
 name_ends-requires-clause-few c = few_ends c.args.start.now c.links-links.result.now c.lawful.ensures.proper c.links-links.ensures.joins c.links-links.ensures.placed

@@ -2,7 +2,7 @@ use Rattle.std.proofs.Common.{◌≡◌, ◌∙◌, ap, sym, arith}
 use Rattle.std.proofs.lemmas.Grind.{common_steps}
 use Rattle.std.proofs.lemmas.Option.{gets}
 use Rattle.std.specs.Prelude.{slice_get, option_copied}
-use Rattle.ic_sheet.specs.Sheets.{partner_list}
+use Rattle.ic_net.specs.Sheets.{partner_list}
 use Rattle.ic_net.specs.Tables.{partner_in}
 use Rattle.ic_net.proofs.Lookups.{found_partner, found_free}
 use Rattle.ic_net.proofs.net.Net.partner.Goals as goal

@@ -9,7 +9,7 @@ use Rattle.ic_theory.specs.Rules.{born_ends}
 use Rattle.ic_theory.specs.Nets.{kind_among}
 use Rattle.ic_theory.specs.Listed.{ListedNet, shown}
 use Rattle.ic_theory.specs.Steps.{Meets, without_pair, take_links}
-use Rattle.ic_sheet.specs.Sheets.{listed_agent}
+use Rattle.ic_net.specs.Sheets.{listed_agent}
 use Rattle.ic_net.specs.Rewirings.{wiring}
 use Rattle.ic_net.specs.Tables.{agent_in, IsBlank}
 use Rattle.ic_net.proofs.StepTables.{listed, fresh, lead_there, other_there, steps_to, step_is_net}

@@ -1,5 +1,5 @@
 use Rattle.std.proofs.Common.{◌≡◌, ◌∙◌, List, refl, sym, subst}
-use Rattle.ic_cause.proofs.Errors.{at_error}
+use Rattle.ic_path.proofs.Errors.{at_error}
 use Rattle.ic_name.specs.declared.ids.EventId.{EventId}
 use Rattle.ic_roster.specs.declared.event_record.EventRecord.{EventRecord}
 use Rattle.ic_roster.specs.Placed.{PlacedEvent, IsNewKey, AreKept}

@@ -1,6 +1,5 @@
 use Rattle.std.proofs.Common.{◌≡◌, refl, sym, subst, ◌∙◌}
-use Rattle.ic_path.specs.Orders.{IsIn}
-use Rattle.ic_roster.specs.Rosters.{IsOnce}
+use Rattle.ic_path.specs.Orders.{IsIn, IsOnce}
 use Rattle.ic_roster.specs.RecordChanges.{Changes, Takes}
 use Rattle.ic_roster.specs.EventSlots.{event_at, event_line}
 use Rattle.ic_roster.proofs.Slots.{emptied_by_remove, shown_left}

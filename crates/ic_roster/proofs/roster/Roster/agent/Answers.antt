@@ -1,8 +1,9 @@
 use Rattle.std.proofs.Common.{◌≢◌}
 use Rattle.ic_roster.specs.Placed.{member_in}
 use Rattle.ic_roster.proofs.Options.{if_some, if_none_then}
-use Rattle.ic_roster.proofs.Images.{in-map, each_image}
+use Rattle.ic_roster.proofs.Images.{each_image}
 use Rattle.ic_roster.proofs.roster.Roster.agent.Goals as goal
+use Rattle.ic_path.proofs.InLists.{in-map}
 
 pub returns-clause-found : goal.returns-clause-found
 returns-clause-found c = rw (← c.self.view_is) (if_some c.get.result (λ e i. in-map (member_in c.self.inside.names) i) c.get.ensures.found)

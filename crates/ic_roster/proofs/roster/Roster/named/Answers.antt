@@ -1,9 +1,9 @@
 use Rattle.std.proofs.Common.{◌<◌, length}
 use Rattle.ic_roster.specs.Placed.{member_in}
 use Rattle.ic_roster.proofs.Options.{if_some, if_none_then}
-use Rattle.ic_roster.proofs.Images.{in-map}
 use Rattle.ic_roster.proofs.Named.{new_name}
 use Rattle.ic_roster.proofs.roster.Roster.named.Goals as goal
+use Rattle.ic_path.proofs.InLists.{in-map}
 
 pub returns-clause-found : goal.returns-clause-found
 returns-clause-found c = rw (← c.self.view_is) (if_some c.at.result (λ id h. (h.0, in-map (member_in c.self.inside.names) h.1)) c.at.ensures.found)

@@ -2,8 +2,9 @@ use Rattle.std.proofs.Common.{◌≡◌, ◌∷◌, map, ap}
 use Rattle.ic_path.specs.Orders.{Alike}
 use Rattle.ic_path.proofs.Alikes.{alike-map}
 use Rattle.ic_roster.specs.Placed.{member_in, roster_in}
-use Rattle.ic_roster.proofs.Images.{in-map, each_image}
+use Rattle.ic_roster.proofs.Images.{each_image}
 use Rattle.ic_roster.proofs.roster.Roster.remove.Goals as goal
+use Rattle.ic_path.proofs.InLists.{in-map}
 
 pub invariant_of-self : goal.invariant_of-self
 invariant_of-self c = record { agents = λ x i. c.self.invariant.agents x (c.remove.ensures.left x i); events = c.self.invariant.events }

@@ -3,9 +3,10 @@ use Rattle.ic_path.specs.Orders.{Alike, IsIn}
 use Rattle.ic_path.proofs.Alikes.{alike-map}
 use Rattle.ic_roster.specs.Rosters.{Stander, IsHanded}
 use Rattle.ic_roster.specs.Placed.{stander_in, roster_in}
-use Rattle.ic_roster.proofs.Images.{in-map, each_image}
+use Rattle.ic_roster.proofs.Images.{each_image}
 use Rattle.ic_roster.proofs.Named.{handed_of_given}
 use Rattle.ic_roster.proofs.roster.Roster.remove_event.Goals as goal
+use Rattle.ic_path.proofs.InLists.{in-map}
 
 pub remove-requires : goal.remove-requires
 remove-requires c =

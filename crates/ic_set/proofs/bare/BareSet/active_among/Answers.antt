@@ -2,11 +2,11 @@ use Rattle.std.proofs.Common.{◌≡◌, ◌∙◌, [], ◌∷◌, ◌++◌, sym
 use Rattle.std.proofs.lemmas.List.{take_more, take_all, map-append}
 use Rattle.std.proofs.lemmas.Fn.{answers_by}
 use Rattle.ic_name.specs.Events.{Event}
-use Rattle.ic_queue.specs.declared.queue.Lead.{Lead}
+use Rattle.ic_names.specs.declared.queue.Lead.{Lead}
 use Rattle.ic_set.specs.declared.pairs.ActivePair.{ActivePair}
 use Rattle.ic_set.specs.Views.{NamedView}
 use Rattle.ic_set.proofs.InPlace.{in_at}
-use Rattle.ic_set.proofs.LedPairs.{LedBy, nothing, led_passes, led_more, is_before, before_orders, moved_inside, led_pairs}
+use Rattle.ic_set.proofs.LedPairs.{LedBy, nothing, led_passes, led_more, is_less_lead, less_leads_order, moved_inside, led_pairs}
 use Rattle.ic_set.proofs.bare.BareSet.active_among.Goals.{in-Some+in_ok-push, in_default}
 use Rattle.ic_set.proofs.bare.BareSet.active_among.Goals as goal
 
@@ -45,5 +45,5 @@ returns g c =
     let whole = take_all c.loop-lead.lead-index c.deref-lead-items.result.now c.loop-lead-test.false in
     let led : LedBy c.args.self.now c.sort_by.new.self.items i.0 = rw (whole, c.deref-lead-items.ensures.value) at i.1 in
     let moved = rw c.in_ok-sorted.ensures.items at c.sort_by.ensures.permutation in
-    let sorted = c.in_ok-sort_by.ensures.sorted (is_before ns) (before_orders ns) (answers_by _ _ (λ f. f.0.now ≡ ns) (λ f a r f' k i. (search rules, search rules)) _ (c.names-names.ensures ∙ ap (λ (w : NamedView). w.names) c.self.view_is)) in
+    let sorted = c.in_ok-sort_by.ensures.sorted (is_less_lead ns) (less_leads_order ns) (answers_by _ _ (λ f. f.0.now ≡ ns) (λ f a r f' k i. (search rules, search rules)) _ (c.names-names.ensures ∙ ap (λ (w : NamedView). w.names) c.self.view_is)) in
     led_pairs c.args.self.now c.lawful.ensures.set c.lawful.ensures.table c.args.leads.now _ i.0 _ c.requires.named c.requires.once c.requires.each moved sorted led i.2

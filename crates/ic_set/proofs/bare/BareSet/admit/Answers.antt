@@ -7,7 +7,7 @@ use Rattle.ic_path.proofs.Alikes.{alike_self, alike_back}
 use Rattle.ic_link.specs.Links.{IsLawful}
 use Rattle.ic_theory.specs.Born.{born_agents}
 use Rattle.ic_theory.specs.Machine.{IsDeep}
-use Rattle.ic_cause.proofs.Errors.{at_error}
+use Rattle.ic_path.proofs.Errors.{at_error}
 use Rattle.ic_roster.specs.declared.interaction.Interaction.{Interaction}
 use Rattle.ic_roster.specs.Rosters.{Member, Stander, event_in, IsNamed}
 use Rattle.ic_set.specs.Entering.{agents_in, GrowsBy, Enters}

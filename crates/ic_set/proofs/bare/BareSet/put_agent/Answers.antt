@@ -1,7 +1,7 @@
 use Rattle.std.proofs.Common.{◌≡◌, inl, refl, sym, ap, subst, ◌∙◌}
 use Rattle.ic_names.specs.Tables.{name_at}
 use Rattle.ic_path.specs.Orders.{IsIn}
-use Rattle.ic_sheet.specs.Makings.{IsLastName}
+use Rattle.ic_net.specs.Makings.{IsLastName}
 use Rattle.ic_roster.specs.Rosters.{Member}
 use Rattle.ic_theory.specs.Sets.{consumed_times}
 use Rattle.ic_set.specs.Views.{NamedView, standing}

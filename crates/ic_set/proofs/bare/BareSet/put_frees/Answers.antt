@@ -1,5 +1,5 @@
 use Rattle.std.proofs.Common.{◌≡◌, ◌+◌, length, refl, sym, ap, arith, subst, ◌∙◌}
-use Rattle.ic_sheet.specs.Makings.{NetParts}
+use Rattle.ic_net.specs.Makings.{NetParts}
 use Rattle.ic_set.specs.Views.{NamedView}
 use Rattle.ic_set.proofs.ReadNets.{AreFreesTo, no_frees, free_passes, free_comes, all_frees, none_unless}
 use Rattle.ic_set.proofs.bare.BareSet.put_frees.Goals.{in-Some+in_ok-push_free, in_default}

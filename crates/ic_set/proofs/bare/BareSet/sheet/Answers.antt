@@ -1,7 +1,7 @@
 use Rattle.std.proofs.Common.{sym, subst, ◌∙◌}
 use Rattle.ic_theory.specs.Listed.{ListedNet, shown}
 use Rattle.ic_theory.specs.Nets.{IsSameNet}
-use Rattle.ic_sheet.proofs.Makings.{sound_reached}
+use Rattle.ic_net.proofs.Makings.{sound_reached}
 use Rattle.ic_set.specs.Reading.{net_in}
 use Rattle.ic_set.specs.Views.{standing}
 use Rattle.ic_set.proofs.ReadNets.{net_read}

@@ -1,6 +1,6 @@
 use Rattle.std.proofs.Common.{◌≡◌, ◌≤◌, None, Ok, length, true, option_map, sym, ap, ◌∙◌, arith}
 use Rattle.std.specs.Prelude.{count_by, find}
-use Rattle.ic_grammar.specs.declared.limits.TheConstants.{MAX_FREE_NAMES}
+use Rattle.ic_text.specs.declared.grammar.limits.TheConstants.{MAX_FREE_NAMES}
 use Rattle.ic_text.specs.Names.{is_free, is_reserved_free}
 use Rattle.ic_text.specs.Table.{first_of}
 use Rattle.ic_text.specs.Reading.{is_at_rest}

@@ -2,7 +2,7 @@ use Rattle.std.proofs.Common.{◌∙◌, sym, ap, List, eqb, ◌&&◌, option_ma
 use Rattle.std.specs.Prelude.{find}
 use Rattle.ic_text.specs.declared.seen.Seen.{Seen}
 use Rattle.ic_text.specs.Names.{Entry, is_reserved_free}
-use Rattle.ic_grammar.specs.Texts.{is_reserved}
+use Rattle.ic_text.specs.Texts.{is_reserved}
 use Rattle.ic_text.specs.Table.{first_of}
 use Rattle.ic_text.proofs.Table.{first_reserved_is}
 use Rattle.ic_text.proofs.names.Names.reserved.Goals as goal

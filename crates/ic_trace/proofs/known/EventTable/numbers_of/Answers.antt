@@ -2,11 +2,11 @@ use Rattle.std.proofs.Common.{◌≡◌, ℕ, ◌<◌, List, [], ◌∷◌, ◌+
 use Rattle.std.proofs.lemmas.List.{map_push}
 use Rattle.ic_name.specs.Events.{Pair}
 use Rattle.ic_path.proofs.Picks.{in-cons_cases, none_in}
-use Rattle.ic_past.proofs.SeenSoFar.{item_in, seen_more}
-use Rattle.ic_shown.proofs.Elements.{in-append_cases}
+use Rattle.ic_path.proofs.InLists.{in-append_cases}
 use Rattle.ic_trace.specs.declared.known.Known.{Known}
 use Rattle.ic_trace.specs.Known.{event_at, AreNumbersOf}
 use Rattle.ic_trace.proofs.known.EventTable.numbers_of.Goals as goal
+use Rattle.ic_path.proofs.ListPlaces.{item_in, seen_more}
 
 -- one number more
 numbers_more : {ks : List Known} {names : List Pair} {numbers : List ℕ} (p : Pair) (j : ℕ) → AreNumbersOf ks names numbers → j < length ks → (event_at ks j).lead ≡ p.lead → AreNumbersOf ks (names ++ p ∷ []) (numbers ++ j ∷ [])

@@ -1,9 +1,0 @@
-pub mod Histories
-pub mod Questions
-pub mod Texts
-pub mod Standing
-pub mod Unwinding
-pub mod Replies
-pub mod Ends
-pub mod Turns
-pub mod Longer

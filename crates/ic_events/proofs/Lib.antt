@@ -1,3 +1,0 @@
-pub mod LookUps
-pub mod RowOrMap
-pub mod SameEvents

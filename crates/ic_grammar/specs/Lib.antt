@@ -1,4 +1,0 @@
-pub mod Texts
-pub mod Tokens
-pub mod Grammar
-pub mod Faults

@@ -1,9 +1,0 @@
-//! The text of a net: its tokens, its grammar, the start that it denotes, and what can be wrong with it.
-#![tactic(auto)]
-
-pub mod bytes;
-pub mod laws;
-pub mod limits;
-pub mod refusal;
-
-pub use refusal::Refusal;

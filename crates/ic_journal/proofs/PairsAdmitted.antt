@@ -1,0 +1,87 @@
+-- The queue of leads of a set once an event is admitted.
+use Rattle.std.proofs.Common.{◌≡◌, ◌≢◌, ℕ, ◌≤◌, List, [], ◌∷◌, length, Option, Some, None, IfSome, inl, inr, sym, subst}
+use Rattle.ic_name.specs.Names.{Name}
+use Rattle.ic_name.specs.Events.{Event}
+use Rattle.ic_name.specs.declared.ids.AgentId.{AgentId}
+use Rattle.ic_name.specs.declared.ids.EventId.{EventId}
+use Rattle.ic_path.specs.Orders.{IsIn, Alike}
+use Rattle.ic_path.proofs.Alikes.{alike_back, alike-in, alike-map}
+use Rattle.ic_path.proofs.Picks.{in_first}
+use Rattle.ic_theory.specs.Active.{IsActive}
+use Rattle.ic_theory.specs.Rules.{born_kinds}
+use Rattle.ic_theory.proofs.Normal.{active-alike}
+use Rattle.ic_names.specs.declared.queue.Lead.{Lead}
+use Rattle.ic_names.proofs.Heaps.{kept_heap}
+use Rattle.ic_roster.specs.Rosters.{Stander}
+use Rattle.ic_set.specs.declared.pairs.ActivePair.{ActivePair}
+use Rattle.ic_set.specs.Changes.{Admits, IsSame}
+use Rattle.ic_set.specs.Pairs.{IsPairOf, IsActivePair, ArePairsOf, AreLedBy, Awakes}
+use Rattle.ic_set.specs.Queues.{IsQueued, HasLeads, AreBeside}
+use Rattle.ic_set.specs.Sets.{IsStandingSet}
+use Rattle.ic_set.specs.Views.{SetView, NamedView, standing}
+use Rattle.ic_journal.specs.Fronts.{IsFront, KeepsQueue}
+use Rattle.ic_journal.proofs.Awakened.{awoken}
+use Rattle.ic_set.proofs.GrownNames.{Keeps}
+use Rattle.ic_set.proofs.GrownSets.{Grows, stays}
+
+module _ (v w : SetView) (start : w.start ≡ v.start) (agents : Alike v.agents w.agents) (events : Alike v.events w.events) where
+  -- an event that is active in a set is active in the same set
+  active_same : (f : Event) → IsActive v.start (standing v) f → IsActive w.start (standing w) f
+  active_same f a = subst (λ s. IsActive s (standing w) f) (sym start) (active-alike v.start (alike-map (λ (x : Stander). x.event) events) a)
+
+  -- and a pair of a set is one of the same set
+  pair_same : (f : Event) (q : ActivePair) → IsPairOf v f q → IsPairOf w f q
+  pair_same f q h = record { active = active_same f h.active; lead = alike-in agents h.lead; other = alike-in agents h.other }
+
+-- so is its front
+front_same : (v w : SetView) → IsSame v w → (pair : Option ActivePair) → IsFront v pair → IsFront w pair
+front_same v w same None front = (tt, λ f a. front.1 f (active_same w v (sym same.start) (alike_back same.agents) (alike_back same.events) f a))
+front_same v w same (Some p) front = let l = front.0 in (
+  record {
+    event = l.event;
+    pair = pair_same v w same.start same.agents same.events l.event p l.pair;
+    least = λ f a. l.least f (active_same w v (sym same.start) (alike_back same.agents) (alike_back same.events) f a);
+  },
+  tt,
+)
+
+-- the same set keeps its queue, however many names become known
+pub same_keeps : (v w : NamedView) (leads : List Lead) (room room' : ℕ) (pair : Option ActivePair) → IsSame v.set w.set → Keeps v.names w.names → length w.names ≤ room' → KeepsQueue v leads room pair → KeepsQueue w leads room' pair
+same_keeps v w leads room room' pair same keeps enough k = record {
+  heap = kept_heap v.names w.names leads keeps k.heap;
+  each = λ f q h. (let queued = k.each f q (pair_same w.set v.set (sym same.start) (alike_back same.agents) (alike_back same.events) f q h) in (queued.0, keeps f.lead queued.0 queued.1, queued.2));
+  front = front_same v.set w.set same pair k.front;
+  room = enough;
+}
+
+module _ (v w : NamedView) (e : Event) (line : ℕ) (d : EventId) (a : Admits v.set e line d w.set) where
+  -- the set has grown by the event
+  grown : Grows v.set w.set e a.entry.born
+  grown = record {
+    start = a.start;
+    events = subst (λ x. Alike (standing w.set) (x ∷ standing v.set)) a.event (alike-map (λ (x : Stander). x.event) (alike_back a.events));
+    children = a.children;
+    are = a.born;
+    agents = alike_back a.agents;
+  }
+
+  -- the pairs that became active are the children's, or those that agents lead that were beside the pair
+  pub admitted_awakes : IsStandingSet v.set → IsStandingSet w.set → (beside : List (Option AgentId)) (pairs : List (Option ActivePair)) → (born_kinds e.lead_kind e.other_kind ≡ [] → AreBeside v.set e beside)
+      → ((x : Stander) → IsIn x w.set.events → x.id ≡ d → x.born ≢ [] → ArePairsOf w.set x.born pairs) → ((x : Stander) → IsIn x w.set.events → x.id ≡ d → x.born ≡ [] → AreLedBy w.set beside pairs)
+      → Awakes v.set w.set pairs
+  admitted_awakes set set' beside pairs next born led =
+      let there = alike-in a.events (in_first a.entry v.set.events) in
+      awoken v.set w.set set set' e a.entry.born grown pairs beside next (born a.entry there a.under) (led a.entry there a.under)
+
+  -- the leads of before are in the queue, and so are those of the pairs that became active
+  pub admitted_each : (old leads : List Lead) → Keeps v.names w.names → (pairs : List (Option ActivePair)) → Awakes v.set w.set pairs → HasLeads v old
+      → ((n : Name) → IsQueued w.names old n → IsQueued w.names leads n) → ((f : Event) (q : ActivePair) → IsPairOf w.set f q → IsIn (Some q) pairs → IsQueued w.names leads f.lead) → HasLeads w leads
+  admitted_each old leads keeps pairs awoken all stay new f q h = elim (awoken.each f q h) [
+    | inl k ↦ (let queued = all f q k in stay f.lead (queued.0, keeps f.lead queued.0 queued.1, queued.2))
+    | inr i ↦ new f q h i
+  ]
+
+  -- the pair at the front is active still, where another one was fired
+  pub front_stays : IsStandingSet v.set → IsStandingSet w.set → (p : ActivePair) → IsPairOf v.set e p → (front : Option ActivePair) → IsFront v.set front → IfSome front (λ q. q.lead ≢ p.lead → IsActivePair w.set q)
+  front_stays set set' p pair None front = tt
+  front_stays set set' p pair (Some q) front = λ other. (let l = front.0 in (l.event, stays v.set w.set set set' e a.entry.born grown p pair l.event q l.pair other))

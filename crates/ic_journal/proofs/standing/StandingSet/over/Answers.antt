@@ -1,0 +1,18 @@
+use Rattle.std.proofs.Common.{◌≤◌, length, arith, subst}
+use Rattle.ic_path.specs.Orders.{IsIn}
+use Rattle.ic_path.proofs.Alikes.{alike-in}
+use Rattle.ic_roster.specs.Rosters.{Member}
+use Rattle.ic_path.proofs.InLists.{in-map}
+use Rattle.ic_journal.proofs.standing.StandingSet.over.Goals as goal
+
+pub queue_of-requires : goal.queue_of-requires
+queue_of-requires g c =
+    let by_name = rw c.roster.ensures.agents at c.in_ok-ids.ensures in
+    λ p active. rw c.deref.ensures.value (subst (IsIn p.lead) by_name.named (in-map (λ (m : Member). m.id) (alike-in by_name.alike active.1.lead)))
+
+pub invariant_of-result : goal.invariant_of-result
+invariant_of-result g c =
+    let reserved = c.in_ok-queue.ensures.room in
+    let left = c.drop_stale-front.ensures.room in
+    let enough : length c.in_ok-bare.bare.names ≤ c.drop_stale-front.new.queue.room = omega (arith, reserved, left) in
+    rw c.in_ok-new.ensures.ok (record { heap = c.drop_stale-front.ensures.heap; each = c.drop_stale-front.ensures.each; front = c.drop_stale-front.ensures.front; room = enough })

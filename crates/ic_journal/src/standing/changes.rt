@@ -1,0 +1,84 @@
+ghost use Rattle.std.specs.Prelude.{◌≡◌, ◌≢◌, ◌<◌, length, IfOk, OnErr};
+ghost use Rattle.ic_name.specs.Events.{Event as AnEvent};
+ghost use Rattle.ic_name.specs.declared.limits.TheConstants.{MAX_LINES};
+ghost use Rattle.ic_path.specs.Orders.{IsIn};
+ghost use Rattle.ic_theory.specs.Machine.{IsDeep};
+ghost use Rattle.ic_roster.specs.Rosters.{Stander};
+ghost use Rattle.ic_set.specs.Changes.{Admits, IsSame, TakesOut};
+ghost use Rattle.ic_set.specs.Cleared.{AreAll, Clears};
+ghost use Rattle.ic_set.specs.Entering.{GrowsBy};
+ghost use Rattle.ic_set.specs.Pairs.{IsPairOf, IsActivePair, Awakes};
+ghost use Rattle.ic_set.specs.Removal.{Stands, IsFree};
+
+use crate::standing::StandingSet;
+use crate::standing::front::front_after;
+use crate::standing::queue::{drop_stale, put_leads, put_start_leads};
+use crate::standing::renewing::MAX_CHILDREN;
+use ic_link::LinkStore;
+use ic_name::EventId;
+use ic_set::{ActivePair, Fired};
+use std::alloc::AllocError;
+
+impl<L: LinkStore> StandingSet<L> {
+    /// One event more, that of an active pair, under an id with this line, which no standing event has: with it its
+    /// children come, and the links of its rule are put in. It answers the pairs that became active by it, too: each has
+    /// a child, or, where the rule makes none, joins two agents that were beside the pair. At an error nothing changes but
+    /// that names may be known that weren't.
+    pub fn admit(&mut self, pair: ActivePair, line: u32) -> Result<Fired, AllocError>
+        requires active { IsActivePair self.old.set pair }
+        requires shallow { (e : AnEvent) → IsPairOf self.old.set e pair → ¬ (IsDeep e) }
+        requires new_line { (x : Stander) → IsIn x self.old.set.events → x.id.line ≢ line }
+        requires few_lines { line < MAX_LINES }
+        requires few_events { length self.old.set.events < MAX_LINES }
+        ensures admitted { IfOk result (λ fired. (e : AnEvent) → IsPairOf self.old.set e pair → Admits self.old.set e line fired.id self.new.set) }
+        ensures awoken { IfOk result (λ fired. Awakes self.old.set self.new.set fired.awoken) }
+        ensures grown { GrowsBy 4 self.old.names self.new.names }
+        ensures unchanged { OnErr result (IsSame self.old.set self.new.set) }
+    {
+        self.bare.lawful();
+        let beside = self.bare.beside(pair);
+        let names = self.bare.roster().names().len();
+        self.queue.reserve(names + MAX_CHILDREN)?;
+        let id = self.bare.admit(pair, line)?;
+        self.bare.lawful();
+        let awoken = self.bare.awoken(id, &beside);
+        put_leads(&mut self.queue, &self.bare, &awoken);
+        self.front = front_after(
+            self.alloc,
+            &mut self.queue,
+            &self.bare,
+            self.front,
+            pair.lead,
+            &mut self.passed_over,
+        );
+        Ok(Fired { id, awoken })
+    }
+
+    /// A standing event goes on which nothing depends: with it its children go, and its links. It takes no memory.
+    pub fn take_out(&mut self, id: EventId)
+        requires standing { Stands self.old.set id }
+        requires free { IsFree self.old.set id }
+        ensures out { TakesOut self.old.set id self.new.set }
+        ensures names { self.new.names ≡ self.old.names }
+    {
+        self.bare.lawful();
+        let lead = self.bare.take_out(id);
+        self.bare.lawful();
+        self.queue.put(self.bare.roster().names(), lead);
+        self.front = drop_stale(&mut self.queue, &self.bare);
+    }
+
+    /// All events go, whose ids these are: with them their children go, and their links, those of the last one first. It
+    /// takes no memory.
+    pub fn clear(&mut self, ids: &[EventId])
+        requires all { AreAll self.old.set ids.now }
+        ensures cleared { Clears self.old.set self.new.set }
+        ensures names { self.new.names ≡ self.old.names }
+    {
+        self.bare.lawful();
+        put_start_leads(&mut self.queue, &self.bare, ids);
+        self.bare.clear(ids);
+        self.bare.lawful();
+        self.front = drop_stale(&mut self.queue, &self.bare);
+    }
+}

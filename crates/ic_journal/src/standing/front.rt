@@ -1,0 +1,68 @@
+ghost use Rattle.std.specs.Prelude.{◌≡◌, ◌≢◌, ◌≤◌, length, IfSome};
+ghost use Rattle.ic_names.specs.Queues.{IsHeap};
+ghost use Rattle.ic_set.specs.Pairs.{IsActivePair, IsLeastPair};
+ghost use Rattle.ic_set.specs.Queues.{HasLeads};
+ghost use Rattle.ic_journal.specs.Fronts.{IsFront};
+
+use crate::standing::queue::drop_stale;
+use crate::standing::renewing::renew_where_worn;
+use ic_link::LinkStore;
+use ic_name::AgentId;
+use ic_names::LeadQueue;
+use ic_set::{ActivePair, BareSet};
+use std::alloc::Global;
+
+/// The front of the queue once the pair of this lead was fired, and the leads of those that became active by it were put in. Where
+/// it is the one of before, it was passed over once more. Else names at the front that lead no active pair go.
+pub(crate) fn front_after<L: LinkStore>(
+    alloc: Global,
+    queue: &mut LeadQueue,
+    set: &BareSet<L>,
+    front: Option<ActivePair>,
+    lead: AgentId,
+    passed_over: &mut usize,
+) -> Option<ActivePair>
+    requires heap { IsHeap set.now.names queue.old.leads }
+    requires each { HasLeads set.now queue.old.leads }
+    requires room { length set.now.names ≤ queue.old.room }
+    requires active { IfSome front (λ pair. pair.lead ≢ lead → IsActivePair set.now.set pair) }
+    ensures heap { IsHeap set.now.names queue.new.leads }
+    ensures each { HasLeads set.now queue.new.leads }
+    ensures front { IsFront set.now.set result }
+    ensures room { length set.now.names ≤ queue.new.room }
+{
+    let still = still_front(queue, set, front, lead);
+    if still.is_some() {
+        *passed_over = passed_over.saturating_add(1);
+        return still;
+    }
+    renew_where_worn(alloc, queue, set, passed_over);
+    drop_stale(queue, set)
+}
+
+/// The pair that was at the front before that of this lead was fired, where it is there still: it is another, and no lesser
+/// lead has come. It takes no memory.
+fn still_front<L: LinkStore>(
+    queue: &LeadQueue,
+    set: &BareSet<L>,
+    front: Option<ActivePair>,
+    lead: AgentId,
+) -> Option<ActivePair>
+    requires heap { IsHeap set.now.names queue.now.leads }
+    requires each { HasLeads set.now queue.now.leads }
+    requires active { IfSome front (λ pair. pair.lead ≢ lead → IsActivePair set.now.set pair) }
+    ensures { IfSome result (λ pair. IsLeastPair set.now.set pair) }
+{
+    set.lawful();
+    let pair = front?;
+    if pair.lead == lead {
+        return None;
+    }
+    let Some(entry) = set.roster().agent(pair.lead) else {
+        unreachable!()
+    };
+    match queue.least() {
+        Some(least) if least == entry.name => Some(pair),
+        _ => None,
+    }
+}

@@ -1,0 +1,117 @@
+ghost use Rattle.std.specs.Prelude.{◌≡◌, ◌+◌, ◌≤◌, [], length, IfOk};
+ghost use Rattle.ic_path.specs.Orders.{IsIn};
+ghost use Rattle.ic_names.specs.Queues.{IsHeap};
+ghost use Rattle.ic_set.specs.declared.pairs.ActivePair.{ActivePair as APair};
+ghost use Rattle.ic_set.specs.Pairs.{IsActivePair};
+ghost use Rattle.ic_set.specs.Queues.{HasLeads};
+ghost use Rattle.ic_journal.specs.Fronts.{LeadNone};
+
+use crate::standing::queue::put_all;
+use ic_link::LinkStore;
+use ic_name::AgentId;
+use ic_names::LeadQueue;
+use ic_set::BareSet;
+use std::alloc::{AllocError, Global};
+
+/// An event makes so many children at most.
+pub(crate) const MAX_CHILDREN: usize = 4;
+
+/// The agents whose names are in the queue, among whom is the lead of each active pair, in the order of the queue.
+pub(crate) fn agents_in<L: LinkStore>(
+    alloc: Global,
+    queue: &LeadQueue,
+    set: &BareSet<L>,
+) -> Result<Vec<AgentId>, AllocError>
+    requires heap { IsHeap set.now.names queue.now.leads }
+    requires each { HasLeads set.now queue.now.leads }
+    ensures { IfOk result (λ agents. (p : APair) → IsActivePair set.now.set p → IsIn p.lead agents.items) }
+{
+    let roster = set.roster();
+    roster.lawful();
+    let mut leads = Vec::with_capacity(alloc, queue.len())?;
+    for lead in queue.leads() {
+        if let Some(agent) = roster.named(lead.name) {
+            leads.push_reserved(agent);
+        }
+    }
+    Ok(leads)
+}
+
+/// A queue of the leads of the active pairs, all of whom are among these agents, with room for each name that is known.
+pub(crate) fn queue_of<L: LinkStore>(
+    alloc: Global,
+    set: &BareSet<L>,
+    agents: &[AgentId],
+) -> Result<LeadQueue, AllocError>
+    requires { (p : APair) → IsActivePair set.now.set p → IsIn p.lead agents.now }
+    ensures heap { IfOk result (λ queue. IsHeap set.now.names queue.leads) }
+    ensures each { IfOk result (λ queue. HasLeads set.now queue.leads) }
+    ensures room { IfOk result (λ queue. length set.now.names ≤ queue.room) }
+{
+    let mut queue = empty_queue(alloc, set)?;
+    put_all(&mut queue, set, agents);
+    Ok(queue)
+}
+
+/// A queue of those leads in this one that lead no standing event, with room for each name that is known. A lead that leads one
+/// is of no active pair.
+fn without_fired<L: LinkStore>(
+    alloc: Global,
+    queue: &LeadQueue,
+    set: &BareSet<L>,
+) -> Result<LeadQueue, AllocError>
+    requires heap { IsHeap set.now.names queue.now.leads }
+    requires each { HasLeads set.now queue.now.leads }
+    ensures heap { IfOk result (λ fresh. IsHeap set.now.names fresh.leads) }
+    ensures each { IfOk result (λ fresh. HasLeads set.now fresh.leads) }
+    ensures unled { IfOk result (λ fresh. LeadNone set.now fresh.leads) }
+    ensures room { IfOk result (λ fresh. length set.now.names ≤ fresh.room) }
+{
+    let roster = set.roster();
+    let mut fresh = empty_queue(alloc, set)?;
+    for lead in queue.leads() {
+        if !roster.is_lead(lead.name) {
+            fresh.put(roster.names(), lead.name);
+        }
+    }
+    Ok(fresh)
+}
+
+/// A queue without leads, with room for twice the names that are known, and for those of the children of one event more: so the
+/// children of further events don't make it grow at once.
+fn empty_queue<L: LinkStore>(alloc: Global, set: &BareSet<L>) -> Result<LeadQueue, AllocError>
+    ensures empty { IfOk result (λ queue. queue.leads ≡ []) }
+    ensures heap { IfOk result (λ queue. IsHeap set.now.names queue.leads) }
+    ensures room { IfOk result (λ queue. length set.now.names + MAX_CHILDREN ≤ queue.room) }
+{
+    set.lawful();
+    let mut queue = LeadQueue::new(alloc);
+    queue.reserve(2 * set.roster().names().len() + MAX_CHILDREN)?;
+    Ok(queue)
+}
+
+/// Makes the queue anew without the leads of what stands, where a third of its leads may be such, since as many firings passed the
+/// front over, and these aren't few beside the names, for each of which it takes room. Where memory is wanting, the queue stays
+/// as it is.
+pub(crate) fn renew_where_worn<L: LinkStore>(
+    alloc: Global,
+    queue: &mut LeadQueue,
+    set: &BareSet<L>,
+    passed_over: &mut usize,
+)
+    requires heap { IsHeap set.now.names queue.old.leads }
+    requires each { HasLeads set.now queue.old.leads }
+    requires room { length set.now.names ≤ queue.old.room }
+    ensures heap { IsHeap set.now.names queue.new.leads }
+    ensures each { HasLeads set.now queue.new.leads }
+    ensures room { length set.now.names ≤ queue.new.room }
+{
+    if *passed_over <= queue.len() / 3 || *passed_over <= set.roster().names().len() / 64 {
+        return;
+    }
+    *passed_over = 0;
+    let Ok(fresh) = without_fired(alloc, queue, set) else {
+        return;
+    };
+    *queue = fresh;
+}

@@ -1,4 +1,0 @@
-pub mod FirstLines
-pub mod Writes
-pub mod Taken
-pub mod Work

@@ -1,3 +1,0 @@
-pub mod Lines
-pub mod Left
-pub mod Faults

@@ -1,0 +1,54 @@
+-- What a queue has: places of names, and the order in which it keeps them.
+use Rattle.std.specs.Prelude.{◌≡◌, ◌≢◌, ℕ, ◌+◌, ◌*◌, ◌<◌, ◌↔◌, Bool, false, IsTrue, List, length, map, slice_index_or}
+use Rattle.std.specs.declared.cmp.Ordering.TheVariants.{Less}
+use Rattle.ic_path.specs.Orders.{IsIn}
+use Rattle.ic_name.specs.Names.{Name, name_cmp}
+use Rattle.ic_names.specs.Keys.{key_of}
+use Rattle.ic_names.specs.Tables.{name_at}
+use Rattle.ic_names.specs.declared.queue.Lead.{Lead}
+
+-- the leads as they lie in the heap, and for how many names there is room
+pub record QueueView : Type 0 where
+  pub leads : List Lead
+  pub room : ℕ
+
+-- the place of a lead's name
+abbrev pub place_of : Lead → ℕ
+place_of l = l.name.place
+
+-- the places of the names
+abbrev pub places : List Lead → List ℕ
+places ls = map place_of ls
+
+-- the lead at an index of the heap
+abbrev pub lead_at : List Lead → ℕ → Lead
+lead_at ls k = slice_index_or ls k (record { key = record { 0 = 0 }; name = record { place = 0 } })
+
+-- the name of the lead at an index
+abbrev pub name_of : List Name → List Lead → ℕ → Name
+name_of ns ls k = name_at ns (place_of (lead_at ls k))
+
+-- each lead has a name of the table, with its key
+pub record AreNamed (ns : List Name) (ls : List Lead) : Type 0 where
+  pub inside : (k : ℕ) → k < length ls → place_of (lead_at ls k) < length ns
+  pub keys : (k : ℕ) → k < length ls → (lead_at ls k).key.0 ≡ key_of (name_of ns ls k)
+
+-- each lead has a name of the table, and none has a lesser one than the lead above it
+pub record IsHeap (ns : List Name) (ls : List Lead) : Type 0 where
+  pub named : AreNamed ns ls
+  pub left : (k : ℕ) → 2 * k + 1 < length ls → name_cmp (name_of ns ls (2 * k + 1)) (name_of ns ls k) ≢ Less
+  pub right : (k : ℕ) → 2 * k + 2 < length ls → name_cmp (name_of ns ls (2 * k + 2)) (name_of ns ls k) ≢ Less
+
+-- no name stands in the queue twice
+abbrev pub StandOnce : List Lead → Type 0
+StandOnce ls = (i j : ℕ) → i < length ls → j < length ls → place_of (lead_at ls i) ≡ place_of (lead_at ls j) → i ≡ j
+
+-- no name stands in the queue twice, and the flag of a place is true exactly where the name stands in the queue
+pub record AreFlagged (ls : List Lead) (queued : List Bool) : Type 0 where
+  pub once : StandOnce ls
+  pub flags : (n : ℕ) → IsTrue (slice_index_or queued n false) ↔ IsIn n (places ls)
+
+-- the place is one of the queue's, and none of its names is less than the one there
+pub record IsLeast (ns : List Name) (ls : List Lead) (n : ℕ) : Type 0 where
+  pub present : IsIn n (places ls)
+  pub none_less : (m : ℕ) → IsIn m (places ls) → name_cmp (name_at ns m) (name_at ns n) ≢ Less

@@ -1,4 +1,0 @@
-pub mod Wants
-pub mod States
-pub mod NormalEnds
-pub mod Reductions

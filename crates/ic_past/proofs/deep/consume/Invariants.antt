@@ -1,8 +1,0 @@
-use Rattle.std.proofs.Common.{◌≡◌, take}
-use Rattle.ic_theory.specs.Sets.{consumed_times}
-use Rattle.ic_past.specs.DeepEvents.{deep_events}
-use Rattle.ic_past.proofs.deep.consume.Given as goal
-
--- none of the events so far consumed the agent
-abbrev pub invariant-loop-standing : goal.invariant-loop-standing
-invariant-loop-standing l = consumed_times l.name (deep_events (take l.standing-index l.deep)) ≡ 0

@@ -1,8 +1,0 @@
-use Rattle.std.proofs.Common.{take}
-use Rattle.ic_path.specs.Orders.{IsIn}
-use Rattle.ic_past.specs.declared.deep.DeepEvent.{DeepEvent}
-use Rattle.ic_past.proofs.deep.rest_on.Given as goal
-
--- none of the events so far has the cause
-abbrev pub invariant-loop-standing : goal.invariant-loop-standing
-invariant-loop-standing l = (d : DeepEvent) → IsIn d (take l.standing-index l.deep) → IsIn l.cause d.causes.items → ⊥

@@ -1,3 +1,0 @@
-pub mod Pasts
-pub mod DeepEvents
-pub mod Taken

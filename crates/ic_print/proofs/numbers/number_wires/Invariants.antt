@@ -1,8 +1,0 @@
-use Rattle.std.proofs.Common.{◌≡◌, length, map, take}
-use Rattle.ic_print.specs.NetText.{numbered_wires}
-use Rattle.ic_print.specs.Numbers.{IsNumbering}
-use Rattle.ic_sheet.specs.Views.{shown_agent}
-use Rattle.ic_print.proofs.numbers.number_wires.Given as goal
-
-abbrev pub invariant-loop-place : goal.invariant-loop-place
-invariant-loop-place l = (IsNumbering (map shown_agent l.agents) l.numbers (numbered_wires (map shown_agent (take l.place l.agents)))) × (length l.numbers.ports.items ≡ length l.agents)

@@ -1,5 +1,0 @@
-use Rattle.ic_print.proofs.Rings.{one_ring}
-use Rattle.ic_print.proofs.put.put_rings.Goals as goal
-
-pub loop-i-preserved : goal.loop-i-preserved
-loop-i-preserved c = one_ring _ _ _ c.args.rings c.loop-i.i c.args.first c.loop-i-test.true c.loop-i.invariant c.in_ok-put_ring.ensures

@@ -1,6 +1,0 @@
-use Rattle.std.proofs.Common.{◌≡◌, ◌++◌, ◌+◌, ◌-◌}
-use Rattle.ic_print.specs.NetText.{ring_lines}
-use Rattle.ic_print.proofs.put.put_rings.Given as goal
-
-abbrev pub invariant-loop-i : goal.invariant-loop-i
-invariant-loop-i l = l.out.items ++ ring_lines (l.first + l.i) (l.rings - l.i) ≡ l.fn.out.items ++ ring_lines l.first l.rings

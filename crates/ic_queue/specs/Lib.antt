@@ -1,2 +1,0 @@
-pub mod Queues
-pub mod Sifting

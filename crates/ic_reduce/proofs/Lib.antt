@@ -1,4 +1,0 @@
-pub mod BenchSteps
-pub mod Continuing
-pub mod FiredInTurn
-pub mod LeastFired

@@ -1,3 +1,0 @@
-pub mod Reducing
-pub mod Continuing
-pub mod Reduced

@@ -1,4 +1,0 @@
-pub mod Printable
-pub mod Printed
-pub mod Reread
-pub mod ReadBack

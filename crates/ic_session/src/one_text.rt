@@ -1,0 +1,12 @@
+//! What is written is determined: a session has one text, where none tells of want of memory, and sweeps and reductions
+//! that end normal leave one.
+
+pub mod answers;
+pub mod reductions;
+pub mod sweeps;
+pub mod texts;
+
+pub use answers::{one_answer, one_step, reached_on};
+pub use reductions::one_reduction;
+pub use sweeps::one_normal_end;
+pub use texts::one_text;

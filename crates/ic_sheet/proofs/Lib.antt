@@ -1,4 +1,0 @@
-pub mod ReachedNets
-pub mod WholeTables
-pub mod InOrder
-pub mod Makings

@@ -1,5 +1,0 @@
-use Rattle.ic_shown.proofs.MoreLinks.{shows_more}
-use Rattle.ic_shown.proofs.fired.Goals as goal
-
-pub returns : goal.returns
-returns c = λ n more s es ls new all e h x apart held made a. shows_more n more s es ls new all e h x apart held made a

@@ -1,5 +1,0 @@
-use Rattle.ic_shown.proofs.OtherLinks.{shows_less}
-use Rattle.ic_shown.proofs.undone.Goals as goal
-
-pub returns : goal.returns
-returns c = λ n less s es rest ls left d e sound h has is k drops x held. shows_less n less s es rest ls left d e sound h has is k drops x held

@@ -1,0 +1,13 @@
+//! Tests of public calls: steps and replays of nets, benches, undoing, and lists of firings and undos. A folder is named after the crate whose calls its modules test.
+#![tactic(auto)]
+
+#[cfg(test)]
+mod journal;
+#[cfg(test)]
+mod net;
+#[cfg(test)]
+mod orders;
+#[cfg(test)]
+mod trace;
+#[cfg(test)]
+mod undo;

@@ -1,0 +1,4 @@
+//! Tests of `ic_net`.
+
+mod replays;
+mod steps;

@@ -1,0 +1,6 @@
+//! Tests of `ic_trace`.
+
+mod causal;
+mod checking;
+mod past;
+mod traces;

@@ -1,0 +1,5 @@
+//! Tests of `ic_undo`.
+
+mod absorbing;
+mod going_back;
+mod unwinding;

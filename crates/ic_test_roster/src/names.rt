@@ -1,0 +1,4 @@
+//! Tests of `ic_names`.
+
+mod queue;
+mod table;

@@ -1,0 +1,200 @@
+use ic_name::AgentName;
+use ic_names::queue::laws;
+use ic_names::{LeadQueue, NameId, NameTable};
+use std::alloc::Global;
+use std::marker::Model;
+
+/// A queue of names with the table in which they stand.
+#[derive(Drop)]
+struct Waiting {
+    names: NameTable,
+    queue: LeadQueue,
+}
+
+impl Model for Waiting {
+    ghost use Rattle.std.specs.Prelude.{List};
+    ghost use Rattle.ic_name.specs.Names.{Name};
+    ghost use Rattle.ic_names.specs.Queues.{IsHeap};
+
+    ghost Value = { List Name };
+
+    ghost view = { λ w. w.names };
+
+    ghost invariant = { λ w. IsHeap w.names w.queue.leads };
+}
+
+impl Waiting {
+    /// No names.
+    fn new(alloc: Global) -> Waiting {
+        Waiting {
+            names: NameTable::new(alloc),
+            queue: LeadQueue::new(alloc),
+        }
+    }
+
+    /// Enters the name in the table. It is `None` where memory is wanting.
+    fn enter(&mut self, name: &AgentName) -> Option<NameId> {
+        laws::queues_are_kept();
+        match self.names.enter(name) {
+            Ok(id) => Some(id),
+            Err(_) => None,
+        }
+    }
+
+    /// The name comes into the queue, in which there is room for every name of the table. It is `false` where it stands
+    /// nowhere in the table, or memory is wanting.
+    fn queue(&mut self, name: &AgentName) -> bool {
+        let Some(id) = self.names.find(name) else {
+            return false;
+        };
+        let Ok(_) = self.queue.reserve(self.names.len()) else {
+            return false;
+        };
+        self.queue.put(&self.names, id);
+        true
+    }
+
+    /// Whether the name is the least, and goes.
+    fn takes(&mut self, name: &AgentName) -> bool {
+        match self.names.find(name) {
+            Some(id) => {
+                self.queue.least() == Some(id) && self.queue.take_least(&self.names) == Some(id)
+            }
+            None => false,
+        }
+    }
+
+    /// Whether nothing can be taken.
+    fn is_empty(&mut self) -> bool {
+        self.queue.lawful();
+        self.queue.least().is_none()
+            && self.queue.take_least(&self.names).is_none()
+            && self.queue.len() == 0
+    }
+}
+
+/// Names by their texts, in their order. Some have more than 17 digits, of which the first 17 are the same.
+const IN_ORDER: [&[u8]; 19] = [
+    b"0",
+    b"3",
+    b"7",
+    b"300",
+    b"65534",
+    b"0.1",
+    b"3.0",
+    b"3.2",
+    b"0.1.0",
+    b"7.1.2.3.0.1.2.3.0.1.2.3.0.1.2.3.0.1",
+    b"7.1.2.3.0.1.2.3.0.1.2.3.0.1.2.3.0.2",
+    b"7.1.2.3.0.1.2.3.0.1.2.3.0.1.2.3.0.1.0",
+    b"7.1.2.3.0.1.2.3.0.1.2.3.0.1.2.3.0.1.3",
+    b"8.1.2.3.0.1.2.3.0.1.2.3.0.1.2.3.0.1.2",
+    b"7.1.2.3.0.1.2.3.0.1.2.3.0.1.2.3.0.1.0.3",
+    b"7.1.2.3.0.1.2.3.0.1.2.3.0.1.2.3.0.1.1.0",
+    b"7.1.2.3.0.1.2.3.0.1.2.3.0.1.2.3.0.1.1.2",
+    b"7.1.2.3.0.1.2.3.0.1.2.3.0.1.2.3.0.2.0.0",
+    b"8.1.2.3.0.1.2.3.0.1.2.3.0.1.2.3.0.1.1.1",
+];
+
+/// By how many rows two names are apart that are put in one behind the other, each time: twice in disorder, so that the
+/// places of the names are in disorder too, in order, and from the last on.
+const STEPS: [u8; 4] = [7, 11, 1, 18];
+
+/// Puts in the name that a text writes. It is `false` where it can't.
+fn put(alloc: Global, waiting: &mut Waiting, text: &[u8]) -> bool {
+    match AgentName::read(alloc, text) {
+        Ok(name) => waiting.enter(&name).is_some() && waiting.queue(&name),
+        Err(_) => false,
+    }
+}
+
+/// Puts in the name of the table that stands so many steps on, from its start again once it ends.
+fn put_step(alloc: Global, waiting: &mut Waiting, step: u8, count: u8) -> bool {
+    let row = usize::from(step) * usize::from(count) % 19;
+    put(alloc, waiting, IN_ORDER[row])
+}
+
+/// Whether the name that a text writes is the least, and goes.
+fn takes(alloc: Global, waiting: &mut Waiting, text: &[u8]) -> bool {
+    match AgentName::read(alloc, text) {
+        Ok(name) => waiting.takes(&name),
+        Err(_) => false,
+    }
+}
+
+#[test]
+fn a_new_queue_is_empty(rt: HostRuntime) {
+    let mut waiting = Waiting::new(rt.alloc());
+    assert!(rt; waiting.is_empty());
+}
+
+#[test]
+fn names_are_taken_in_order(rt: HostRuntime) {
+    let mut waiting = Waiting::new(rt.alloc());
+    for step in &STEPS {
+        for count in 0..19 {
+            assert!(rt; put_step(rt.alloc(), &mut waiting, *step, count));
+        }
+        for text in &IN_ORDER {
+            assert!(rt; takes(rt.alloc(), &mut waiting, text), "at step {step}");
+        }
+        assert!(rt; waiting.is_empty());
+    }
+}
+
+/// Texts of names, of which two stand twice.
+const TWICE: [&[u8]; 5] = [b"5", b"4.1", b"5", b"4", b"4.1"];
+
+#[test]
+fn a_name_stands_once(rt: HostRuntime) {
+    let mut waiting = Waiting::new(rt.alloc());
+    for text in &TWICE {
+        assert!(rt; put(rt.alloc(), &mut waiting, text));
+    }
+    assert_eq!(rt; waiting.queue.len(), 3);
+    for text in [b"4".as_slice(), b"5", b"4.1"] {
+        assert!(rt; takes(rt.alloc(), &mut waiting, text));
+    }
+    assert!(rt; waiting.is_empty());
+}
+
+#[test]
+fn a_name_that_went_comes_again(rt: HostRuntime) {
+    let mut waiting = Waiting::new(rt.alloc());
+    assert!(rt; put(rt.alloc(), &mut waiting, b"8"));
+    assert!(rt; put(rt.alloc(), &mut waiting, b"6"));
+    assert!(rt; takes(rt.alloc(), &mut waiting, b"6"));
+    assert!(rt; put(rt.alloc(), &mut waiting, b"6"));
+    assert!(rt; takes(rt.alloc(), &mut waiting, b"6"));
+    assert!(rt; takes(rt.alloc(), &mut waiting, b"8"));
+    assert!(rt; waiting.is_empty());
+}
+
+/// Puts in the name of the start agent of this number. It is `false` where it can't.
+fn put_start(alloc: Global, waiting: &mut Waiting, number: u16) -> bool {
+    match AgentName::start(alloc, number) {
+        Some(name) => waiting.enter(&name).is_some() && waiting.queue(&name),
+        None => false,
+    }
+}
+
+/// Whether the name of the start agent of this number is the least, and goes.
+fn takes_start(alloc: Global, waiting: &mut Waiting, number: u16) -> bool {
+    match AgentName::start(alloc, number) {
+        Some(name) => waiting.takes(&name),
+        None => false,
+    }
+}
+
+#[test]
+fn a_thousand_names_come_and_go(rt: HostRuntime) {
+    let mut waiting = Waiting::new(rt.alloc());
+    for count in 0..1_000_u16 {
+        let number = (u32::from(count) * 7 % 1_000) as u16;
+        assert!(rt; put_start(rt.alloc(), &mut waiting, number));
+    }
+    for number in 0..1_000 {
+        assert!(rt; takes_start(rt.alloc(), &mut waiting, number));
+    }
+    assert!(rt; waiting.is_empty());
+}

@@ -1,0 +1,5 @@
+//! Tests of `ic_roster`.
+
+mod agents;
+mod dependents;
+mod standing;

@@ -1,0 +1,91 @@
+ghost use Rattle.std.specs.Prelude.{◌≡◌, All, IfSome};
+ghost use Rattle.ic_name.specs.declared.ids.EventId.{EventId as AnEventId};
+ghost use Rattle.ic_roster.specs.Rosters.{Stands};
+ghost use Rattle.ic_path.specs.Orders.{IsOnce};
+
+use crate::roster::standing::{interaction, line_is_new, take_out};
+use ic_name::EventId;
+use ic_roster::Roster;
+use std::alloc::Global;
+use std::test::Fail;
+
+/// Enters the event of two start agents after these causes. It is `None` where one of this line or this lead stands.
+fn stand_after(
+    alloc: Global,
+    roster: &mut Roster,
+    agents: (u16, u16),
+    line: u32,
+    causes: &[EventId],
+) -> Option<EventId>
+    requires standing { All (Stands roster.old.events) causes.now }
+    requires once { IsOnce causes.now }
+    ensures there { IfSome result (λ id. Stands roster.new.events id) }
+    ensures in_line { IfSome result (λ id. id.line ≡ line) }
+    ensures kept { (d : AnEventId) → Stands roster.old.events d → Stands roster.new.events d }
+{
+    let interaction = interaction(alloc, roster, agents.0, agents.1)?;
+    let new = line_is_new(alloc, roster, line)?;
+    if !new {
+        return None;
+    }
+    match roster.led_by(interaction.lead) {
+        Some(_) => None,
+        None => roster.insert_event(interaction, line, 0, &[], causes).ok(),
+    }
+}
+
+/// Three events: the first is a cause of the others, and the second of the third, which is a cause of none.
+fn stand_three(alloc: Global, roster: &mut Roster) -> Option<(EventId, EventId, EventId)> {
+    let first = stand_after(alloc, roster, (3, 9), 4, &[])?;
+    let second = stand_after(alloc, roster, (5, 8), 2, &[first])?;
+    let third = stand_after(alloc, roster, (6, 7), 7, &[first, second])?;
+    Some((first, second, third))
+}
+
+/// Whether these are the causes of the event under an id.
+fn has_causes(roster: &Roster, event: EventId, causes: &[EventId]) -> bool {
+    match roster.event(event) {
+        Some(found) => found.causes == causes,
+        None => false,
+    }
+}
+
+#[test]
+fn nothing_depends_on_what_is_not_there(rt: HostRuntime) {
+    let roster = Roster::new(rt.alloc());
+    assert!(rt; roster.dependents(EventId { slot: 0, line: 4 }).is_empty());
+}
+
+#[test]
+fn causes_are_kept(rt: HostRuntime) -> Result<(), Fail> {
+    let mut roster = Roster::new(rt.alloc());
+    let (first, second, third) = stand_three(rt.alloc(), &mut roster).ok_or("three events")?;
+    assert!(rt; has_causes(&roster, first, &[]));
+    assert!(rt; has_causes(&roster, second, &[first]));
+    assert!(rt; has_causes(&roster, third, &[first, second]));
+    Ok(())
+}
+
+#[test]
+fn dependents_are_kept(rt: HostRuntime) -> Result<(), Fail> {
+    let mut roster = Roster::new(rt.alloc());
+    let (first, second, third) = stand_three(rt.alloc(), &mut roster).ok_or("three events")?;
+    assert_eq!(rt; roster.dependents(first).len(), 2);
+    assert!(rt; roster.dependents(first).contains(&second));
+    assert!(rt; roster.dependents(first).contains(&third));
+    assert_eq!(rt; roster.dependents(second), [third].as_slice());
+    assert!(rt; roster.dependents(third).is_empty());
+    Ok(())
+}
+
+#[test]
+fn what_goes_is_no_dependent(rt: HostRuntime) -> Result<(), Fail> {
+    let mut roster = Roster::new(rt.alloc());
+    let (first, second, third) = stand_three(rt.alloc(), &mut roster).ok_or("three events")?;
+    assert!(rt; take_out(&mut roster, first).is_none());
+    assert!(rt; take_out(&mut roster, third).is_some());
+    assert!(rt; roster.event(third).is_none());
+    assert_eq!(rt; roster.dependents(first), [second].as_slice());
+    assert!(rt; roster.dependents(second).is_empty());
+    Ok(())
+}

@@ -1,0 +1,4 @@
+//! Tests of `ic_command`.
+
+mod commands;
+mod lines;

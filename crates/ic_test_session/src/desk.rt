@@ -1,0 +1,6 @@
+//! Tests of `ic_desk`.
+
+mod desks;
+mod gates;
+mod refused_growth;
+mod undos_with_room;

@@ -1,0 +1,212 @@
+// Desks over either store, where one allocation is refused, whichever it is: bench/refused_growth.py refuses each in turn.
+// Where none is refused, each line is answered at once as it should be.
+use ic_command::{Asked, Command, Request, asked_of, listed_of};
+use ic_desk::{Answer, Desk, NoGate};
+use ic_journal::{LinkStore, Store};
+use ic_link::LinkRows;
+use ic_text::read_net;
+use std::alloc::{AllocError, Global};
+use std::test::Fail;
+
+/// The answers that say that memory was wanting and nothing was done.
+const NOTHING_DONE: [&[u8]; 3] = [
+    b"refused 25 memory\n",
+    b"refused 25 memory after 0\n",
+    b"refused 25 memory after 0 undone 0 fired\n",
+];
+
+/// A desk over the net `G(E,a) = D(b,E);`, which ends with four events.
+fn desk<L: LinkStore>(alloc: Global) -> Option<Desk<L>> {
+    let start = read_net(alloc, b"G(E,a) = D(b,E);\n").ok()?;
+    Desk::over(alloc, start).ok()
+}
+
+/// A desk over it, at the first try or the second.
+fn desk_at_last<L: LinkStore>(alloc: Global) -> Option<Desk<L>> {
+    match desk(alloc) {
+        Some(desk) => Some(desk),
+        None => desk(alloc),
+    }
+}
+
+/// What a line asks for; one that lists an event asks to absorb it.
+fn request(alloc: Global, line: &[u8]) -> Result<Request, AllocError> {
+    match listed_of(alloc, line)? {
+        Some(event) => {
+            let mut events = Vec::new(alloc);
+            events.push(event)?;
+            Ok(Request::Absorb(events))
+        }
+        None => match asked_of(alloc, line)? {
+            Asked::Alone(request) => Ok(request),
+            Asked::Absorb(_) => Ok(Request::Bench(Command::Malformed)),
+        },
+    }
+}
+
+/// What it asks for, at the first try or the second.
+fn request_at_last(alloc: Global, line: &[u8]) -> Option<Request> {
+    match request(alloc, line) {
+        Ok(asked) => Some(asked),
+        Err(_) => request(alloc, line).ok(),
+    }
+}
+
+/// The answer to a line; `None` where there is no memory to tell what was done.
+fn answer<L: LinkStore>(alloc: Global, desk: &mut Desk<L>, line: &[u8]) -> Option<Answer> {
+    let asked = request_at_last(alloc, line)?;
+    desk.carry_out(alloc, asked, &NoGate).ok()
+}
+
+/// What a desk shows: its net, and what stands.
+fn shown<L: LinkStore>(alloc: Global, desk: &mut Desk<L>) -> Option<(Answer, Answer)> {
+    let net = desk
+        .carry_out(alloc, Request::Bench(Command::Net), &NoGate)
+        .ok()?;
+    let journal = desk
+        .carry_out(alloc, Request::Bench(Command::Journal), &NoGate)
+        .ok()?;
+    Some((net, journal))
+}
+
+/// Whether the desk shows what another one shows on which these lines were carried out.
+fn shows_what_follows<L: LinkStore>(
+    alloc: Global,
+    desk: &mut Desk<L>,
+    lines: &[(&[u8], &[u8])],
+) -> Option<bool> {
+    let mut other = desk_at_last::<LinkRows>(alloc)?;
+    for (line, _) in lines {
+        answer(alloc, &mut other, line)?;
+    }
+    let (net, journal) = shown(alloc, desk)?;
+    let (other_net, other_journal) = shown(alloc, &mut other)?;
+    Some(net.bytes() == other_net.bytes() && journal.bytes() == other_journal.bytes())
+}
+
+/// Whether the desk, which answered the line so for want of memory, is as before where the answer says so, and whether it
+/// then answers the line as it should. Where something was done, it answers it somehow.
+fn answers_again<L: LinkStore>(
+    alloc: Global,
+    desk: &mut Desk<L>,
+    before: &[(&[u8], &[u8])],
+    line: &[u8],
+    text: &[u8],
+    first: &[u8],
+) -> Option<bool> {
+    let nothing = NOTHING_DONE.contains(&first);
+    let stayed = !nothing || shows_what_follows(alloc, desk, before)?;
+    let second = answer(alloc, desk, line)?;
+    let right = second.bytes() == text || !nothing && !second.bytes().starts_with(b"refused");
+    Some(stayed && right)
+}
+
+/// Whether the desk answers the line in this place as it should, at the first try or the second.
+fn answers<L: LinkStore>(
+    alloc: Global,
+    desk: &mut Desk<L>,
+    lines: &[(&[u8], &[u8])],
+    place: usize,
+) -> Option<bool> {
+    let (line, text) = *lines.get(place)?;
+    match answer(alloc, desk, line) {
+        None => Some(true),
+        Some(first) if first.bytes().starts_with(b"refused 25 ") => {
+            answers_again(alloc, desk, lines.get(..place)?, line, text, first.bytes())
+        }
+        Some(first) => Some(first.bytes() == text),
+    }
+}
+
+/// Whether a desk answers each of these lines as it should, at the first try or the second.
+fn plays<L: LinkStore>(alloc: Global, lines: &[(&[u8], &[u8])]) -> Option<bool> {
+    let mut desk = desk_at_last::<L>(alloc)?;
+    let mut right = true;
+    for place in 0..lines.len() {
+        right = right && answers(alloc, &mut desk, lines, place)?;
+    }
+    Some(right)
+}
+
+/// Firings, undoings and an unwinding.
+const FIRING: [(&[u8], &[u8]); 8] = [
+    (b"fire 0 2", b"fired 0 2\n"),
+    (b"fire 1 0.0", b"fired 1 0.0\n"),
+    (b"undo 0 2", b"refused 32 held by 1 0.0\n"),
+    (b"undo 1 0.0", b"undone 1 0.0\n"),
+    (b"fire 3 0.3", b"fired 3 0.3\n"),
+    (b"active", b"active 1\n1 0.0\n"),
+    (b"unwind 0 2", b"unwound 2\n3 0.3\n0 2\n"),
+    (b"journal", b"journal 0\n"),
+];
+
+/// A mark, and ways back to it.
+const GOING_BACK: [(&[u8], &[u8]); 6] = [
+    (b"fire 0 2", b"fired 0 2\n"),
+    (b"mark m", b"marked m 1\n"),
+    (b"back m", b"back m undone 0 fired 0\n"),
+    (b"undo 0 2", b"undone 0 2\n"),
+    (b"back m", b"back m undone 0 fired 1\n"),
+    (b"journal", b"journal 1\n0 2 rank 0\n"),
+];
+
+/// A reduction to the end, and all undone.
+const REDUCING: [(&[u8], &[u8]); 6] = [
+    (b"undo-all", b"undone-all 0\n"),
+    (b"reduce 0", b"reduced 0 budget\n"),
+    (b"reduce 9", b"reduced 4 normal\n"),
+    (b"reduce 9", b"reduced 0 normal\n"),
+    (b"undo-all", b"undone-all 4\n"),
+    (b"journal", b"journal 0\n"),
+];
+
+/// Absorbing events one by one.
+const ABSORBING: [(&[u8], &[u8]); 5] = [
+    (b"1 0.0", b"refused 51 1 0.0\n"),
+    (b"0 2", b"absorbed 1\n"),
+    (b"0 2", b"absorbed 0\n"),
+    (b"1 0.0", b"absorbed 1\n"),
+    (b"journal", b"journal 2\n0 2 rank 0\n1 0.0 rank 1\n"),
+];
+
+#[test]
+fn firing_over_the_table(rt: HostRuntime) -> Result<(), Fail> {
+    assert_eq!(rt; plays::<Store>(rt.alloc(), &FIRING), Some(true));
+    Ok(())
+}
+
+#[test]
+fn firing_over_rows(rt: HostRuntime) -> Result<(), Fail> {
+    assert_eq!(rt; plays::<LinkRows>(rt.alloc(), &FIRING), Some(true));
+    Ok(())
+}
+
+#[test]
+fn going_back_over_the_table(rt: HostRuntime) -> Result<(), Fail> {
+    assert_eq!(rt; plays::<Store>(rt.alloc(), &GOING_BACK), Some(true));
+    Ok(())
+}
+
+#[test]
+fn going_back_over_rows(rt: HostRuntime) -> Result<(), Fail> {
+    assert_eq!(rt; plays::<LinkRows>(rt.alloc(), &GOING_BACK), Some(true));
+    Ok(())
+}
+
+#[test]
+fn reducing_over_the_table(rt: HostRuntime) -> Result<(), Fail> {
+    assert_eq!(rt; plays::<Store>(rt.alloc(), &REDUCING), Some(true));
+    Ok(())
+}
+
+#[test]
+fn absorbing_over_the_table(rt: HostRuntime) -> Result<(), Fail> {
+    assert_eq!(rt; plays::<Store>(rt.alloc(), &ABSORBING), Some(true));
+    Ok(())
+}
+
+#[test]
+fn absorbing_over_rows(rt: HostRuntime) -> Result<(), Fail> {
+    assert_eq!(rt; plays::<LinkRows>(rt.alloc(), &ABSORBING), Some(true));
+    Ok(())
+}

@@ -1,0 +1,8 @@
+use Rattle.ic_path.specs.Orders.{Alike}
+use Rattle.ic_test_text.proofs.table.shared_slots.agents_under_one_slot_have_ports_of_their_own.Given as goal
+
+abbrev pub invariant-loop-links : goal.invariant-loop-links
+invariant-loop-links g l = Alike l.table.links l.rows
+
+abbrev pub invariant-loop-joined : goal.invariant-loop-joined
+invariant-loop-joined g l = Alike l.table.links l.rows

@@ -1,0 +1,48 @@
+use crate::table::paths::{link, put};
+use ic_link::{Far, LinkStore};
+use ic_name::Spot;
+use ic_table::PortTable;
+
+/// What a table answers of three names, and of its rings.
+#[derive(Clone, Copy, PartialEq, Eq)]
+struct Seen {
+    degrees: [u8; 3],
+    fars: [Far; 3],
+    rings: u64,
+}
+
+impl Seen {
+    fn of(table: &PortTable, names: [u32; 3]) -> Seen {
+        let [a, b, c] = names;
+        let (a, b, c) = (Spot::Name(a), Spot::Name(b), Spot::Name(c));
+        Seen {
+            degrees: [table.degree(a), table.degree(b), table.degree(c)],
+            fars: [table.far(a), table.far(b), table.far(c)],
+            rings: table.rings(),
+        }
+    }
+}
+
+/// Puts in a link between two names. Where memory is wanting, the table answers as before, and takes it the next time.
+fn put_at_last(table: &mut PortTable, line: u32, a: u32, b: u32) -> bool {
+    let added = link((line, 0, a, b));
+    let before = Seen::of(table, [0, a, b]);
+    if put(table, added) {
+        return table.has_id(added.id);
+    }
+    !table.has_id(added.id)
+        && Seen::of(table, [0, a, b]) == before
+        && put(table, added)
+        && table.has_id(added.id)
+}
+
+#[test]
+fn a_refused_growth_leaves_the_list(rt: HostRuntime) {
+    let mut table = PortTable::empty(rt.alloc());
+    for k in 0..100 {
+        assert!(rt; put_at_last(&mut table, k, k, k + 1));
+        assert!(rt; table.far(Spot::Name(0)) == Far::End(Spot::Name(k + 1)));
+    }
+    assert!(rt; put_at_last(&mut table, 100, 100, 0));
+    assert_eq!(rt; table.rings(), 1);
+}

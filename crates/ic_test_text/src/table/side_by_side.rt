@@ -1,0 +1,89 @@
+ghost use Rattle.std.specs.Prelude.{OnOk};
+ghost use Rattle.ic_path.specs.Orders.{Alike};
+
+use crate::link::{has_places, path_places};
+use crate::table::paths::{Row, event, link};
+use ic_link::{LinkRows, LinkStore, has_room};
+use ic_name::{EventId, Link, Spot};
+use ic_table::PortTable;
+use std::alloc::{AllocError, Global};
+use std::test::Fail;
+
+/// Puts a link into both stores. An error comes where it finds no room, or memory is wanting.
+pub(crate) fn put_both(
+    table: &mut PortTable,
+    rows: &mut LinkRows,
+    link: Link,
+) -> Result<(), AllocError>
+    requires { Alike table.old.links rows.old }
+    ensures { OnOk result (Alike table.new.links rows.new) }
+{
+    if table.has_id(link.id) || !has_room(table, &link) {
+        return Err(AllocError);
+    }
+    table.add(link)?;
+    rows.add(link)?;
+    Ok(())
+}
+
+/// Takes the links of an event out of both stores.
+pub(crate) fn take_both(table: &mut PortTable, rows: &mut LinkRows, event: EventId)
+    requires { Alike table.old.links rows.old }
+    ensures { Alike table.new.links rows.new }
+{
+    table.take_of(event);
+    rows.take_of(event);
+}
+
+/// Whether both stores have the same path at a name.
+fn have_same_path(alloc: Global, table: &PortTable, rows: &LinkRows, name: u32) -> bool {
+    match path_places(alloc, rows, name) {
+        Some(places) => has_places(alloc, table, name, places.as_slice()),
+        None => false,
+    }
+}
+
+/// Whether both stores give the same answers of a name.
+fn agree_at(alloc: Global, table: &PortTable, rows: &LinkRows, name: u32) -> bool {
+    let spot = Spot::Name(name);
+    let degree = table.degree(spot);
+    degree == rows.degree(spot)
+        && table.far(spot) == rows.far(spot)
+        && (degree != 1 || have_same_path(alloc, table, rows, name))
+}
+
+/// Whether both stores give the same answers.
+fn agree(alloc: Global, table: &PortTable, rows: &LinkRows) -> bool {
+    for name in 0..8 {
+        if !agree_at(alloc, table, rows, name) {
+            return false;
+        }
+    }
+    table.rings() == rows.rings()
+}
+
+/// The links that are put in one after the other, and the event whose links then go.
+const ROUNDS: [([Row; 2], u32); 6] = [
+    ([(1, 0, 0, 1), (1, 1, 2, 3)], 9),
+    ([(2, 2, 1, 2), (2, 3, 5, 5)], 9),
+    ([(3, 4, 3, 0), (3, 5, 4, 6)], 1),
+    ([(4, 6, 0, 4), (4, 7, 2, 6)], 2),
+    ([(5, 8, 1, 1), (5, 9, 7, 2)], 3),
+    ([(6, 10, 0, 6), (6, 11, 3, 5)], 4),
+];
+
+#[test]
+fn a_table_answers_as_rows_do(rt: HostRuntime) -> Result<(), Fail> {
+    let alloc = rt.alloc();
+    let mut table = PortTable::empty(alloc);
+    let mut rows = LinkRows::empty(alloc);
+    for (links, taken) in &ROUNDS {
+        for added in links {
+            put_both(&mut table, &mut rows, link(*added))?;
+            assert!(rt; agree(alloc, &table, &rows));
+        }
+        take_both(&mut table, &mut rows, event(*taken));
+        assert!(rt; agree(alloc, &table, &rows));
+    }
+    Ok(())
+}

@@ -1,0 +1,5 @@
+//! Tests of `ic_text`.
+
+mod print;
+mod profiles;
+mod read;

@@ -1,4 +1,0 @@
-use Rattle.ic_test_threads.proofs.missing.one_kept_back.Given as goal
-
-abbrev pub ghosts-fault_without_a_pass : goal.ghosts-fault_without_a_pass
-ghosts-fault_without_a_pass g a = record { name = a.blank.name; parts = a.blank.parts }

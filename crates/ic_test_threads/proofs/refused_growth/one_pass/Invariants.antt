@@ -1,4 +1,0 @@
-use Rattle.ic_test_threads.proofs.refused_growth.one_pass.Given as goal
-
-abbrev pub ghosts-settles : goal.ghosts-settles
-ghosts-settles g a = record { name = a.blank.name; parts = a.blank.parts }

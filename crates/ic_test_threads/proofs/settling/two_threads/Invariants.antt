@@ -1,4 +1,0 @@
-use Rattle.ic_test_threads.proofs.settling.two_threads.Given as goal
-
-abbrev pub ghosts-settled_of_two : goal.ghosts-settled_of_two
-ghosts-settled_of_two g a = record { name = a.blank.name; parts = a.blank.parts }

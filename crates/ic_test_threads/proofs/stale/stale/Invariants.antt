@@ -1,4 +1,0 @@
-use Rattle.ic_test_threads.proofs.stale.stale.Given as goal
-
-abbrev pub ghosts-refused : goal.ghosts-refused
-ghosts-refused g a = record { name = a.blank.name; parts = a.blank.parts }

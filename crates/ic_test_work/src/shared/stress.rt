@@ -1,0 +1,173 @@
+ghost use Rattle.std.specs.Prelude.{◌≡◌};
+
+use crate::benches::{FOUR_COPIES, bench_over};
+use ic_journal::{Bench, Proposal, Store};
+use ic_name::{Call, Event, EventId, Line};
+use ic_shared::{Pass, Shared, settle, share};
+use ic_text::print_net;
+use ic_undo::undo_all;
+use ic_work::{End, NoGate, sweep};
+use std::alloc::Global;
+use std::marker::Brand;
+use std::sync::Wait;
+use std::sync::ledger::{Blank, Ledger};
+use std::test::Fail;
+use std::thread::{Threads, for_each_mut};
+
+/// The turns that each pass makes.
+const TURNS: u32 = 1000;
+
+/// The passes that fire; the others undo.
+const FIRING: usize = 2;
+
+/// The number after this one, of a linear congruence.
+fn next_number(seed: u64) -> u64 {
+    seed.wrapping_mul(6364136223846793005)
+        .wrapping_add(1442695040888963407)
+}
+
+/// A proposal that an active pair meets, if there is one: the pair that the number picks.
+fn picked_pair(bench: &Bench<Store>, number: u64) -> Option<Proposal> {
+    let pairs = bench.active().ok()?;
+    let count = pairs.len() as u64;
+    if count == 0 {
+        return None;
+    }
+    let pair = pairs.get((number % count) as usize)?;
+    bench.propose(pair.lead, pair.other).ok()
+}
+
+/// A standing event, if there is one: the event that the number picks.
+fn picked_event(bench: &Bench<Store>, number: u64) -> Option<EventId> {
+    let events = bench.standing().ok()?;
+    let count = events.len() as u64;
+    if count == 0 {
+        return None;
+    }
+    events.get((number % count) as usize).copied()
+}
+
+/// Fires the active pair that the number picks. It may have gone by the time of the call.
+fn fire<B: Ledger, R: Wait>(rt: &R, shared: &Shared<B>, pass: &mut Pass<B>, number: u64) {
+    if let Some(proposal) = shared.look(rt, |bench| picked_pair(bench, number)) {
+        let _ = shared.fire(rt, pass, proposal);
+    }
+}
+
+/// Undoes the event that the number picks. It may have gone by the time of the call.
+fn undo<B: Ledger, R: Wait>(rt: &R, shared: &Shared<B>, pass: &mut Pass<B>, number: u64) {
+    if let Some(id) = shared.look(rt, |bench| picked_event(bench, number)) {
+        let _ = shared.undo(rt, pass, id);
+    }
+}
+
+/// Makes the turns of the pass at this place, by random numbers.
+fn make_turns<B: Ledger, R: Wait>(rt: &R, shared: &Shared<B>, pass: &mut Pass<B>, place: usize) {
+    let mut number = next_number(place as u64);
+    for _ in 0..TURNS {
+        number = next_number(number);
+        if place < FIRING {
+            fire(rt, shared, pass, number >> 33);
+        } else {
+            undo(rt, shared, pass, number >> 33);
+        }
+    }
+}
+
+/// A proposal of the event once more.
+fn proposal_of(event: &Event) -> Option<Proposal> {
+    let lead = event.lead().copy().ok()?;
+    let other = event.other().copy().ok()?;
+    Proposal::make(lead, event.lead_kind(), other, event.other_kind())
+}
+
+/// Makes the call of a line.
+fn repeat(bench: &mut Bench<Store>, line: &Line) -> Option<()> {
+    match &line.call {
+        Call::Fire(event) => {
+            let _ = bench.fire(proposal_of(event)?);
+        }
+        Call::Undo(line) => {
+            let id = EventId {
+                slot: 0,
+                line: *line,
+            };
+            let _ = bench.undo(id);
+        }
+    }
+    Some(())
+}
+
+/// The text of what a bench shows.
+fn net_of(alloc: Global, bench: &Bench<Store>) -> Option<Vec<u8>> {
+    let net = bench.net().ok()?;
+    print_net(alloc, &net, bench.start().names()).ok()
+}
+
+/// Makes the calls of a history again.
+fn repeat_all(bench: &mut Bench<Store>, lines: &[Line]) -> Option<()> {
+    for line in lines {
+        repeat(bench, line)?;
+    }
+    Some(())
+}
+
+/// Whether a new bench on which the calls of the history are made again shows the same net.
+fn shows_the_same_again(alloc: Global, bench: &Bench<Store>) -> Option<bool> {
+    let mut again = bench_over(alloc, FOUR_COPIES)?;
+    repeat_all(&mut again, &bench.history().ok()?)?;
+    Some(net_of(alloc, bench)?.as_slice() == net_of(alloc, &again)?.as_slice())
+}
+
+/// The bench on which four threads made their turns, settled.
+fn settled_of_four<B: Ledger + Send + Sync, R: Threads + Wait + Sync>(
+    rt: &R,
+    alloc: Global,
+    bench: Bench<Store>,
+    blank: Blank,
+) -> Option<Bench<Store>>
+    requires name { blank.name ≡ B.name }
+    requires parts { (blank.parts ≡ B.parts) × (blank.parts ≡ 5) }
+{
+    let (shared, opening, mut passes) = share::<B>(alloc, bench, blank, 4).ok()?;
+    for_each_mut(
+        rt,
+        passes.as_mut_slice(),
+        4,
+        &|place, pass| { make_turns(rt, &shared, pass, place) },
+    );
+    let settled = settle(opening, passes, shared).ok()?;
+    Some(settled.bench)
+}
+
+fn four_threads<R: Threads + Wait + Sync>(rt: &R, alloc: Global) -> Option<Bench<Store>> {
+    let bench = bench_over(alloc, FOUR_COPIES)?;
+    settled_of_four::<Brand, R>(rt, alloc, bench, Blank::new(5))
+}
+
+/// Whether the bench shows the net of the start.
+fn shows_the_start(alloc: Global, bench: &Bench<Store>) -> Option<bool> {
+    let fresh = bench_over(alloc, FOUR_COPIES)?;
+    Some(net_of(alloc, bench)?.as_slice() == net_of(alloc, &fresh)?.as_slice())
+}
+
+/// Whether a sweep by four workers leaves all sixteen events at its normal end, and undoing them shows the start again.
+fn sweeps_and_clears<R: Threads + Wait + Sync>(
+    rt: &R,
+    alloc: Global,
+    bench: Bench<Store>,
+) -> Option<bool> {
+    let swept = sweep(rt, alloc, bench, 4, 1_048_576, &NoGate).ok()?;
+    let normal = swept.end == End::Normal;
+    let mut bench = swept.bench;
+    let undone = undo_all(alloc, &mut bench).ok()?.len();
+    Some(normal && undone == 16 && shows_the_start(alloc, &bench)?)
+}
+
+#[test]
+fn four_threads_settle_under_stress(rt: HostRuntime) -> Result<(), Fail> {
+    let bench = four_threads(&rt, rt.alloc()).ok_or("four threads")?;
+    assert_eq!(rt; shows_the_same_again(rt.alloc(), &bench), Some(true));
+    assert_eq!(rt; sweeps_and_clears(&rt, rt.alloc(), bench), Some(true));
+    Ok(())
+}

@@ -1,0 +1,32 @@
+ghost use Rattle.std.specs.Prelude.{◌≡◌, ◌<◌};
+ghost use Rattle.ic_text.specs.Numbers.{bare, port_number, GivesPort};
+
+/// The numbers of the wires at an agent's ports, where they have any.
+#[derive(Clone, Copy)]
+pub(crate) struct PortNumbers {
+    ports: [Option<u64>; 3],
+}
+
+impl PortNumbers {
+    /// No numbers.
+    pub(crate) fn bare() -> PortNumbers
+        ensures { result ≡ bare }
+    {
+        PortNumbers { ports: [None; 3] }
+    }
+
+    /// The number at a port, if it has one.
+    pub(crate) fn get(&self, port: u8) -> Option<u64>
+        ensures { result ≡ port_number self.now port }
+    {
+        *self.ports.get(usize::from(port))?
+    }
+
+    /// Gives a port a number.
+    pub(crate) fn give(&mut self, port: u8, number: u64)
+        requires { port < 3 }
+        ensures { GivesPort port number self.old self.new }
+    {
+        self.ports[usize::from(port)] = Some(number);
+    }
+}

@@ -1,0 +1,173 @@
+ghost use Rattle.std.specs.Prelude.{◌≡◌, ◌++◌, ◌+◌, ◌<◌, ◌^◌, map, length, codes, decimal, OnOk, All};
+ghost use Rattle.std.specs.List.{flat_map};
+ghost use Rattle.ic_name.specs.Kinds.{arity};
+ghost use Rattle.ic_text.specs.Lines.{ring_line};
+ghost use Rattle.ic_text.specs.NetText.{agent_line, arguments, header, letter, name_text, numbered, port_label, profile_line, ring_lines};
+ghost use Rattle.ic_text.specs.Numbers.{IsPlaced};
+ghost use Rattle.ic_text.specs.NumberedWires.{wires_in};
+ghost use Rattle.ic_net.specs.Views.{shown_agent};
+
+use crate::print::numbered::NumberedAgents;
+use crate::print::placed::PlacedAgent;
+use crate::print::ports::partner;
+use ic_name::{Kind, Port, Profile};
+use ic_start::Texts;
+use itoa::Buffer;
+use std::alloc::AllocError;
+
+/// The text of the name of this number.
+pub(crate) fn text_of(names: &Texts, number: u32) -> &[u8]
+    ensures { result.now ≡ name_text names.now number }
+{
+    match names.get(number as usize) {
+        Some(text) => text,
+        None => &[],
+    }
+}
+
+fn put_decimal(out: &mut Vec<u8>, n: u64) -> Result<(), AllocError>
+    ensures { OnOk result (out.new.items ≡ out.old.items ++ decimal n) }
+{
+    let mut buffer = Buffer::new();
+    out.extend_from_slice(buffer.format(n).as_bytes())
+}
+
+fn put_numbered(out: &mut Vec<u8>, number: u64) -> Result<(), AllocError>
+    ensures { OnOk result (out.new.items ≡ out.old.items ++ numbered number) }
+{
+    out.extend_from_slice(b"_")?;
+    put_decimal(out, number)
+}
+
+/// Writes the wire at an agent's port: the free name at its other end, or else its number.
+fn put_port(
+    out: &mut Vec<u8>,
+    sheet: &NumberedAgents<'_>,
+    names: &Texts,
+    agent: &PlacedAgent<'_>,
+    port: u8,
+) -> Result<(), AllocError>
+    requires placed { IsPlaced (map shown_agent sheet.now.agents.now) agent.now }
+    requires port { port < length agent.now.view.partners.now }
+    ensures { OnOk result (out.new.items ≡ out.old.items ++ port_label names.now (wires_in sheet.now) (shown_agent agent.now.view) port) }
+{
+    match partner(&agent.view, port) {
+        Port::Name(number) => out.extend_from_slice(text_of(names, *number)),
+        Port::Of(..) => put_numbered(out, sheet.number(agent, port)),
+    }
+}
+
+fn put_letter(out: &mut Vec<u8>, kind: Kind) -> Result<(), AllocError>
+    ensures { OnOk result (out.new.items ≡ out.old.items ++ letter kind) }
+{
+    match kind {
+        Kind::Gamma => out.extend_from_slice(b"G"),
+        Kind::Delta => out.extend_from_slice(b"D"),
+        Kind::Eps => out.extend_from_slice(b"E"),
+    }
+}
+
+/// Writes the parentheses of a gamma or delta, with its auxiliary ports.
+fn put_arguments(
+    out: &mut Vec<u8>,
+    sheet: &NumberedAgents<'_>,
+    names: &Texts,
+    agent: &PlacedAgent<'_>,
+) -> Result<(), AllocError>
+    requires placed { IsPlaced (map shown_agent sheet.now.agents.now) agent.now }
+    requires whole { length agent.now.view.partners.now ≡ arity agent.now.view.kind + 1 }
+    ensures { OnOk result (out.new.items ≡ out.old.items ++ arguments names.now (wires_in sheet.now) (shown_agent agent.now.view) agent.now.view.kind) }
+{
+    match agent.view.kind {
+        Kind::Eps => Ok(()),
+        Kind::Gamma | Kind::Delta => {
+            out.extend_from_slice(b"(")?;
+            put_port(out, sheet, names, agent, 1)?;
+            out.extend_from_slice(b",")?;
+            put_port(out, sheet, names, agent, 2)?;
+            out.extend_from_slice(b")")
+        }
+    }
+}
+
+/// Writes the line of an agent.
+pub(crate) fn put_line(
+    out: &mut Vec<u8>,
+    sheet: &NumberedAgents<'_>,
+    names: &Texts,
+    agent: &PlacedAgent<'_>,
+) -> Result<(), AllocError>
+    requires placed { IsPlaced (map shown_agent sheet.now.agents.now) agent.now }
+    requires whole { length agent.now.view.partners.now ≡ arity agent.now.view.kind + 1 }
+    ensures { OnOk result (out.new.items ≡ out.old.items ++ agent_line names.now (wires_in sheet.now) (shown_agent agent.now.view)) }
+{
+    put_letter(out, agent.view.kind)?;
+    put_arguments(out, sheet, names, agent)?;
+    out.extend_from_slice(b" = ")?;
+    put_port(out, sheet, names, agent, 0)?;
+    out.extend_from_slice(b";\n")
+}
+
+/// Writes the lines of the agents.
+pub(crate) fn put_agents(
+    out: &mut Vec<u8>,
+    sheet: &NumberedAgents<'_>,
+    names: &Texts,
+) -> Result<(), AllocError>
+    requires { All (λ a. length a.partners ≡ arity a.kind + 1) (map shown_agent sheet.now.agents.now) }
+    ensures { OnOk result (out.new.items ≡ out.old.items ++ flat_map (agent_line names.now (wires_in sheet.now)) (map shown_agent sheet.now.agents.now)) }
+{
+    for (place, view) in sheet.agents().iter().enumerate() {
+        put_line(out, sheet, names, &PlacedAgent { place, view: *view })?;
+    }
+    Ok(())
+}
+
+/// Writes the first line, which counts agents, wires and rings.
+pub(crate) fn put_header(
+    out: &mut Vec<u8>,
+    agents: u64,
+    wires: u64,
+    rings: u64,
+) -> Result<(), AllocError>
+    ensures { OnOk result (out.new.items ≡ out.old.items ++ header agents wires rings) }
+{
+    out.extend_from_slice(b"# agents ")?;
+    put_decimal(out, agents)?;
+    out.extend_from_slice(b" wires ")?;
+    put_decimal(out, wires)?;
+    out.extend_from_slice(b" rings ")?;
+    put_decimal(out, rings)?;
+    out.extend_from_slice(b"\n")
+}
+
+/// Writes the line of the profile, if it has one.
+pub(crate) fn put_profile(out: &mut Vec<u8>, profile: Profile) -> Result<(), AllocError>
+    ensures { OnOk result (out.new.items ≡ out.old.items ++ profile_line profile) }
+{
+    match profile {
+        Profile::Classic => Ok(()),
+        Profile::Straight => out.extend_from_slice(b"@straight;\n"),
+    }
+}
+
+fn put_ring(out: &mut Vec<u8>, number: u64) -> Result<(), AllocError>
+    ensures { OnOk result (out.new.items ≡ out.old.items ++ ring_line number) }
+{
+    put_numbered(out, number)?;
+    out.extend_from_slice(b" = ")?;
+    put_numbered(out, number)?;
+    out.extend_from_slice(b";\n")
+}
+
+/// Writes the lines of the rings, numbered from `first` on.
+#[tactic(auto, using(crate::proofs::Rings::one_ring, crate::proofs::Rings::no_rings))]
+pub(crate) fn put_rings(out: &mut Vec<u8>, first: u64, rings: u64) -> Result<(), AllocError>
+    requires { first + rings < 2 ^ 64 }
+    ensures { OnOk result (out.new.items ≡ out.old.items ++ ring_lines first rings) }
+{
+    for i in 0..rings {
+        put_ring(out, first + i)?;
+    }
+    Ok(())
+}
