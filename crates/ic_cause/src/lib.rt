@@ -10,7 +10,7 @@ pub mod shown;
 pub use journal::{RankedEvent, journal_head, journal_text, push_line};
 pub use laws::{one_future, one_journal};
 pub use makers::direct_causes;
-pub use order::{canonical_cmp, rank_of};
+pub use order::{canonical_cmp, rank_of, rank_with};
 
 #[cfg(test)]
 mod tests;

@@ -1,4 +1,4 @@
-ghost use Rattle.std.specs.Prelude.{◌≡◌, ℕ, ◌≤◌, All};
+ghost use Rattle.std.specs.Prelude.{◌≡◌, ℕ, ◌≤◌, ◌+◌, max, All};
 ghost use Rattle.ic_name.specs.Events.{Event as AnEvent};
 ghost use Rattle.ic_theory.specs.Causes.{canonical_cmp as canonical_order};
 ghost use Rattle.ic_cause.specs.Places.{place_cmp};
@@ -16,11 +16,18 @@ pub fn rank_of(ranks: &[u32]) -> u32
 {
     let mut above = 0;
     for rank in ranks {
-        if above <= *rank {
-            above = *rank + 1;
-        }
+        above = rank_with(above, *rank);
     }
     above
+}
+
+/// The rank of an event with one direct cause more, which has the rank `cause`: `rank` is that over its other causes. It
+/// takes no memory.
+pub fn rank_with(rank: u32, cause: u32) -> u32
+    requires { cause ≤ MAX_LINES }
+    ensures { result ≡ max rank (cause + 1) }
+{
+    rank.max(cause + 1)
 }
 
 /// The canonical order of two events of these ranks: by rank, then lead, then other. It takes no memory.

@@ -34,7 +34,3 @@ rank_more ss ids rank x own h i = record { above = above; least = least (cases_l
     least : (rank < x.rank + 1) ⊎ (x.rank + 1 ≤ rank) → (max rank (x.rank + 1) ≡ 0) ⊎ ((y : Stander) × IsIn y ss × IsIn y.id (ids ++ x.id ∷ []) × (max rank (x.rank + 1) ≡ y.rank + 1))
     least (inl above) = inr (x, i, in_end x.id ids, max-eq_right (omega arith))
     least (inr low) = still h.least low
-
--- the greater of two numbers, as it is picked
-pub greater_is : (a b : ℕ) → ord_max nat_cmp a b ≡ max a b
-greater_is a b = search (comparing, rules, arith)

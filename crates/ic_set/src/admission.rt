@@ -21,7 +21,7 @@ use crate::bare::BareSet;
 use crate::entering::{NewAgent, children_of, enter_all, remove_all};
 use crate::joining::add_made;
 use crate::pairs::ActivePair;
-use ic_cause::direct_causes;
+use ic_cause::{direct_causes, rank_with};
 use ic_link::LinkStore;
 use ic_name::{AgentId, EventId, Kind, RuleEnd};
 use ic_roster::{Interaction, Roster};
@@ -129,7 +129,7 @@ impl<L: LinkStore> BareSet<L> {
             let Some(entry) = self.roster.event(*cause) else {
                 unreachable!()
             };
-            rank = rank.max(entry.rank + 1);
+            rank = rank_with(rank, entry.rank);
         }
         rank
     }

@@ -3,7 +3,6 @@
 
 pub mod admission;
 pub mod bare;
-mod comparing;
 mod entering;
 mod joining;
 pub mod kinds;

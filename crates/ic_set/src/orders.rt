@@ -2,7 +2,8 @@ ghost use Rattle.std.specs.Prelude.{◌≡◌, All, map, IfOk};
 ghost use Rattle.ic_name.specs.declared.ids.EventId.{EventId as AnEventId};
 ghost use Rattle.ic_path.specs.Orders.{IsIn, IsOnce};
 ghost use Rattle.ic_set.specs.Orders.{AreInOrder, IsAny, IsCauseOf, DependsOn};
-ghost use Rattle.ic_set.specs.Placed.{keyed_cmp, place, IsPlaced, ArePlaced};
+ghost use Rattle.ic_roster.specs.Rosters.{IsNamed};
+ghost use Rattle.ic_set.specs.Placed.{keyed_cmp, place, IsKeyed, IsPlaced, ArePlaced};
 ghost use Rattle.ic_set.specs.Removal.{Stands};
 
 use crate::bare::BareSet;
@@ -74,7 +75,7 @@ impl<L: LinkStore> BareSet<L> {
         self.lawful();
         let mut placed = self.placed(ids)?;
         let names = self.roster.names();
-        placed.sort_by(|a, b| placed_order(names, a, b))?;
+        placed.sort_by(|a, b| canonical_order(names, a, b))?;
         Ok(placed)
     }
 
@@ -90,19 +91,35 @@ impl<L: LinkStore> BareSet<L> {
             let Some(entry) = self.roster.event(*id) else {
                 unreachable!()
             };
-            placed.push(Placed {
-                id: *id,
-                interaction: entry.interaction,
-                rank: entry.rank,
-                key: names.key(entry.interaction.lead),
-            })?;
+            placed.push(placed_event(names, *id, entry.interaction, entry.rank))?;
         }
         Ok(placed)
     }
 }
 
-/// The canonical order of two events, in which the table is asked only where ranks and keys are one. It takes no memory.
-fn placed_order(names: &NameTable, a: &Placed, b: &Placed) -> Ordering
+/// A standing event with what it is put in order by. It takes no memory.
+pub(crate) fn placed_event(
+    names: &NameTable,
+    id: EventId,
+    interaction: Interaction,
+    rank: u32,
+) -> Placed
+    ensures id { result.id ≡ id }
+    ensures interaction { result.interaction ≡ interaction }
+    ensures rank { result.rank ≡ rank }
+    ensures keyed { IsNamed names.now interaction → IsKeyed names.now result }
+{
+    Placed {
+        id,
+        interaction,
+        rank,
+        key: names.key(interaction.lead),
+    }
+}
+
+/// The canonical order of two standing events: by rank, then lead, then other. The table is asked only where ranks and keys
+/// are one. It takes no memory.
+pub(crate) fn canonical_order(names: &NameTable, a: &Placed, b: &Placed) -> Ordering
     ensures { result ≡ keyed_cmp (place names.now a.now) (place names.now b.now) }
 {
     a.rank

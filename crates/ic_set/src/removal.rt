@@ -8,8 +8,8 @@ ghost use Rattle.ic_set.specs.Cleared.{AreAll, Clears};
 ghost use Rattle.ic_set.specs.Removal.{Stands, IsFree, IsLeast, TellsOrder, IsLeastOf};
 
 use crate::bare::BareSet;
-use crate::comparing::canonical_order;
 use crate::entering::remove_all;
+use crate::orders::{canonical_order, placed_event};
 use ic_link::LinkStore;
 use ic_name::EventId;
 use ic_names::NameId;
@@ -86,5 +86,8 @@ fn comes_before(roster: &Roster, first: EventId, second: EventId) -> bool
     let Some(y) = roster.event(second) else {
         return false;
     };
-    canonical_order(roster.names(), x.interaction, x.rank, y.interaction, y.rank).is_lt()
+    let names = roster.names();
+    let a = placed_event(names, first, x.interaction, x.rank);
+    let b = placed_event(names, second, y.interaction, y.rank);
+    canonical_order(names, &a, &b).is_lt()
 }

@@ -13,7 +13,7 @@ pub fn answer_of<L: LinkStore>(
 ) -> Result<Answer, Fail> {
     let command = match asked_of(alloc, line)? {
         Asked::Alone(Request::Bench(command)) => command,
-        _ => Command::Malformed,
+        _other => Command::Malformed,
     };
     Ok(carry_out(alloc, bench, command, &NoGate)?)
 }

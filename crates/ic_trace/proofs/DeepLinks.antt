@@ -1,5 +1,5 @@
 -- Each link of an event with children ends at a child; where no event can name it, nothing depends on the event.
-use Rattle.std.proofs.Common.{◌≡◌, ◌≢◌, ℕ, zero, suc, ◌+◌, ◌≤◌, Bool, true, false, List, [], ◌∷◌, map, ◌⊎◌, inl, inr, Option, Some, None, refl, sym, ap, arith, ◌∙◌, subst, length-append}
+use Rattle.std.proofs.Common.{◌≡◌, ◌≢◌, ℕ, zero, suc, ◌+◌, ◌≤◌, Bool, true, false, List, [], ◌∷◌, map, ◌⊎◌, inl, inr, Option, Some, refl, sym, ap, arith, ◌∙◌, subst, length-append}
 use Rattle.std.specs.Prelude.{if◌then◌else◌, eqb}
 use Rattle.ic_name.specs.Names.{Name, depth, child_name}
 use Rattle.ic_name.specs.Events.{Event}
@@ -25,8 +25,8 @@ use Rattle.ic_theory.specs.Sets.{agents, links, named_times, consumed_times}
 use Rattle.ic_theory.specs.Sound.{IsSound}
 use Rattle.ic_theory.specs.Starts.{Start, IsProper, net_shape}
 use Rattle.ic_theory.proofs.Counts.{port_degree, names_once}
-use Rattle.ic_theory.proofs.Future.{test_off, pick_part, Consumer, consumer}
-use Rattle.ic_theory.proofs.Sound.{placed_maker, trail_link}
+use Rattle.ic_theory.proofs.Future.{test_off, Consumer, consumer}
+use Rattle.ic_theory.proofs.Sound.{trail_link}
 use Rattle.ic_trace.specs.DeepEvents.{AreShallow}
 use Rattle.ic_theory.proofs.LinkOrder.{made_by_maker}
 use Rattle.ic_name.proofs.SameFacts.{port_name}

@@ -4,9 +4,7 @@ use Rattle.ic_name.specs.Events.{Event, Pair, pair}
 use Rattle.ic_name.specs.declared.ids.EventId.{EventId}
 use Rattle.ic_path.specs.Orders.{IsIn, IsOnce}
 use Rattle.ic_path.specs.Rings.{HasEachOnce}
-use Rattle.ic_path.proofs.EachOnce.{once_rest, once_cons}
-use Rattle.ic_path.proofs.Picks.{in_first, in_more, none_in, pick-map}
-use Rattle.ic_path.specs.Orders.{here}
+use Rattle.ic_path.proofs.Picks.{pick-map}
 use Rattle.ic_theory.specs.Causes.{IsCause}
 use Rattle.ic_theory.proofs.Ranks.{cause_in, cause_included}
 use Rattle.ic_path.proofs.InLists.{in-map, map_cases}

@@ -66,6 +66,7 @@ module _ (old new : PastView) (t : EventTable) (f : IsFollowed old t) (ok : IsPr
           part = record { others = j.others; alike = alike_then (alike_more j.others (alike_back w.events)) j.alike };
         };
         more = [];
+        one = omega arith;
         grown = sym (append-nil t.known.items);
         inside = h.0;
         name = ap (λ x. Fire (pair x)) same ∙ ap Fire is;
@@ -127,6 +128,7 @@ module _ (old new : PastView) (t : EventTable) (f : IsFollowed old t) (ok : IsPr
           record {
             followed = record { known = rw grown known; numbered = numbered; part = rw (grown, longer) within };
             more = k ∷ [];
+            one = omega arith;
             grown = grown;
             inside = rw (grown, last) (let l = length_push ks k in omega arith);
             name = ap (λ x. Fire (pair x)) at ∙ ap Fire is;

@@ -61,10 +61,11 @@ ends_in (l ∷ ls) (z ∷ zs) y e =
 
 module _ (s : Start) where
   -- nothing has been read yet
-  pub read_none : (p : PastView) (t : EventTable) → p.start ≡ s → IsFollowed p t → p.events ≡ [] → IsReadUpTo s [] p t []
-  read_none p t start f e = record {
+  pub read_none : (p : PastView) (t : EventTable) → p.start ≡ s → IsFollowed p t → p.events ≡ [] → t.known.items ≡ [] → IsReadUpTo s [] p t []
+  read_none p t start f e n = record {
     start = start;
     followed = f;
+    few = rw n (omega arith);
     inside = λ x i. absurd (none_in i);
     standing = [];
     runs = theory.stops;
@@ -84,12 +85,17 @@ module _ (s : Start) where
       record {
         start = a.start ∙ h.start;
         followed = a.followed;
+        few = (let one = a.one in let few = h.few in let longest = length-append xs (y ∷ []) in omega (arith, longer, one, few, longest));
         inside = λ z i. elim (in-append_cases steps i) [ inl j ↦ (let l = h.inside z j in omega arith) | inr j ↦ elim (in-cons_cases j) [ inl e ↦ rw e a.inside | inr n ↦ absurd (none_in n) ] ];
         standing = q.0;
         runs = rw split (runs_on s h.runs q.1);
         names = rw (split, map-append named (letters_in ks steps) (letter_in t'.known.items x ∷ [])) (λ i. h.names i ++ a.name i ∷ []);
         alike = alike_then (alike_back q.2) a.alike;
       }
+
+  -- fewer events are known than there may be lines
+  pub few_known : {xs : List Letter} {p : PastView} {t : EventTable} {steps : List Step} → IsReadUpTo s xs p t steps → length xs < MAX_LINES → length t.known.items < MAX_LINES
+  few_known h l = let few = h.few in omega (arith, few, l)
 
   -- fewer events stand than there may be lines
   pub few_stand : {xs : List Letter} {p : PastView} {t : EventTable} {steps : List Step} → IsReadUpTo s xs p t steps → length xs < MAX_LINES → length p.events < MAX_LINES

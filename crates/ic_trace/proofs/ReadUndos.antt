@@ -1,5 +1,5 @@
 -- Undos as they are read.
-use Rattle.std.proofs.Common.{◌≡◌, ℕ, [], ◌∷◌, ◌++◌, sym, ap, subst, ◌∙◌, append-nil, append_assoc, Some, None, true, false}
+use Rattle.std.proofs.Common.{◌≡◌, ℕ, [], ◌∷◌, ◌++◌, sym, ap, subst, ◌∙◌, append-nil, append_assoc, Some, None, true, false, arith}
 use Rattle.ic_name.specs.Events.{Pair, pair}
 use Rattle.ic_path.specs.Orders.{here, IsIn}
 use Rattle.ic_path.proofs.Alikes.{alike_then, alike_back, alike_more, alike-in, alike_pick}
@@ -42,6 +42,7 @@ module _ (old new : PastView) (t : EventTable) (f : IsFollowed old t) (n : Pair)
           part = record { others = part.others ++ u.0 ∷ []; alike = rw (append_assoc part.others (u.0 ∷ []) new.events) (alike_then (alike_more part.others w.events) part.alike) };
         };
         more = [];
+        one = omega arith;
         grown = sym (append-nil t.known.items);
         inside = h.0;
         name = ap (λ x. Undo (pair x)) same ∙ ap Undo u.1;

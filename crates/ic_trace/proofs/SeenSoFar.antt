@@ -1,19 +1,17 @@
 -- Lists of which a part has been seen.
-use Rattle.std.proofs.Common.{◌≡◌, ℕ, ◌+◌, ◌<◌, ◌≤◌, Bool, true, false, List, [], ◌∷◌, ◌++◌, length, take, get_or, ◌⊎◌, inl, inr, Some, None, refl, sym, ap, arith, subst, ◌∙◌}
+use Rattle.std.proofs.Common.{◌≡◌, ℕ, ◌<◌, ◌≤◌, Bool, true, false, List, [], ◌∷◌, ◌++◌, length, get_or, ◌⊎◌, inl, inr, Some, None, refl, sym, ap, arith, subst}
 use Rattle.std.specs.Prelude.{slice_get}
 use Rattle.std.specs.List.{swap_remove}
-use Rattle.std.proofs.lemmas.List.{take_more, map-append}
+use Rattle.std.proofs.lemmas.List.{map-append}
 use Rattle.std.proofs.lemmas.Option.{slice_get_cases, get_or_from_slice_get}
 use Rattle.ic_name.specs.Names.{Name}
 use Rattle.ic_name.specs.Same.{same_name}
 use Rattle.ic_name.proofs.SameFacts.{same_name_true}
 use Rattle.ic_path.specs.Orders.{IsIn, Alike}
-use Rattle.ic_path.proofs.Picks.{in-cons_cases, none_in}
 use Rattle.ic_theory.specs.Sets.{consumed_times}
-use Rattle.ic_theory.proofs.Future.{consumed_in, pick_part}
+use Rattle.ic_theory.proofs.Future.{consumed_in}
 use Rattle.ic_theory.proofs.Sound.{consumed-append}
 use Rattle.ic_path.proofs.InLists.{in-map}
-use Rattle.ic_path.proofs.OnceLists.{pick_at}
 use Rattle.ic_path.proofs.SwapRemoves.{swap_removed}
 use Rattle.ic_set.proofs.ConsumedAgents.{consumed_other}
 use Rattle.ic_trace.specs.declared.past.deep.DeepEvent.{DeepEvent}

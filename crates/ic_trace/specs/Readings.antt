@@ -1,5 +1,5 @@
 -- Lists of letters as they are read.
-use Rattle.std.specs.Prelude.{◌≡◌, ℕ, ◌<◌, List, [], ◌∷◌, ◌++◌, length, map, Option, Some, None}
+use Rattle.std.specs.Prelude.{◌≡◌, ℕ, ◌<◌, ◌≤◌, List, [], ◌∷◌, ◌++◌, length, map, Option, Some, None}
 use Rattle.ic_name.specs.Events.{Event, Pair, pair}
 use Rattle.ic_path.specs.Orders.{Alike, IsIn}
 use Rattle.ic_trace.specs.Pasts.{PastView}
@@ -58,6 +58,7 @@ pub record IsAccepted (old : PastView) (known : List Known) (y : Letter) (x : St
   pub followed : IsFollowed new t
   pub more : List Known
   pub grown : t.known.items ≡ known ++ more
+  pub one : length more ≤ 1
   pub inside : number_of x < length t.known.items
   pub name : named (letter_in t.known.items x) ≡ y
   pub start : new.start ≡ old.start
@@ -79,6 +80,7 @@ IsOnlyActive p n (Some e) = (pair e ≡ n) × ((f : Event) → pair f ≡ n → 
 pub record IsReadUpTo (s : Start) (xs : List Letter) (p : PastView) (t : EventTable) (steps : List Step) : Type 0 where
   pub start : p.start ≡ s
   pub followed : IsFollowed p t
+  pub few : length t.known.items ≤ length xs
   pub inside : AreInside t.known.items steps
   pub standing : List Event
   pub runs : theory.Runs s [] (letters_in t.known.items steps) standing

@@ -1,9 +1,11 @@
-ghost use Rattle.std.specs.Prelude.{◌≡◌, ◌<◌, ◌++◌, ◌∷◌, ℕ, [], length, map, None, OnOk, IfOk};
+ghost use Rattle.std.specs.Prelude.{◌≡◌, ◌<◌, ◌≤◌, ◌++◌, ◌∷◌, ℕ, [], length, map, None, OnOk, IfOk};
 ghost use Rattle.ic_name.specs.Events.{Pair};
+ghost use Rattle.ic_name.specs.declared.limits.TheConstants.{MAX_LINES};
 ghost use Rattle.ic_path.specs.Orders.{IsIn};
 ghost use Rattle.ic_trace.specs.declared.known.Known.{Known as AKnown};
 ghost use Rattle.ic_trace.specs.Known.{AreNumbered, IsNumberOf, AreNumbersOf, IsRankAbove};
 
+use ic_cause::rank_with;
 use ic_name::{AgentName, Event, EventName};
 use std::alloc::{AllocError, Global};
 use std::collections::BTreeMap;
@@ -13,7 +15,7 @@ use std::collections::BTreeMap;
 pub(crate) struct Known {
     pub event: Event,
     pub causes: Vec<usize>,
-    pub rank: usize,
+    pub rank: u32,
 }
 
 /// The events of a list of letters, numbered from 0 on as they are first fired, and their numbers by their leads.
@@ -76,14 +78,15 @@ impl EventTable {
 }
 
 /// One more than the greatest rank of these events, and 0 where there are none.
-pub(crate) fn rank_above(known: &[Known], causes: &[usize]) -> usize
+pub(crate) fn rank_above(known: &[Known], causes: &[usize]) -> u32
     requires inside { (j : ℕ) → IsIn j causes.now → j < length known.now }
     requires low { (k : AKnown) → IsIn k known.now → k.rank < length known.now }
+    requires few { length known.now ≤ MAX_LINES }
     ensures { IsRankAbove known.now causes.now result }
 {
     let mut rank = 0;
     for cause in causes {
-        rank = rank.max(known[*cause].rank + 1);
+        rank = rank_with(rank, known[*cause].rank);
     }
     rank
 }

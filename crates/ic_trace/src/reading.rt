@@ -86,6 +86,7 @@ fn read_letter(
 ) -> Result<Option<Step>, AllocError>
     requires followed { IsFollowed past.old table.old }
     requires few { length past.old.events < MAX_LINES }
+    requires noted { length table.old.known.items < MAX_LINES }
     ensures { IfOk result (λ step. ReadsAs past.old table.old.known.items letter.now step past.new table.new) }
 {
     match letter {
@@ -109,6 +110,7 @@ fn read_firing(
 ) -> Result<Option<usize>, AllocError>
     requires followed { IsFollowed past.old table.old }
     requires few { length past.old.events < MAX_LINES }
+    requires noted { length table.old.known.items < MAX_LINES }
     ensures { IfOk result (λ number. ReadsAs past.old table.old.known.items (Fire name.now) (option_map step.Fire number) past.new table.new) }
 {
     past.lawful();

@@ -1,8 +1,6 @@
-use Rattle.std.proofs.Common.{rules, ◌≡◌, ℕ, ◌+◌, ◌<◌, ◌≤◌, ◌⊎◌, cond, List, [], ◌∷◌, ◌++◌, inl, inr, length, get_or, refl, sym, ap, arith, ◌∙◌}
-use Rattle.std.proofs.lemmas.Cmp.{ranked}
-use Rattle.std.specs.Ordering.{nat_cmp, ord_max, is_lt}
-use Rattle.std.specs.declared.cmp.Ordering.{Ordering}
-use Rattle.std.specs.declared.cmp.Ordering.TheVariants.{Less, Equal, Greater}
+use Rattle.std.proofs.Common.{max, rules, ◌≡◌, ℕ, ◌+◌, ◌<◌, ◌≤◌, ◌⊎◌, List, [], ◌∷◌, ◌++◌, inl, inr, length, get_or, refl, ap, arith, ◌∙◌}
+use Rattle.std.proofs.Math.Nat.{max-eq_left, max-eq_right}
+use Rattle.std.proofs.lemmas.Bool.{cases_lt}
 use Rattle.ic_path.specs.Orders.{IsIn}
 use Rattle.ic_path.proofs.Picks.{in-cons_cases, none_in, in_first, pick_before}
 use Rattle.ic_set.proofs.InPlace.{in_at}
@@ -19,13 +17,12 @@ record Greatest (a b new : ℕ) : Type 0 where
   second : b ≤ new
   one : (new ≡ a) ⊎ (new ≡ b)
 
-greatest : (a b : ℕ) → Greatest a b (ord_max nat_cmp a b)
-greatest a b = go (nat_cmp b a) refl
+greatest : (a b : ℕ) → Greatest a b (max a b)
+greatest a b = by (cases_lt a b)
   where
-    go : (o : Ordering) → nat_cmp b a ≡ o → Greatest a b (cond (is_lt o) a b)
-    go Less e = let l = ranked b a Less (sym e) in record { first = omega arith; second = omega arith; one = inl refl }
-    go Equal e = let l = ranked b a Equal (sym e) in record { first = omega arith; second = omega arith; one = inr refl }
-    go Greater e = let l = ranked b a Greater (sym e) in record { first = omega arith; second = omega arith; one = inr refl }
+    by : (a < b) ⊎ (b ≤ a) → Greatest a b (max a b)
+    by (inl less) = let e : max a b ≡ b = max-eq_right (omega (arith, less)) in record { first = omega (arith, e, less); second = omega (arith, e); one = inr e }
+    by (inr more) = let e : max a b ≡ a = max-eq_left more in record { first = omega (arith, e); second = omega (arith, e, more); one = inl e }
 
 -- one cause more
 above_more : {ks : List Known} {causes : List ℕ} {rank : ℕ} (j new : ℕ) → IsRankAbove ks causes rank → Greatest rank (rank_at ks j + 1) new → IsRankAbove ks (causes ++ j ∷ []) new
@@ -51,12 +48,14 @@ bounds-known-cause-in-loop-cause c = c.requires.inside _ (in_at c.args.causes.no
 pub offset_bounds-known-cause : goal.offset_bounds-known-cause
 offset_bounds-known-cause c = let h : get_or c.args.causes.now c.loop-cause.cause-index 0 < length c.args.known.now = c.requires.inside _ (in_at c.args.causes.now c.loop-cause.cause-index 0 c.loop-cause-test.true) in search rules
 
-pub overflow_add-known : goal.overflow_add-known
-overflow_add-known c =
+pub rank_with-rank-requires : goal.rank_with-rank-requires
+rank_with-rank-requires c =
     let i = get_or c.args.causes.now c.loop-cause.cause-index 0 in
     let h : i < length c.args.known.now = c.requires.inside _ (in_at c.args.causes.now c.loop-cause.cause-index 0 c.loop-cause-test.true) in
     let low : (get_or c.args.known.now i c.index-known-cause.result).rank < length c.args.known.now = c.requires.low _ (in_at c.args.known.now i c.index-known-cause.result h) in
-    search rules
+    let few = c.requires.few in
+    let e = ap (λ (x : Known). x.rank) c.index-known-cause.is in
+    omega (arith, low, few, e)
 
 pub loop-cause-preserved : goal.loop-cause-preserved
 loop-cause-preserved c =
@@ -66,11 +65,11 @@ loop-cause-preserved c =
     let h : i < length ks = c.requires.inside _ (in_at c.args.causes.now c.loop-cause.cause-index 0 c.loop-cause-test.true) in
     let low : (get_or ks i k).rank < length ks = c.requires.low _ (in_at ks i k h) in
     let is : rank_at ks i ≡ (get_or ks i k).rank = read_rank ks i k h c.index-known-cause.is ∙ ap (λ (x : Known). x.rank) c.index-known-cause.is in
-    let g : Greatest c.loop-cause.rank ((get_or ks i k).rank + 1) c.max-rank.result = rw c.max-rank.ensures (greatest c.loop-cause.rank ((get_or ks i k).rank + 1)) in
+    let g : Greatest c.loop-cause.rank ((get_or ks i k).rank + 1) c.rank_with-rank.result = rw c.rank_with-rank.ensures (greatest c.loop-cause.rank ((get_or ks i k).rank + 1)) in
     let m = c.loop-cause.invariant.low in
     record {
       low = by g.one low m;
-      above = rw (seen_more c.args.causes.now c.loop-cause.cause-index i 0 c.loop-cause-test.true refl) (above_more i c.max-rank.result c.loop-cause.invariant.above (rw is g));
+      above = rw (seen_more c.args.causes.now c.loop-cause.cause-index i 0 c.loop-cause-test.true refl) (above_more i c.rank_with-rank.result c.loop-cause.invariant.above (rw is g));
     }
   where
     by : {a r n new : ℕ} → (new ≡ a) ⊎ (new ≡ r + 1) → r < n → a ≤ n → new ≤ n

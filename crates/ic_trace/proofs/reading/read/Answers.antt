@@ -5,7 +5,7 @@ use Rattle.ic_trace.specs.Pasts.{PastView}
 use Rattle.ic_theory.specs.Starts.{IsProper}
 use Rattle.ic_trace.specs.declared.reading.Step.{Step}
 use Rattle.ic_trace.specs.Readings.{ReadsAs}
-use Rattle.ic_trace.proofs.ReadLists.{followed_none, read_none, read_more, few_stand, refused_first, read_all}
+use Rattle.ic_trace.proofs.ReadLists.{followed_none, read_none, read_more, few_stand, few_known, refused_first, read_all}
 use Rattle.ic_trace.proofs.reading.read.Goals as goal
 use Rattle.ic_path.proofs.ListPlaces.{seen_more}
 
@@ -16,7 +16,7 @@ loop-number-init c =
     let start = ap (λ (v : PastView). v.start) c.in_ok-past.ensures in
     let nothing = ap (λ (v : PastView). v.events) c.in_ok-past.ensures in
     rw c.new-steps.ensures.items
-    (read_none c.args.start.now p t start (followed_none p t (subst IsProper (sym start) c.lawful.ensures.proper) nothing c.new-table.ensures.none c.new-table.ensures.numbered) nothing)
+    (read_none c.args.start.now p t start (followed_none p t (subst IsProper (sym start) c.lawful.ensures.proper) nothing c.new-table.ensures.none c.new-table.ensures.numbered) nothing c.new-table.ensures.none)
 
 pub read_letter-requires-clause-few : goal.read_letter-requires-clause-few
 read_letter-requires-clause-few c =
@@ -26,6 +26,15 @@ read_letter-requires-clause-few c =
     let few : length xs ≤ MAX_LINES = c.requires in
     let long = length-take-le i xs (omega (arith, inside)) in
     few_stand c.args.start.now c.loop-number.invariant (omega (arith, inside, few, long))
+
+pub read_letter-requires-clause-noted : goal.read_letter-requires-clause-noted
+read_letter-requires-clause-noted c =
+    let i = c.loop-number.number in
+    let xs = c.args.letters.now in
+    let inside = c.loop-number-test.true in
+    let few : length xs ≤ MAX_LINES = c.requires in
+    let long = length-take-le i xs (omega (arith, inside)) in
+    few_known c.args.start.now c.loop-number.invariant (omega (arith, inside, few, long))
 
 pub returns-in-None : goal.returns-in-None
 returns-in-None c =

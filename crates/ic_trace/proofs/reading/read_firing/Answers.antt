@@ -1,4 +1,4 @@
-use Rattle.std.proofs.Common.{◌≡◌, ℕ, List, Bool, Option, Some, None, true, option_map, refl, subst, Vec, Global}
+use Rattle.std.proofs.Common.{arith, ◌≡◌, ℕ, List, Bool, Option, Some, None, true, option_map, refl, subst, Vec, Global}
 use Rattle.ic_name.specs.Names.{Name}
 use Rattle.ic_name.specs.Events.{Event, Pair}
 use Rattle.ic_trace.specs.Pasts.{PastView, Fires, AreCausesNamed, IsWith}
@@ -62,6 +62,9 @@ rank_above-rank-requires-clause-inside c = rw (c.deref-3.ensures.value, c.deref-
 
 pub rank_above-rank-requires-clause-low : goal.rank_above-rank-requires-clause-low
 rank_above-rank-requires-clause-low c = rw c.deref-2.ensures.value (λ k i. (c.requires.followed.known.each k i).low)
+
+pub rank_above-rank-requires-clause-few : goal.rank_above-rank-requires-clause-few
+rank_above-rank-requires-clause-few c = let noted = c.requires.noted in rw c.deref-2.ensures.value (omega (arith, noted))
 
 pub returns : goal.returns
 returns c =

@@ -1,7 +1,8 @@
-use Rattle.std.proofs.Common.{[], ◌∷◌, ◌++◌, slice_index_or, refl, ap}
+use Rattle.std.proofs.Common.{[], ◌∷◌, ◌++◌, slice_index_or, refl, sym, ap, ◌∙◌}
 use Rattle.std.proofs.lemmas.List.{take_more, map-append}
 use Rattle.std.proofs.lemmas.List.Elements.{All-push}
 use Rattle.ic_name.specs.declared.ids.EventId.{EventId}
+use Rattle.ic_roster.specs.Rosters.{event_in}
 use Rattle.ic_set.specs.Placed.{IsPlaced}
 use Rattle.ic_set.proofs.InPlace.{in_at}
 use Rattle.ic_set.proofs.bare.BareSet.placed.Goals as goal
@@ -16,6 +17,6 @@ pub loop-id-preserved : goal.loop-id-preserved
 loop-id-preserved g c =
     let none : EventId = record { slot = 0; line = 0 } in
     let pushed = c.in_ok-push.ensures.items in record {
-      under = rw (pushed, map-append (λ p. p.id) c.loop-id.placed.items, take_more c.args.ids.now c.loop-id.id-index none c.loop-id-test.true) (ap (λ ds. ds ++ slice_index_or c.args.ids.now c.loop-id.id-index none ∷ []) c.loop-id.invariant.under);
-      shown = rw pushed (All-push (IsPlaced c.args.self.now) c.loop-id.placed.items _ c.loop-id.invariant.shown (rw (← c.self.view_is) (_, c.in-Some.ensures.found, refl, refl, refl, record { named = c.in-Some.ensures.named; key = rw c.names-names.ensures at c.key.ensures })));
+      under = rw (pushed, map-append (λ p. p.id) c.loop-id.placed.items, c.placed_event.ensures.id, take_more c.args.ids.now c.loop-id.id-index none c.loop-id-test.true) (ap (λ ds. ds ++ slice_index_or c.args.ids.now c.loop-id.id-index none ∷ []) c.loop-id.invariant.under);
+      shown = rw pushed (All-push (IsPlaced c.args.self.now) c.loop-id.placed.items _ c.loop-id.invariant.shown (rw (← c.self.view_is) (_, c.in-Some.ensures.found, sym c.placed_event.ensures.id, ap (event_in _) (sym c.placed_event.ensures.interaction), sym c.placed_event.ensures.rank, rw c.names-names.ensures at (c.placed_event.ensures.keyed (rw c.names-names.ensures c.in-Some.ensures.named)))));
     }
