@@ -17,7 +17,6 @@ pub mod PathMakers
 pub mod SameSlots
 pub mod GivenEnds
 pub mod HeldEnds
-pub mod GivenLabels
 pub mod ShownLinks
 pub mod CutLinks
 pub mod PartSlots
@@ -25,16 +24,14 @@ pub mod AddedLinks
 pub mod TakenLinks
 pub mod ShownSame
 pub mod RingLabels
+pub mod KeptLabels
+pub mod MarkedSpots
+pub mod PartedMarks
 pub mod PathLabels
 pub mod Tips
 pub mod Renamed
-pub mod NamedSpots
 pub mod PartedLabels
 pub mod JoinedLabels
-pub mod BareLabels
-pub mod CommonLabels
-pub mod UnitedSlots
-pub mod LabelWalks
 pub mod SplitSlots
 pub mod AddedLabels
 pub mod EachSlot

@@ -6,6 +6,7 @@ pub mod Chains
 pub mod Changes
 pub mod Tables
 pub mod Splices
+pub mod Marks
 pub mod Steps
 pub mod Taking
 pub mod Touched
