@@ -1,7 +1,6 @@
 //! Port records in slots that are found by arithmetic.
 #![tactic(auto)]
 
-mod agent_ports;
 mod own_ports;
 mod packed_ends;
 pub mod port_record;
