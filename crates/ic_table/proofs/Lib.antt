@@ -5,10 +5,11 @@ pub mod PartedRecords
 pub mod PartedEnds
 pub mod Takes
 pub mod Present
+pub mod EventCells
+pub mod SlottedRows
 pub mod Grown
 pub mod PortWrites
 pub mod RowWrites
-pub mod Chains
 pub mod SameRecords
 pub mod Unnamed
 pub mod OwnSlots

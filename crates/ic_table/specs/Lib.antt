@@ -1,12 +1,13 @@
 pub mod Ends
 pub mod LabelHashes
 pub mod Labels
+pub mod KeyedRows
+pub mod EventRows
+pub mod LinkRecords
 pub mod Records
-pub mod Chains
 pub mod Changes
 pub mod Tables
 pub mod Splices
 pub mod Marks
 pub mod Steps
-pub mod Taking
 pub mod Touched

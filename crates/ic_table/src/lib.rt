@@ -4,10 +4,11 @@
 mod changes;
 mod label_hash;
 mod labels;
+mod link_records;
 mod records;
-mod slots;
 mod splices;
 pub mod table;
+mod two_slots;
 mod walks;
 
 pub use table::PortTable;

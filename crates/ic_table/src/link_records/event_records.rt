@@ -1,0 +1,164 @@
+ghost use Rattle.std.specs.Prelude.{◌≡◌, ◌≢◌, ◌==◌, ℕ, ◌+◌, ◌*◌, ◌<◌, ◌≤◌, ◌↔◌, length, Some, None, IsSome, IsTrue, IsFalse, IfOk, IfSome, IfNone, OnErr, if◌then◌else◌};
+ghost use Rattle.ic_name.specs.Spots.{is_maker};
+ghost use Rattle.ic_table.specs.declared.link_records.LinkRecord.{LinkRecord as ARow};
+ghost use Rattle.ic_table.specs.EventRows.{row_at, event_row, event_rows, links_at, most_events, AreShort, Fills, IsLastOf, PutsAt, SameIn};
+
+use crate::link_records::LinkRecord;
+use crate::link_records::event_links::EventLinks;
+use crate::two_slots::TwoSlots;
+use ic_name::{EventId, LinkId, MakerId};
+use ic_slots::events::growth::is_near;
+use std::alloc::{AllocError, Global};
+use std::marker::Model;
+
+/// The number of event slots that have a record here.
+const MOST_EVENTS: u32 = 1 << 28;
+
+/// Puts a link into the record of its event, if the place is the next one there. `false` if it finds no place.
+fn enter(
+    records: &mut Vec<EventLinks>,
+    event: EventId,
+    place: u32,
+    spots: TwoSlots,
+) -> Result<bool, AllocError>
+    requires few { length records.old.items ≤ most_events }
+    requires short { AreShort records.old.items }
+    ensures few { length records.new.items ≤ most_events }
+    ensures short { AreShort records.new.items }
+    ensures others { (n : ℕ) → n ≢ event.slot → links_at records.new.items n ≡ links_at records.old.items n }
+    ensures err { OnErr result (links_at records.new.items event.slot ≡ links_at records.old.items event.slot) }
+    ensures full { IfOk result (λ room. IsFalse room → links_at records.new.items event.slot ≡ links_at records.old.items event.slot) }
+    ensures small { IfOk result (λ room. IsTrue room → event.slot < most_events) }
+    ensures put { IfOk result (λ room. IsTrue room → PutsAt place event.line spots (links_at records.old.items event.slot) (links_at records.new.items event.slot)) }
+{
+    let number = event.slot as usize;
+    let numbers = records.len();
+    if number >= numbers {
+        if event.slot >= MOST_EVENTS || !is_near(event.slot, numbers) {
+            return Ok(false);
+        }
+        records.resize(number + 1, EventLinks::vacant())?;
+    }
+    Ok(records[number].put(event.line, place, spots))
+}
+
+/// The links of events, each in the record at the slot of its event.
+#[derive(Drop)]
+pub struct EventRecords {
+    records: Vec<EventLinks>,
+    count: usize,
+}
+
+impl Model for EventRecords {
+    ghost use Rattle.std.specs.Prelude.{List};
+    ghost use Rattle.ic_table.specs.declared.link_records.event_links.EventLinks.{EventLinks as SomeLinks};
+    ghost use Rattle.ic_table.specs.EventRows.{AreCounted};
+
+    ghost Value = { List SomeLinks };
+
+    ghost view = { λ r. r.records.items };
+
+    ghost invariant = { λ r. AreCounted r.records.items r.count };
+}
+
+impl EventRecords {
+    /// No links. They take no memory yet.
+    pub fn new(alloc: Global) -> EventRecords
+        ensures rows { (slot : ℕ) → event_row result slot ≡ None }
+        ensures none { length (event_rows result) ≡ 0 }
+        ensures few { length result ≤ most_events }
+    {
+        EventRecords {
+            records: Vec::new(alloc),
+            count: 0,
+        }
+    }
+
+    /// The number of links.
+    pub fn len(&self) -> usize
+        ensures all { result ≡ length (event_rows self.now) }
+        ensures few { result ≤ 8 * most_events }
+    {
+        self.count
+    }
+
+    /// The link in the slot.
+    pub fn get(&self, slot: u32) -> LinkRecord
+        requires { IsSome (event_row self.now slot) }
+        ensures { event_row self.now slot ≡ Some result }
+    {
+        let links = self.records[(slot / 8) as usize];
+        let place = slot % 8;
+        let spots = links.ends[place as usize];
+        let event = EventId {
+            slot: slot / 8,
+            line: links.line,
+        };
+        LinkRecord {
+            id: LinkId {
+                maker: MakerId::Event(event),
+                place,
+            },
+            a: spots.a,
+            b: spots.b,
+        }
+    }
+
+    /// Whether a link has this id.
+    pub fn has_id(&self, id: LinkId) -> bool
+        ensures { IsTrue result ↔ ((slot : ℕ) × (row : ARow) × (event_row self.now slot ≡ Some row) × (row.id ≡ id)) }
+    {
+        let MakerId::Event(event) = id.maker else {
+            return false;
+        };
+        match self.records.get(event.slot as usize) {
+            None => false,
+            Some(links) => links.line == event.line && id.place < links.len,
+        }
+    }
+
+    /// The slot of the link of the event at the place, if it finds it in the record of its event.
+    pub fn put(
+        &mut self,
+        event: EventId,
+        place: u32,
+        spots: TwoSlots,
+    ) -> Result<Option<u32>, AllocError>
+        ensures put { IfOk result (λ room. IfSome room (λ slot. Fills slot (row_at event place spots) (event_row self.old) (event_row self.new))) }
+        ensures small { IfOk result (λ room. IfSome room (λ slot. slot < 8 * most_events)) }
+        ensures full { IfOk result (λ room. IfNone room (SameIn (event_row self.old) (event_row self.new))) }
+        ensures err { OnErr result (SameIn (event_row self.old) (event_row self.new)) }
+        ensures few { length self.new ≤ most_events }
+    {
+        if !enter(&mut self.records, event, place, spots)? {
+            return Ok(None);
+        }
+        self.count += 1;
+        Ok(Some(8 * event.slot + place))
+    }
+
+    /// The slot of the last link of the event, if its record has one.
+    pub fn last_of(&self, event: EventId) -> Option<u32>
+        ensures row { IfSome result (λ slot. (row : ARow) × (event_row self.now slot ≡ Some row) × IsTrue (is_maker event row.id.maker)) }
+        ensures last { IfSome result (λ slot. IsLastOf (event_row self.now) slot) }
+        ensures small { IfSome result (λ slot. slot < 8 * most_events) }
+        ensures none { IfNone result ((slot : ℕ) (row : ARow) → event_row self.now slot ≡ Some row → IsFalse (is_maker event row.id.maker)) }
+    {
+        let links = self.records.get(event.slot as usize)?;
+        if links.len == 0 || links.line != event.line {
+            return None;
+        }
+        Some(8 * event.slot + links.len - 1)
+    }
+
+    /// Takes away the link in the slot, which is the last one of its event's record.
+    pub fn remove(&mut self, slot: u32)
+        requires has { IsSome (event_row self.old slot) }
+        requires last { IsLastOf (event_row self.old) slot }
+        ensures gone { (k : ℕ) → event_row self.new k ≡ (if k == slot then None else event_row self.old k) }
+        ensures few { length self.new ≤ most_events }
+    {
+        self.records[(slot / 8) as usize].len = slot % 8;
+        self.count -= 1;
+    }
+}
