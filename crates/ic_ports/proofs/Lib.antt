@@ -1,3 +1,4 @@
+pub mod LookUps
 pub mod Records
 pub mod OwnSlots
 pub mod FoundSlots

@@ -1,3 +1,2 @@
 pub mod Kept
 pub mod Slots
-pub mod Events

@@ -7,7 +7,7 @@ use crate::link_records::LinkRecord;
 use crate::link_records::event_links::EventLinks;
 use crate::two_slots::TwoSlots;
 use ic_name::{EventId, LinkId, MakerId};
-use ic_slots::events::growth::is_near;
+use ic_slots::growth::is_near;
 use std::alloc::{AllocError, Global};
 use std::marker::Model;
 

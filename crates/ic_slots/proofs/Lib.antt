@@ -1,2 +1,0 @@
-pub mod LookUps
-pub mod RowOrMap
