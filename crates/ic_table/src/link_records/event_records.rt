@@ -87,7 +87,7 @@ impl EventRecords {
         requires { IsSome (event_row self.now slot) }
         ensures { event_row self.now slot ≡ Some result }
     {
-        let links = self.records[(slot / 8) as usize];
+        let links = &self.records[(slot / 8) as usize];
         let place = slot % 8;
         let spots = links.ends[place as usize];
         let event = EventId {
