@@ -7,5 +7,5 @@ pub mod port_record;
 pub mod port_store;
 mod strays;
 
-pub use port_record::{EndSlots, RingLabel, PortRecord};
+pub use port_record::{EndSlots, PortRecord, RingLabel};
 pub use port_store::PortStore;

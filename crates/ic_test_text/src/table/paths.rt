@@ -122,6 +122,28 @@ fn a_ring_is_closed_and_opened(rt: HostRuntime) -> Result<(), Fail> {
     Ok(())
 }
 
+/// Opens a ring at the link of a row, and closes it again. Whether the table said so.
+fn reopened(table: &mut PortTable, row: Row) -> bool {
+    let (line, place, a, b) = row;
+    table.take_of(event(line));
+    let opened = table.rings() == 0 && table.touched() <= 4;
+    let far = table.far(Spot::Name(a));
+    put(table, link(row)) && opened && far == Far::End(Spot::Name(b)) && table.rings() == 1
+}
+
+#[test]
+fn a_long_ring_is_opened_anywhere(rt: HostRuntime) {
+    let mut table = PortTable::empty(rt.alloc());
+    for i in 0..1_000 {
+        assert!(rt; put(&mut table, link((i, 0, i, (i + 1) % 1_000))));
+    }
+    assert_eq!(rt; table.rings(), 1);
+    for i in 0..200 {
+        let line = 7 * i % 1_000;
+        assert!(rt; reopened(&mut table, (line, 0, line, (line + 1) % 1_000)));
+    }
+}
+
 #[test]
 fn a_self_link_is_a_ring(rt: HostRuntime) -> Result<(), Fail> {
     let table = table_of(rt.alloc(), &[(1, 0, 7, 7)]).ok_or("a ring")?;
