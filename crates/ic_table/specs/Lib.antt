@@ -1,6 +1,7 @@
 pub mod Ends
 pub mod LabelHashes
 pub mod Labels
+pub mod RowSlots
 pub mod KeyedRows
 pub mod EventRows
 pub mod LinkRecords

@@ -4,8 +4,8 @@ ghost use Rattle.ic_table.specs.EventRows.{no_links, PutsAt};
 use crate::two_slots::TwoSlots;
 use std::mem::size_of;
 
-/// The links of one event, by place, from 0 on: so many places have one, each with the slots of its two spots. They take
-/// 72 bytes.
+/// The links of one event, in 72 bytes. The first `len` places have a link each, of which the slots of its two spots are
+/// kept. If `len` is 0, any event may take the record.
 #[derive(Clone, Copy, Debug)]
 pub struct EventLinks {
     pub line: u32,
@@ -27,7 +27,8 @@ impl EventLinks {
         }
     }
 
-    /// Puts a link of the event with this line at the place, if it is the next place and no other event has links here.
+    /// Puts a link of the event with this line at the place. `false`, and no change, if that is not the next place or if
+    /// another event has links here.
     pub fn put(&mut self, line: u32, place: u32, spots: TwoSlots) -> bool
         requires { self.old.len ≤ 8 }
         ensures few { self.new.len ≤ 8 }

@@ -1,7 +1,6 @@
 ghost use Rattle.std.specs.Prelude.{◌≡◌, ◌≢◌, ◌==◌, ℕ, ◌+◌, ◌*◌, ◌<◌, ◌≤◌, ◌↔◌, length, Some, None, IsSome, IsTrue, IsFalse, IfOk, IfSome, IfNone, OnErr, if◌then◌else◌};
-ghost use Rattle.ic_name.specs.Spots.{is_maker};
-ghost use Rattle.ic_table.specs.declared.link_records.LinkRecord.{LinkRecord as ARow};
-ghost use Rattle.ic_table.specs.EventRows.{row_at, event_row, event_rows, links_at, most_events, AreShort, Fills, IsLastOf, PutsAt, SameIn};
+ghost use Rattle.ic_table.specs.RowSlots.{Fills, HasIdIn, HasLinkOf, HasNoneOf, SameIn};
+ghost use Rattle.ic_table.specs.EventRows.{row_at, event_row, event_rows, links_at, most_events, AreShort, IsLastOf, PutsAt};
 
 use crate::link_records::LinkRecord;
 use crate::link_records::event_links::EventLinks;
@@ -14,7 +13,7 @@ use std::marker::Model;
 /// The number of event slots that have a record here.
 const MOST_EVENTS: u32 = 1 << 28;
 
-/// Puts a link into the record of its event, if the place is the next one there. `false` if it finds no place.
+/// Puts a link into the record of its event. `false` if it finds no place there.
 fn enter(
     records: &mut Vec<EventLinks>,
     event: EventId,
@@ -42,7 +41,7 @@ fn enter(
     Ok(records[number].put(event.line, place, spots))
 }
 
-/// The links of events, each in the record at the slot of its event.
+/// The links of events, each in the record at the slot of its event, and how many they are.
 #[derive(Drop)]
 pub struct EventRecords {
     records: Vec<EventLinks>,
@@ -106,7 +105,7 @@ impl EventRecords {
 
     /// Whether a link has this id.
     pub fn has_id(&self, id: LinkId) -> bool
-        ensures { IsTrue result ↔ ((slot : ℕ) × (row : ARow) × (event_row self.now slot ≡ Some row) × (row.id ≡ id)) }
+        ensures { IsTrue result ↔ HasIdIn (event_row self.now) id }
     {
         let MakerId::Event(event) = id.maker else {
             return false;
@@ -117,7 +116,8 @@ impl EventRecords {
         }
     }
 
-    /// The slot of the link of the event at the place, if it finds it in the record of its event.
+    /// Puts a link into the record of its event, and gives its slot. `None` if it finds no place there. At an error nothing
+    /// changes.
     pub fn put(
         &mut self,
         event: EventId,
@@ -139,10 +139,10 @@ impl EventRecords {
 
     /// The slot of the last link of the event, if its record has one.
     pub fn last_of(&self, event: EventId) -> Option<u32>
-        ensures row { IfSome result (λ slot. (row : ARow) × (event_row self.now slot ≡ Some row) × IsTrue (is_maker event row.id.maker)) }
+        ensures row { IfSome result (HasLinkOf (event_row self.now) event) }
         ensures last { IfSome result (λ slot. IsLastOf (event_row self.now) slot) }
         ensures small { IfSome result (λ slot. slot < 8 * most_events) }
-        ensures none { IfNone result ((slot : ℕ) (row : ARow) → event_row self.now slot ≡ Some row → IsFalse (is_maker event row.id.maker)) }
+        ensures none { IfNone result (HasNoneOf (event_row self.now) event) }
     {
         let links = self.records.get(event.slot as usize)?;
         if links.len == 0 || links.line != event.line {

@@ -1,7 +1,6 @@
 ghost use Rattle.std.specs.Prelude.{◌≡◌, ◌==◌, ℕ, ◌<◌, ◌≤◌, ◌↔◌, length, Some, None, IsSome, IsTrue, IsFalse, IfOk, IfSome, IfNone, OnErr, if◌then◌else◌};
 ghost use Rattle.ic_name.specs.Spots.{is_maker};
-ghost use Rattle.ic_table.specs.declared.link_records.LinkRecord.{LinkRecord as ARow};
-ghost use Rattle.ic_table.specs.EventRows.{Fills, SameIn};
+ghost use Rattle.ic_table.specs.RowSlots.{Fills, HasIdIn, HasLinkOf, HasNoneOf, SameIn};
 ghost use Rattle.ic_table.specs.KeyedRows.{keyed_row, keyed_rows, most_keys, HaveFewKeys};
 
 use crate::link_records::LinkRecord;
@@ -23,7 +22,7 @@ fn is_made_by(event: EventId, id: LinkId) -> bool
     }
 }
 
-/// Links under keys of no meaning.
+/// Links under keys that tell nothing of them.
 #[derive(Drop)]
 pub struct KeyedRecords {
     rows: Slab<LinkRecord>,
@@ -72,7 +71,7 @@ impl KeyedRecords {
 
     /// Whether a link has this id. It looks at every key.
     pub fn has_id(&self, id: LinkId) -> bool
-        ensures { IsTrue result ↔ ((key : ℕ) × (row : ARow) × (keyed_row self.now key ≡ Some row) × (row.id ≡ id)) }
+        ensures { IsTrue result ↔ HasIdIn (keyed_row self.now) id }
     {
         for key in 0..self.rows.capacity() {
             if let Some(row) = self.rows.get(key) {
@@ -86,9 +85,9 @@ impl KeyedRecords {
 
     /// The key of a link of the event, if there is one. It looks at every key.
     pub fn find_of(&self, event: EventId) -> Option<u32>
-        ensures row { IfSome result (λ key. (row : ARow) × (keyed_row self.now key ≡ Some row) × IsTrue (is_maker event row.id.maker)) }
+        ensures row { IfSome result (HasLinkOf (keyed_row self.now) event) }
         ensures small { IfSome result (λ key. key < most_keys) }
-        ensures none { IfNone result ((key : ℕ) (row : ARow) → keyed_row self.now key ≡ Some row → IsFalse (is_maker event row.id.maker)) }
+        ensures none { IfNone result (HasNoneOf (keyed_row self.now) event) }
     {
         if self.rows.is_empty() {
             return None;
