@@ -7,10 +7,12 @@
 
 The parts of a crate are its proof, its tests (which prove the crate's own functions once more) and its edits, each of
 which is a check of the crate. What `rt ci` prints is written to standard output first. Its processes are looked at four
-times a second, so that each may lose a quarter of a second at its end; the sum in the last line is exact.
+times a second, so that each may lose a quarter of a second at its end; the sum in the last line is exact. A part that takes
+more than its budget in `budgets.tsv`, in processor seconds, is named at the end.
 """
 
 import collections
+import csv
 import os
 import pathlib
 import resource
@@ -22,6 +24,7 @@ import threading
 import time
 
 ROOT = pathlib.Path(__file__).resolve().parent.parent
+BUDGETS = ROOT / "bench/budgets.tsv"
 TICKS = os.sysconf("SC_CLK_TCK")
 PAUSE = 0.25
 MOST = 20
@@ -129,6 +132,25 @@ def print_table(sums):
         print(f"{used:8.0f}  {crate}/{edit}")
 
 
+def read_budgets():
+    """The budget of each part of each crate, in processor seconds."""
+    with open(BUDGETS, encoding="utf-8", newline="") as file:
+        return {(row["crate"], part): int(row[part]) for row in csv.DictReader(file, delimiter="\t") for part in PARTS}
+
+
+def print_over_budget(sums):
+    """Names the parts that took more than their budget, and those that have none."""
+    budgets, parts = read_budgets(), collections.Counter()
+    for (crate, part, _), used in sums.items():
+        parts[crate, part] += used
+    for (crate, part), used in sorted(parts.items()):
+        budget = budgets.get((crate, part))
+        if budget is None:
+            print(f"no budget: {crate} {part}, {used:.0f} s")
+        elif used > budget:
+            print(f"over budget: {crate} {part}, {used:.0f} s of {budget} s")
+
+
 def measure_gate():
     """Runs the gate, and prints what its parts took. Answers the gate's status."""
     meter, begun = Meter(), time.time()
@@ -140,6 +162,7 @@ def measure_gate():
         meter.ended.set()
         watching.join()
     print_table(meter.seconds())
+    print_over_budget(meter.seconds())
     used = resource.getrusage(resource.RUSAGE_CHILDREN)
     minutes, whole = (used.ru_utime + used.ru_stime) / 60, (time.time() - begun) / 60
     print(f"\nrt ci: {whole:.1f} min, {minutes:.1f} min of processor time, status {status}")
