@@ -17,3 +17,7 @@ absorbs_number w rest ws whole is (Some n) number =
     let all : codes "absorb" ∷ number.0 ∷ [] ≡ ws = cc in
     subst (λ us. AsksAbsorb us n) all (absorb number.2.written number.2.small)
 absorbs_number w rest ws whole is None none = λ n a. (let p = absorb_parts w rest a whole in none p.1.0 n p.1.1 p.1.2)
+
+-- no words ask to absorb nothing
+pub absorbs_nothing : (ws : List (List ℕ)) → ws ≡ [] → IsAbsorbIn ws None
+absorbs_nothing ws none n (absorb is small) = cc

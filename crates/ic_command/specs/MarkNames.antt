@@ -1,5 +1,5 @@
 -- The names of marks.
-use Rattle.std.specs.Prelude.{◌≡◌, ◌≤◌, ◌∷◌, ℕ, true, List, length, Option, Some, None}
+use Rattle.std.specs.Prelude.{◌≡◌, ◌≤◌, [], ◌∷◌, ℕ, true, List, length, Option, Some, None}
 use Rattle.std.specs.List.{list_all}
 use Rattle.ic_text.specs.Texts.{is_letter, is_name_byte}
 use Rattle.ic_text.specs.declared.grammar.limits.TheConstants.{MAX_NAME}
@@ -17,3 +17,8 @@ pub record IsMarkName (name : List ℕ) : Type 0 where
 abbrev pub IsMarkNameIn : List ℕ → Option (List ℕ) → Type 0
 IsMarkNameIn word (Some name) = IsMarkName word × (name ≡ word)
 IsMarkNameIn word None = ¬ (IsMarkName word)
+
+-- the name of a mark that is the only word, if there is one
+abbrev pub IsOnlyName : List (List ℕ) → Option (List ℕ) → Type 0
+IsOnlyName ws (Some name) = IsMarkName name × (ws ≡ name ∷ [])
+IsOnlyName ws None = (name : List ℕ) → IsMarkName name → ws ≡ name ∷ [] → ⊥

@@ -1,4 +1,4 @@
-ghost use Rattle.std.specs.Prelude.{IfOk};
+ghost use Rattle.std.specs.Prelude.{◌∷◌, IfOk};
 ghost use Rattle.ic_command.specs.Asked.{IsAbsorbIn, IsAsked};
 ghost use Rattle.ic_command.specs.Words.{words};
 
@@ -25,19 +25,19 @@ pub fn asked_of(alloc: Global, line: &[u8]) -> Result<Asked, AllocError>
     if !is_well_formed(body) {
         return Ok(Asked::Alone(Request::Bench(Command::Malformed)));
     }
-    match absorb_in(alloc, body)? {
+    let Some((word, behind)) = next_word(body) else {
+        return Ok(Asked::Alone(Request::Bench(Command::Nothing)));
+    };
+    match absorb_in(alloc, word, behind)? {
         Some(count) => Ok(Asked::Absorb(count)),
-        None => Ok(Asked::Alone(request_in(alloc, body)?)),
+        None => Ok(Asked::Alone(request_in(alloc, word, behind)?)),
     }
 }
 
-/// How many events the words of a line ask to absorb; `None` where they don't.
-fn absorb_in(alloc: Global, body: &[u8]) -> Result<Option<u32>, AllocError>
-    ensures { IfOk result (λ count. IsAbsorbIn (words body.now) count) }
+/// How many events a word and those after it ask to absorb; `None` if they don't.
+fn absorb_in(alloc: Global, word: &[u8], behind: &[u8]) -> Result<Option<u32>, AllocError>
+    ensures { IfOk result (λ count. IsAbsorbIn (word.now ∷ words behind.now) count) }
 {
-    let Some((word, behind)) = next_word(body) else {
-        return Ok(None);
-    };
     if word == b"absorb".as_slice() {
         number_in(alloc, behind, MAX_ABSORBED as u32)
     } else {

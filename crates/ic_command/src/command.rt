@@ -89,13 +89,14 @@ fn is_comment(word: &[u8]) -> bool
     }
 }
 
-/// The command that the words of a line ask for.
-pub(crate) fn command_of_words(alloc: Global, body: &[u8]) -> Result<Command, AllocError>
-    ensures { IfOk result (λ command. AreWordsOf (words body.now) command) }
+/// The command that a word and those after it ask for.
+pub(crate) fn command_of_words(
+    alloc: Global,
+    word: &[u8],
+    behind: &[u8],
+) -> Result<Command, AllocError>
+    ensures { IfOk result (λ command. AreWordsOf (word.now ∷ words behind.now) command) }
 {
-    let Some((word, behind)) = next_word(body) else {
-        return Ok(Command::Nothing);
-    };
     if is_comment(word) {
         return Ok(Command::Nothing);
     }

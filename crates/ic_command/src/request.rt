@@ -1,5 +1,6 @@
-ghost use Rattle.std.specs.Prelude.{◌≡◌, IfOk};
+ghost use Rattle.std.specs.Prelude.{◌≡◌, ◌∷◌, IfOk};
 ghost use Rattle.ic_command.specs.Requests.{AreRequestWords, IsMarkRequestIn, within};
+ghost use Rattle.ic_command.specs.MarkNames.{IsOnlyName};
 ghost use Rattle.ic_command.specs.Words.{words};
 
 use crate::command::{Command, command_of_words};
@@ -33,40 +34,44 @@ impl Request {
     }
 }
 
-/// The request that the words of a line make.
-pub(crate) fn request_in(alloc: Global, body: &[u8]) -> Result<Request, AllocError>
-    ensures { IfOk result (λ request. AreRequestWords (words body.now) request) }
+/// The request that a word and those after it make.
+pub(crate) fn request_in(alloc: Global, word: &[u8], behind: &[u8]) -> Result<Request, AllocError>
+    ensures { IfOk result (λ request. AreRequestWords (word.now ∷ words behind.now) request) }
 {
-    match mark_request_in(alloc, body)? {
+    match mark_request_in(alloc, word, behind)? {
         Some(request) => Ok(request),
-        None => Ok(Request::Bench(command_of_words(alloc, body)?)),
+        None => Ok(Request::Bench(command_of_words(alloc, word, behind)?)),
     }
 }
 
-/// What the words of a line ask for with a mark; `None` where they don't.
-fn mark_request_in(alloc: Global, body: &[u8]) -> Result<Option<Request>, AllocError>
-    ensures { IfOk result (λ request. IsMarkRequestIn (words body.now) request) }
+/// What a word and those after it ask for with a mark; `None` if they don't.
+fn mark_request_in(alloc: Global, word: &[u8], behind: &[u8]) -> Result<Option<Request>, AllocError>
+    ensures { IfOk result (λ request. IsMarkRequestIn (word.now ∷ words behind.now) request) }
 {
-    let Some((word, behind)) = next_word(body) else {
-        return Ok(None);
-    };
-    let Some((second, rest)) = next_word(behind) else {
-        return Ok(None);
-    };
-    if next_word(rest).is_some() {
-        return Ok(None);
-    }
     if word == b"mark".as_slice() {
-        match MarkName::read(alloc, second)? {
+        return match only_name_in(alloc, behind)? {
             Some(name) => Ok(Some(Request::Mark(name))),
             None => Ok(None),
-        }
-    } else if word == b"back".as_slice() {
-        match MarkName::read(alloc, second)? {
+        };
+    }
+    if word == b"back".as_slice() {
+        return match only_name_in(alloc, behind)? {
             Some(name) => Ok(Some(Request::Back(name))),
             None => Ok(None),
-        }
-    } else {
-        Ok(None)
+        };
     }
+    Ok(None)
+}
+
+/// The name of a mark that is the only word of a line; `None` if there is no such word.
+fn only_name_in(alloc: Global, line: &[u8]) -> Result<Option<MarkName>, AllocError>
+    ensures { IfOk result (λ name. IsOnlyName (words line.now) name) }
+{
+    let Some((word, behind)) = next_word(line) else {
+        return Ok(None);
+    };
+    if next_word(behind).is_some() {
+        return Ok(None);
+    }
+    MarkName::read(alloc, word)
 }

@@ -1,3 +1,4 @@
+use Rattle.std.proofs.Common.{◌∷◌, refl}
 use Rattle.std.proofs.lemmas.Result.{IfOk-weaker}
 use Rattle.std.specs.Prelude.{codes}
 use Rattle.ic_command.specs.Words.{words}
@@ -7,5 +8,5 @@ use Rattle.ic_command.proofs.asked.absorb_in.Goals as goal
 
 pub returns-then-eq : goal.returns-then-eq
 returns-then-eq c =
-    let word = is_text c.in-Some.word.now c.as_slice.result.now (codes "absorb") c.eq.result c.eq.ensures c.as_slice.ensures c.if-eq.true in
-    IfOk-weaker c.number_in.result _ _ (absorbs_number c.in-Some.word.now (words c.in-Some.behind.now) (words c.args.body.now) c.in-Some.ensures word) c.number_in.ensures
+    let word = is_text c.args.word.now c.as_slice.result.now (codes "absorb") c.eq.result c.eq.ensures c.as_slice.ensures c.if-eq.true in
+    IfOk-weaker c.number_in.result _ _ (absorbs_number c.args.word.now (words c.args.behind.now) (c.args.word.now ∷ words c.args.behind.now) refl word) c.number_in.ensures
