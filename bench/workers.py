@@ -40,7 +40,7 @@ KINDS = {
 # A net is so much smaller where instructions are counted.
 SMALLER = 16
 CALL = re.compile(r"^\s*([\d,]+) \([^)]*\)\s+([*>])\s+\S*?:(\S+)")
-UNDER_LOCK = re.compile(r"ic_(shared|set|table|journal|cause|queue|roster)::|std_collections::btree")
+UNDER_LOCK = re.compile(r"ic_(shared|journal|history|set|roster|names|cause|table|ports|slots)::|std_collections::")
 
 
 def wanted(command, answer, want):
