@@ -60,8 +60,22 @@ def edited_texts(crate):
     return texts
 
 
+def stat_fields(pid):
+    """What the system says of a process behind its name: the second is its parent."""
+    return pathlib.Path(f"/proc/{pid}/stat").read_text(encoding="utf-8").rpartition(")")[2].split()
+
+
+def is_below(pid):
+    """Whether a process was started by this one, or by one that was."""
+    while pid not in ("0", "1"):
+        pid = stat_fields(pid)[1]
+        if pid == str(os.getpid()):
+            return True
+    return False
+
+
 class Meter:
-    """Processor seconds of the checks that are running, by crate, part and edit."""
+    """Processor seconds of the checks that this process has started, by crate, part and edit."""
 
     def __init__(self):
         self.last = {}
@@ -71,7 +85,7 @@ class Meter:
     def key_of(self, pid):
         """The crate, the part and the edit of a process, if it is a check."""
         words = pathlib.Path(f"/proc/{pid}/cmdline").read_bytes().decode(errors="replace").split("\0")
-        if os.path.basename(words[0]) != "rattle" or "--crate-name" not in words:
+        if os.path.basename(words[0]) != "rattle" or "--crate-name" not in words or not is_below(pid):
             return None
         crate = words[words.index("--crate-name") + 1]
         folder = os.readlink(f"/proc/{pid}/cwd")
@@ -92,7 +106,7 @@ class Meter:
         """Notes what each process has used so far."""
         for pid in filter(str.isdigit, os.listdir("/proc")):
             try:
-                fields = pathlib.Path(f"/proc/{pid}/stat").read_text(encoding="utf-8").rpartition(")")[2].split()
+                fields = stat_fields(pid)
                 # (a number is given again to a later process)
                 process = pid, fields[19]
                 key = self.last[process][0] if process in self.last else self.key_of(pid)
