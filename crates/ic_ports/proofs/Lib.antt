@@ -3,4 +3,3 @@ pub mod Records
 pub mod OwnSlots
 pub mod FoundSlots
 pub mod Lawful
-pub mod Counts

@@ -1,4 +1,3 @@
 pub mod Packed
 pub mod Slots
 pub mod Ports
-pub mod Counts

@@ -6,7 +6,9 @@ pub mod PartedEnds
 pub mod Takes
 pub mod Present
 pub mod EventCells
+pub mod StartCells
 pub mod SlottedRows
+pub mod FewLinks
 pub mod Grown
 pub mod PortWrites
 pub mod RowWrites

@@ -1,9 +1,9 @@
 pub mod Ends
-pub mod LabelHashes
 pub mod Labels
 pub mod RowSlots
 pub mod KeyedRows
 pub mod EventRows
+pub mod StartRows
 pub mod LinkRecords
 pub mod Records
 pub mod Changes

@@ -2,7 +2,6 @@
 #![tactic(auto)]
 
 mod changes;
-mod label_hash;
 mod labels;
 mod link_records;
 mod records;

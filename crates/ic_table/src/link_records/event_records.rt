@@ -1,5 +1,5 @@
-ghost use Rattle.std.specs.Prelude.{◌≡◌, ◌≢◌, ◌==◌, ℕ, ◌+◌, ◌*◌, ◌<◌, ◌≤◌, ◌↔◌, length, Some, None, IsSome, IsTrue, IsFalse, IfOk, IfSome, IfNone, OnErr, if◌then◌else◌};
-ghost use Rattle.ic_table.specs.RowSlots.{Fills, HasIdIn, HasLinkOf, HasNoneOf, SameIn};
+ghost use Rattle.std.specs.Prelude.{◌≡◌, ◌≢◌, ◌==◌, ℕ, ◌+◌, ◌*◌, ◌<◌, ◌≤◌, length, Some, None, IsSome, IsTrue, IsFalse, IfOk, IfSome, IfNone, OnErr, if◌then◌else◌};
+ghost use Rattle.ic_table.specs.RowSlots.{Fills, HasSpots, HasLinkOf, HasNoneOf, SameIn};
 ghost use Rattle.ic_table.specs.EventRows.{row_at, event_row, event_rows, links_at, most_events, AreShort, IsLastOf, PutsAt};
 
 use crate::link_records::LinkRecord;
@@ -103,17 +103,13 @@ impl EventRecords {
         }
     }
 
-    /// Whether a link has this id.
-    pub fn has_id(&self, id: LinkId) -> bool
-        ensures { IsTrue result ↔ HasIdIn (event_row self.now) id }
+    /// The slots of the two spots of the link in the slot.
+    pub fn spots(&self, slot: u32) -> TwoSlots
+        requires { IsSome (event_row self.now slot) }
+        ensures { HasSpots (event_row self.now) slot result }
     {
-        let MakerId::Event(event) = id.maker else {
-            return false;
-        };
-        match self.records.get(event.slot as usize) {
-            None => false,
-            Some(links) => links.line == event.line && id.place < links.len,
-        }
+        let links = &self.records[(slot / 8) as usize];
+        links.ends[(slot % 8) as usize]
     }
 
     /// Puts a link into the record of its event, and gives its slot. `None` if it finds no place there. At an error nothing

@@ -1,9 +1,10 @@
-ghost use Rattle.std.specs.Prelude.{◌≡◌, ◌==◌, ℕ, ◌<◌, ◌≤◌, ◌↔◌, length, Some, None, IsSome, IsTrue, IsFalse, IfOk, IfSome, IfNone, OnErr, if◌then◌else◌};
+ghost use Rattle.std.specs.Prelude.{◌≡◌, ◌==◌, ℕ, ◌<◌, ◌≤◌, length, Some, None, IsSome, IfOk, IfSome, IfNone, OnErr, if◌then◌else◌};
 ghost use Rattle.ic_name.specs.Spots.{is_maker};
-ghost use Rattle.ic_table.specs.RowSlots.{Fills, HasIdIn, HasLinkOf, HasNoneOf, SameIn};
+ghost use Rattle.ic_table.specs.RowSlots.{Fills, HasSpots, HasLinkOf, HasNoneOf, SameIn};
 ghost use Rattle.ic_table.specs.KeyedRows.{keyed_row, keyed_rows, most_keys, HaveFewKeys};
 
 use crate::link_records::LinkRecord;
+use crate::two_slots::TwoSlots;
 use ic_name::{EventId, LinkId, MakerId};
 use slab::Slab;
 use std::alloc::{AllocError, Global};
@@ -69,18 +70,15 @@ impl KeyedRecords {
         *row
     }
 
-    /// Whether a link has this id. It looks at every key.
-    pub fn has_id(&self, id: LinkId) -> bool
-        ensures { IsTrue result ↔ HasIdIn (keyed_row self.now) id }
+    /// The slots of the two spots of the link under the key.
+    pub fn spots(&self, key: u32) -> TwoSlots
+        requires { IsSome (keyed_row self.now key) }
+        ensures { HasSpots (keyed_row self.now) key result }
     {
-        for key in 0..self.rows.capacity() {
-            if let Some(row) = self.rows.get(key) {
-                if row.id == id {
-                    return true;
-                }
-            }
-        }
-        false
+        let Some(row) = self.rows.get(key as usize) else {
+            unreachable!();
+        };
+        TwoSlots { a: row.a, b: row.b }
     }
 
     /// The key of a link of the event, if there is one. It looks at every key.

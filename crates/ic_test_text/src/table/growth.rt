@@ -1,4 +1,4 @@
-use crate::table::paths::{link, put};
+use crate::table::paths::put;
 use ic_link::{Far, LinkStore};
 use ic_name::Spot;
 use ic_table::PortTable;
@@ -23,17 +23,16 @@ impl Seen {
     }
 }
 
-/// Puts in a link between two names. Where memory is wanting, the table answers as before, and takes it the next time.
+/// Puts in a link between two names, where more link ends are then. Where memory is wanting, the table answers as before,
+/// and takes it the next time.
 fn put_at_last(table: &mut PortTable, line: u32, a: u32, b: u32) -> bool {
-    let added = link((line, 0, a, b));
+    let row = (line, 0, a, b);
     let before = Seen::of(table, [0, a, b]);
-    if put(table, added) {
-        return table.has_id(added.id);
+    if !put(table, row) && !(Seen::of(table, [0, a, b]) == before && put(table, row)) {
+        return false;
     }
-    !table.has_id(added.id)
-        && Seen::of(table, [0, a, b]) == before
-        && put(table, added)
-        && table.has_id(added.id)
+    let [_, at_a, at_b] = before.degrees;
+    table.degree(Spot::Name(a)) > at_a && table.degree(Spot::Name(b)) > at_b
 }
 
 #[test]

@@ -1,3 +1,6 @@
+ghost use Rattle.std.specs.Prelude.{◌≡◌};
+ghost use Rattle.ic_name.specs.declared.ids.MakerId.TheVariants.{Event as AnEvent};
+
 use crate::link::{has_places, path_places};
 use ic_link::{Far, LinkStore, has_room};
 use ic_name::{EventId, Link, LinkId, MakerId, Spot};
@@ -6,7 +9,9 @@ use std::alloc::Global;
 use std::test::Fail;
 
 /// The event that stands in a line of a history.
-pub(crate) fn event(line: u32) -> EventId {
+pub(crate) fn event(line: u32) -> EventId
+    ensures { result ≡ record { slot = line; line = line } }
+{
     EventId { slot: line, line }
 }
 
@@ -14,7 +19,9 @@ pub(crate) fn event(line: u32) -> EventId {
 pub(crate) type Row = (u32, u32, u32, u32);
 
 /// The link of a row.
-pub(crate) fn link(row: Row) -> Link {
+pub(crate) fn link(row: Row) -> Link
+    ensures { result.id.maker ≡ AnEvent (record { slot = row.0; line = row.0 }) }
+{
     let (line, place, a, b) = row;
     Link {
         id: LinkId {
@@ -26,19 +33,21 @@ pub(crate) fn link(row: Row) -> Link {
     }
 }
 
-/// Puts in a link that finds room. It is `false` where it finds none, or memory is wanting.
-pub(crate) fn put(table: &mut PortTable, link: Link) -> bool {
-    if table.has_id(link.id) || !has_room(table, &link) {
+/// Puts in a link as the only one of its event. It is `false` where it finds no room, or memory is wanting.
+pub(crate) fn put(table: &mut PortTable, row: Row) -> bool {
+    let added = link(row);
+    table.take_of(event(row.0));
+    if !has_room(table, &added) {
         return false;
     }
-    table.add(link).is_ok()
+    table.add(added).is_ok()
 }
 
 /// A table of these links.
 fn table_of(alloc: Global, rows: &[Row]) -> Option<PortTable> {
     let mut table = PortTable::empty(alloc);
     for row in rows {
-        if !put(&mut table, link(*row)) {
+        if !put(&mut table, *row) {
             return None;
         }
     }
@@ -75,7 +84,7 @@ fn a_path_has_its_links_in_order(rt: HostRuntime) -> Result<(), Fail> {
 fn a_long_path_touches_few_records(rt: HostRuntime) -> Result<(), Fail> {
     let mut table = PortTable::empty(rt.alloc());
     for i in 0..1_000 {
-        assert!(rt; put(&mut table, link((i, i, i, i + 1))));
+        assert!(rt; put(&mut table, (i, i, i, i + 1)));
         assert!(rt; table.touched() <= 4);
     }
     assert_eq!(rt; table.far(Spot::Name(0)), Far::End(Spot::Name(1_000)));
@@ -88,7 +97,7 @@ fn a_long_path_touches_few_records(rt: HostRuntime) -> Result<(), Fail> {
 fn long_path(alloc: Global) -> Option<PortTable> {
     let mut table = PortTable::empty(alloc);
     for i in 0..1_000 {
-        if !put(&mut table, link((i, i, i, i + 1))) {
+        if !put(&mut table, (i, i, i, i + 1)) {
             return None;
         }
     }
@@ -128,14 +137,14 @@ fn reopened(table: &mut PortTable, row: Row) -> bool {
     table.take_of(event(line));
     let opened = table.rings() == 0 && table.touched() <= 4;
     let far = table.far(Spot::Name(a));
-    put(table, link(row)) && opened && far == Far::End(Spot::Name(b)) && table.rings() == 1
+    put(table, row) && opened && far == Far::End(Spot::Name(b)) && table.rings() == 1
 }
 
 #[test]
 fn a_long_ring_is_opened_anywhere(rt: HostRuntime) {
     let mut table = PortTable::empty(rt.alloc());
     for i in 0..1_000 {
-        assert!(rt; put(&mut table, link((i, 0, i, (i + 1) % 1_000))));
+        assert!(rt; put(&mut table, (i, 0, i, (i + 1) % 1_000)));
     }
     assert_eq!(rt; table.rings(), 1);
     for i in 0..200 {
@@ -165,13 +174,26 @@ fn a_self_link_gives_its_room_back(rt: HostRuntime) -> Result<(), Fail> {
     Ok(())
 }
 
+/// Whether these are the ids of the links from a loose name to its far end.
+fn has_ids(table: &PortTable, from: u32, ids: &[LinkId]) -> bool {
+    let from = Spot::Name(from);
+    if table.degree(from) != 1 {
+        return false;
+    }
+    match table.path(from) {
+        Ok(found) => found.as_slice() == ids,
+        Err(_) => false,
+    }
+}
+
 #[test]
 fn ids_are_found(rt: HostRuntime) -> Result<(), Fail> {
     let row = (1, 2, 4, 5);
     let mut table = table_of(rt.alloc(), &[row]).ok_or("a link")?;
-    assert!(rt; table.has_id(link(row).id));
-    assert!(rt; !table.has_id(link((1, 3, 4, 5)).id));
+    assert!(rt; has_ids(&table, 4, &[link(row).id]));
+    assert!(rt; !has_ids(&table, 4, &[link((1, 3, 4, 5)).id]));
     table.take_of(event(1));
-    assert!(rt; !table.has_id(link(row).id));
+    assert!(rt; !has_ids(&table, 4, &[link(row).id]));
+    assert_eq!(rt; table.degree(Spot::Name(4)), 0);
     Ok(())
 }

@@ -1,7 +1,7 @@
 // Ports of agents of which two are under one slot: a port's own slot has the record of one of them alone, and that of the
 // other must not be read from it.
 use crate::table::paths::event;
-use crate::table::side_by_side::{put_both, take_both};
+use crate::table::side_by_side::Both;
 use ic_link::{Far, LinkRows, LinkStore};
 use ic_name::{AgentId, EventId, Link, LinkId, MakerId, Spot};
 use ic_table::PortTable;
@@ -109,16 +109,16 @@ const ROUNDS: [([Joined; 2], u32); 4] = [
 
 #[test]
 fn agents_under_one_slot_have_ports_of_their_own(rt: HostRuntime) -> Result<(), Fail> {
-    let mut table = PortTable::empty(rt.alloc());
-    let mut rows = LinkRows::empty(rt.alloc());
+    let mut both = Both::empty(rt.alloc());
     for (links, taken) in &ROUNDS {
         for joined in links {
-            put_both(&mut table, &mut rows, link(*joined))?;
-            assert!(rt; agree(&table, &rows));
+            both.put(link(*joined))?;
+            assert!(rt; agree(&both.table, &both.rows));
         }
-        take_both(&mut table, &mut rows, event(*taken));
-        assert!(rt; agree(&table, &rows));
+        both.take_of(event(*taken));
+        assert!(rt; agree(&both.table, &both.rows));
     }
+    let table = &both.table;
     assert_eq!(rt;
         table.far(Spot::Agent(FIRST, 0)),
         Far::End(Spot::Agent(SECOND, 2))

@@ -1,38 +1,56 @@
 ghost use Rattle.std.specs.Prelude.{OnOk};
-ghost use Rattle.ic_path.specs.Orders.{Alike};
+ghost use Rattle.ic_test_text.specs.Stores.{AreSame};
 
 use crate::link::{has_places, path_places};
 use crate::table::paths::{Row, event, link};
 use ic_link::{LinkRows, LinkStore, has_room};
-use ic_name::{EventId, Link, Spot};
+use ic_name::{EventId, Link, LinkId, Spot};
 use ic_table::PortTable;
 use std::alloc::{AllocError, Global};
 use std::test::Fail;
 
-/// Puts a link into both stores. An error comes where it finds no room, or memory is wanting.
-pub(crate) fn put_both(
-    table: &mut PortTable,
-    rows: &mut LinkRows,
-    link: Link,
-) -> Result<(), AllocError>
-    requires { Alike table.old.links rows.old }
-    ensures { OnOk result (Alike table.new.links rows.new) }
-{
-    if table.has_id(link.id) || !has_room(table, &link) {
-        return Err(AllocError);
-    }
-    table.add(link)?;
-    rows.add(link)?;
-    Ok(())
+/// Both stores, and the ids of the links that were put in.
+#[derive(Drop)]
+pub(crate) struct Both {
+    pub(crate) table: PortTable,
+    pub(crate) rows: LinkRows,
+    ids: Vec<LinkId>,
 }
 
-/// Takes the links of an event out of both stores.
-pub(crate) fn take_both(table: &mut PortTable, rows: &mut LinkRows, event: EventId)
-    requires { Alike table.old.links rows.old }
-    ensures { Alike table.new.links rows.new }
-{
-    table.take_of(event);
-    rows.take_of(event);
+impl Both {
+    /// No links.
+    pub(crate) fn empty(alloc: Global) -> Both
+        ensures { AreSame result.table.links result.rows result.ids.items }
+    {
+        Both {
+            table: PortTable::empty(alloc),
+            rows: LinkRows::empty(alloc),
+            ids: Vec::new(alloc),
+        }
+    }
+
+    /// Puts a link with a fresh id into both stores. An error comes where it finds no room, or memory is wanting.
+    pub(crate) fn put(&mut self, link: Link) -> Result<(), AllocError>
+        requires { AreSame self.old.table.links self.old.rows self.old.ids.items }
+        ensures { OnOk result (AreSame self.new.table.links self.new.rows self.new.ids.items) }
+    {
+        if self.ids.contains(&link.id) || !has_room(&self.table, &link) {
+            return Err(AllocError);
+        }
+        self.ids.push(link.id)?;
+        self.table.add(link)?;
+        self.rows.add(link)?;
+        Ok(())
+    }
+
+    /// Takes the links of an event out of both stores.
+    pub(crate) fn take_of(&mut self, event: EventId)
+        requires { AreSame self.old.table.links self.old.rows self.old.ids.items }
+        ensures { AreSame self.new.table.links self.new.rows self.new.ids.items }
+    {
+        self.table.take_of(event);
+        self.rows.take_of(event);
+    }
 }
 
 /// Whether both stores have the same path at a name.
@@ -75,15 +93,14 @@ const ROUNDS: [([Row; 2], u32); 6] = [
 #[test]
 fn a_table_answers_as_rows_do(rt: HostRuntime) -> Result<(), Fail> {
     let alloc = rt.alloc();
-    let mut table = PortTable::empty(alloc);
-    let mut rows = LinkRows::empty(alloc);
+    let mut both = Both::empty(alloc);
     for (links, taken) in &ROUNDS {
         for added in links {
-            put_both(&mut table, &mut rows, link(*added))?;
-            assert!(rt; agree(alloc, &table, &rows));
+            both.put(link(*added))?;
+            assert!(rt; agree(alloc, &both.table, &both.rows));
         }
-        take_both(&mut table, &mut rows, event(*taken));
-        assert!(rt; agree(alloc, &table, &rows));
+        both.take_of(event(*taken));
+        assert!(rt; agree(alloc, &both.table, &both.rows));
     }
     Ok(())
 }

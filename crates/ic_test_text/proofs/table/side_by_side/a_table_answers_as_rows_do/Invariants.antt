@@ -1,8 +1,8 @@
-use Rattle.ic_path.specs.Orders.{Alike}
+use Rattle.ic_test_text.specs.Stores.{AreSame}
 use Rattle.ic_test_text.proofs.table.side_by_side.a_table_answers_as_rows_do.Given as goal
 
 abbrev pub invariant-loop-links : goal.invariant-loop-links
-invariant-loop-links g l = Alike l.table.links l.rows
+invariant-loop-links g l = AreSame l.both.table.links l.both.rows l.both.ids.items
 
 abbrev pub invariant-loop-added : goal.invariant-loop-added
-invariant-loop-added g l = Alike l.table.links l.rows
+invariant-loop-added g l = AreSame l.both.table.links l.both.rows l.both.ids.items
