@@ -30,7 +30,7 @@ impl<L: LinkStore> Bench<L> {
 
     /// The id of the event that was fired in this line, if it stands, in constant time: the history has the lead of each event
     /// that it fired. It takes no memory.
-    pub(crate) fn standing_of(&self, line: u32) -> Option<EventId>
+    pub fn standing_of(&self, line: u32) -> Option<EventId>
         ensures found { IfSome result (λ id. (x : Stander) × IsIn x self.now.events × (x.id ≡ id) × (id.line ≡ line)) }
         ensures absent { IfNone result ((x : Stander) → IsIn x self.now.events → x.id.line ≢ line) }
     {

@@ -16,8 +16,8 @@ pub mod ChosenLists
 pub mod ChosenOrders
 pub mod Places
 pub mod RestingCauses
-pub mod RestingOrder
-pub mod RestingSteps
+mod RestingLines
+mod RestingReached
 pub mod WithinSets
 pub mod LeastInTurn
 mod FreeToUndo

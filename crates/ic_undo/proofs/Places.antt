@@ -1,10 +1,10 @@
--- Elements at the places of a list, and what is told of their images.
-use Rattle.std.proofs.Common.{◌≡◌, ℕ, zero, suc, ◌+◌, ◌<◌, Bool, true, false, ◌||◌, List, [], ◌∷◌, ◌++◌, map, length, get_or, take, ◌⊎◌, inl, inr, refl, ap, sym, subst, arith, add-one, ◌∙◌}
-use Rattle.std.specs.List.{AllByRecursion, list_any}
+-- Elements at the places of a list, and in the parts of one.
+use Rattle.std.proofs.Common.{◌≡◌, ℕ, zero, suc, ◌+◌, ◌<◌, List, [], ◌∷◌, ◌++◌, map, length, get_or, take, ◌⊎◌, inl, inr, refl, ap, sym, subst, arith, add-one, ◌∙◌}
+use Rattle.std.specs.List.{AllByRecursion}
 use Rattle.std.specs.List.Sorted.{IsStrictlySortedBy}
 use Rattle.std.specs.declared.cmp.Ordering.{Ordering}
 use Rattle.std.specs.declared.cmp.Ordering.TheVariants.{Less}
-use Rattle.ic_path.specs.Orders.{Pick, here, there, IsIn, IsOnce}
+use Rattle.ic_path.specs.Orders.{Pick, here, IsIn, IsOnce}
 use Rattle.ic_path.proofs.EachOnce.{once_cons}
 use Rattle.ic_path.proofs.Picks.{none_in, in_first, in_more, in-cons_cases, pick_behind}
 
@@ -23,24 +23,6 @@ at f (x ∷ xs) zero d h = record { item = x; behind = xs; image = refl; next = 
 at f (x ∷ xs) (suc k) d h =
     let a = at f xs k d (omega (arith, h)) in
     record { item = a.item; behind = a.behind; image = a.image; next = rw add-one (ap (λ ys. x ∷ ys) (rw add-one at a.next)); whole = ap (λ ys. x ∷ ys) a.whole }
-
--- what a test finds among images is the image of an element
-pub any_image : {X Y : Type 0} (test : Y → Bool) (f : X → Y) (xs : List X) → list_any test (map f xs) ≡ true → (x : X) × IsIn x xs × (test (f x) ≡ true)
-any_image test f [] h = cc
-any_image {X} test f (x ∷ xs) h = by (test (f x)) refl h (any_image test f xs)
-  where
-    by : (b : Bool) → test (f x) ≡ b → b || list_any test (map f xs) ≡ true → (list_any test (map f xs) ≡ true → (y : X) × IsIn y xs × (test (f y) ≡ true)) → (y : X) × IsIn y (x ∷ xs) × (test (f y) ≡ true)
-    by true e i again = (x, in_first x xs, e)
-    by false e i again = let r = again i in (r.0, in_more x r.1, r.2)
-
--- and it finds the image of each element that passes
-pub image_any : {X Y : Type 0} (test : Y → Bool) (f : X → Y) {xs rest : List X} {x : X} → Pick x xs rest → test (f x) ≡ true → list_any test (map f xs) ≡ true
-image_any test f here e = rw e refl
-image_any test f (there {y = y} k) e = or_true (test (f y)) (image_any test f k e)
-  where
-    or_true : (b : Bool) {c : Bool} → c ≡ true → b || c ≡ true
-    or_true true h = refl
-    or_true false h = h
 
 -- in a sorted list, what is behind an element is greater
 pub sorted_behind : {X Y : Type 0} (cmp : Y → Y → Ordering) (f : X → Y) (front back : List X) (x y : X) → IsStrictlySortedBy cmp (map f (front ++ x ∷ back)) → IsIn y back → cmp (f x) (f y) ≡ Less

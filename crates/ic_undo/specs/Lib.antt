@@ -6,6 +6,7 @@ pub mod Marks
 pub mod Stood
 pub mod GoingBack
 pub mod Among
+pub mod Resting
 pub mod Absorbing
 pub mod Ready
 pub mod Coming

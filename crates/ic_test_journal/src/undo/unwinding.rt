@@ -1,4 +1,5 @@
 use ic_name::EventName;
+use ic_test_games::names::standing_names;
 use ic_test_games::player::{Game, Player, Step, wins};
 use ic_undo::{undo_all, unwind};
 use std::alloc::{AllocError, Global};
@@ -33,8 +34,9 @@ fn are_named(alloc: Global, names: &[EventName], lines: &[u8]) -> Result<bool, F
 /// The net from which they come.
 const NET: &[u8] = b"G(E,a) = D(b,E);";
 
-/// After these four, a firing is unwound with the events of these lines.
-struct Unwound(usize, &'static [u8]);
+/// After these four, a firing is unwound with the events of the first lines, and those of the second lines stand.
+#[derive(Clone, Copy)]
+struct Unwound(usize, &'static [u8], &'static [u8]);
 
 impl Game for Unwound {
     fn is_won(&self, alloc: Global, player: &mut Player) -> Result<bool, Fail> {
@@ -42,14 +44,25 @@ impl Game for Unwound {
             return Ok(false);
         }
         let id = player.id(self.0)?;
-        let names = unwind(alloc, &mut player.bench, id)?;
-        are_named(alloc, &names, self.1)
+        let gone = unwind(alloc, &mut player.bench, id)?;
+        let left = standing_names(alloc, &player.bench)?;
+        Ok(are_named(alloc, &gone, self.1)? && are_named(alloc, &left, self.2)?)
     }
 }
 
+/// Each of the four: the last rests on the first in two ways, and nothing else on the last.
+const UNWOUND: [Unwound; 4] = [
+    Unwound(0, b"1.1 3.0\n3 0.3\n1 0.0\n0 2\n", b""),
+    Unwound(1, b"1.1 3.0\n1 0.0\n", b"0 2\n3 0.3\n"),
+    Unwound(2, b"1.1 3.0\n3 0.3\n", b"0 2\n1 0.0\n"),
+    Unwound(3, b"1.1 3.0\n", b"0 2\n1 0.0\n3 0.3\n"),
+];
+
 #[test]
 fn an_event_goes_with_what_rests_on_it(rt: HostRuntime) -> Result<(), Fail> {
-    assert!(rt; wins(rt.alloc(), NET, &Unwound(2, b"1.1 3.0\n3 0.3\n"))?);
+    for unwound in &UNWOUND {
+        assert!(rt; wins(rt.alloc(), NET, unwound)?);
+    }
     Ok(())
 }
 
