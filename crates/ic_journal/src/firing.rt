@@ -1,9 +1,10 @@
-ghost use Rattle.std.specs.Prelude.{◌≤◌, None, Ok, IfOk, OnErr};
+ghost use Rattle.std.specs.Prelude.{◌≡◌, ◌≤◌, None, Ok, IfOk, OnErr};
 ghost use Rattle.ic_name.specs.Events.{Event as AnEvent};
 ghost use Rattle.ic_set.specs.Pairs.{IsActivePair, IsPairOf};
 ghost use Rattle.ic_journal.specs.Calls.{FiresPair, Stays};
 ghost use Rattle.ic_journal.specs.Limits.{Meets};
 ghost use Rattle.ic_journal.specs.Views.{set_of};
+ghost use Rattle.ic_roster.specs.Rosters.{event_in, IsNamed};
 
 use crate::bench::Bench;
 use crate::faults::PairFault;
@@ -11,6 +12,7 @@ use crate::limit::limit_of;
 use ic_history::KeptLine;
 use ic_link::LinkStore;
 use ic_name::limits::MAX_LINES;
+use ic_roster::Interaction;
 use ic_set::{ActivePair, Fired};
 use std::alloc::AllocError;
 
@@ -39,25 +41,26 @@ impl<L: LinkStore> Bench<L> {
             self.history.note(KeptLine::limited(limit, event));
             return Err(PairFault::of(limit));
         }
-        match self.admit_noted(pair) {
+        match self.admit_noted(pair, event) {
             Ok(fired) => Ok(fired),
             Err(_) => Err(PairFault::Memory),
         }
     }
 
-    /// Admits an active pair that meets no limit, and notes the line of its firing, for which there is room. At an error
-    /// memory ran out, no line was added, and nothing that stands changed.
-    fn admit_noted(&mut self, pair: ActivePair) -> Result<Fired, AllocError>
+    /// Admits an active pair that meets no limit, and notes the line of its event's firing, for which there is room. At an
+    /// error memory ran out, no line was added, and nothing that stands changed.
+    fn admit_noted(&mut self, pair: ActivePair, event: Interaction) -> Result<Fired, AllocError>
         requires room { 1 ≤ self.old.room }
         requires active { (e : AnEvent) × IsPairOf (set_of self.old) e pair × Meets (set_of self.old) e None }
+        requires named { IsNamed self.old.names event }
+        requires event { (e : AnEvent) → IsPairOf (set_of self.old) e pair → event_in self.old.names event ≡ e }
         ensures fired { IfOk result (λ fired. (e : AnEvent) → IsPairOf (set_of self.old) e pair → FiresPair self.old e (Ok fired) self.new) }
         ensures wanting { OnErr result (Stays self.old self.new) }
     {
         let set = self.set.bare();
         set.lawful();
-        let event = set.interaction_of(pair);
         let line = self.history.len();
-        let fired = self.set.admit(pair, line as u32)?;
+        let fired = self.set.admit(pair, event, line as u32)?;
         self.history.note(KeptLine::fired(event));
         Ok(fired)
     }

@@ -26,6 +26,7 @@ use ic_link::LinkStore;
 use ic_name::{AgentId, EventId, Kind, RuleEnd};
 use ic_roster::{Interaction, Roster};
 use ic_start::outcome;
+use smallvec::SmallVec;
 use std::alloc::{AllocError, Global};
 
 /// What comes with an event: its two agents with their names, its line and rank, its children, the ends of its links, and
@@ -43,10 +44,17 @@ struct Firing<'a> {
 
 impl<L: LinkStore> BareSet<L> {
     /// One event more, that of an active pair, under an id with this line, which no standing event has: with it its
-    /// children come, and the links of its rule are put in. At an error nothing changes but that names may be known that
-    /// weren't.
-    pub fn admit(&mut self, pair: ActivePair, line: u32) -> Result<EventId, AllocError>
+    /// children come, and the links of its rule are put in. The event is given by the places of its agents' names, as
+    /// `interaction_of` answers it. At an error nothing changes but that names may be known that weren't.
+    pub fn admit(
+        &mut self,
+        pair: ActivePair,
+        event: Interaction,
+        line: u32,
+    ) -> Result<EventId, AllocError>
         requires active { IsActivePair self.old.set pair }
+        requires named { IsNamed self.old.names event }
+        requires event { (e : AnEvent) → IsPairOf self.old.set e pair → event_in self.old.names event ≡ e }
         requires shallow { (e : AnEvent) → IsPairOf self.old.set e pair → ¬ (IsDeep e) }
         requires new_line { (x : Stander) → IsIn x self.old.set.events → x.id.line ≢ line }
         requires few_lines { line < MAX_LINES }
@@ -57,18 +65,13 @@ impl<L: LinkStore> BareSet<L> {
     {
         let causes = self.causes_of_pair(pair)?;
         let rank = self.rank_over(&causes);
-        let interaction = self.interaction_of(pair);
-        let rules = outcome(
-            interaction.lead_kind,
-            interaction.other_kind,
-            self.start.profile(),
-        );
-        let children = children_for(self.alloc, &mut self.roster, interaction, rules.children)?;
+        let rules = outcome(event.lead_kind, event.other_kind, self.start.profile());
+        let children = children_for(self.alloc, &mut self.roster, event, rules.children)?;
         self.store.lawful();
-        let born = enter_all(self.alloc, &mut self.roster, &children, line + 1)?;
+        let born = enter_all(self.alloc, &mut self.roster, children.as_slice(), line + 1)?;
         self.roster.lawful();
         let firing = Firing {
-            interaction,
+            interaction: event,
             line,
             rank,
             pair,
@@ -141,7 +144,7 @@ fn children_for(
     roster: &mut Roster,
     event: Interaction,
     kinds: &[Kind],
-) -> Result<Vec<NewAgent>, AllocError>
+) -> Result<SmallVec<NewAgent, 4>, AllocError>
     requires named { IsNamed roster.old.names event }
     requires kinds { kinds.now ≡ born_kinds event.lead_kind event.other_kind }
     requires shallow { ¬ (IsDeep (event_in roster.old.names event)) }

@@ -21,6 +21,16 @@ pub(crate) struct NewAgent {
     pub kind: Kind,
 }
 
+impl Default for NewAgent {
+    /// What a free place of a list in place holds.
+    fn default() -> NewAgent {
+        NewAgent {
+            name: NameId { place: 0 },
+            kind: Kind::Eps,
+        }
+    }
+}
+
 /// The agents of a start, by number, whose names are entered.
 pub(crate) fn agents_of_kinds(
     alloc: Global,
@@ -53,7 +63,7 @@ pub(crate) fn children_of(
     roster: &mut Roster,
     lead: NameId,
     kinds: &[Kind],
-) -> Result<Vec<NewAgent>, AllocError>
+) -> Result<SmallVec<NewAgent, 4>, AllocError>
     requires inside { lead.place < length roster.old.names }
     requires few { length kinds.now ≤ 4 }
     requires shallow { (kinds.now ≡ []) ⊎ (depth (name_at roster.old.names lead.place) < MAX_DEPTH) }
@@ -63,17 +73,18 @@ pub(crate) fn children_of(
     ensures agents { roster.new.agents ≡ roster.old.agents }
     ensures events { roster.new.events ≡ roster.old.events }
 {
-    let mut agents = Vec::with_capacity(alloc, kinds.len())?;
+    let mut agents = SmallVec::new(alloc);
+    agents.reserve(kinds.len())?;
     for digit in 0..kinds.len() {
         let name = match roster.enter_child(lead, digit as u8) {
             Ok(name) => name,
             Err(ChildFault::Memory) => return Err(AllocError),
             Err(ChildFault::Deep) => unreachable!(),
         };
-        agents.push(NewAgent {
+        agents.push_reserved(NewAgent {
             name,
             kind: kinds[digit],
-        })?;
+        });
     }
     Ok(agents)
 }

@@ -11,7 +11,7 @@ ghost use Rattle.ic_theory.specs.Active.{IsActive};
 ghost use Rattle.ic_theory.specs.Rules.{born_kinds};
 ghost use Rattle.ic_theory.specs.Sets.{consumed_times};
 ghost use Rattle.ic_theory.specs.Wires.{IsWire};
-ghost use Rattle.ic_roster.specs.Rosters.{Member as AMember, Stander};
+ghost use Rattle.ic_roster.specs.Rosters.{Member as AMember, Stander, event_in};
 ghost use Rattle.ic_names.specs.Queues.{AreNamed, StandOnce};
 ghost use Rattle.ic_set.specs.Meetings.{HasEntry, IsMeeting};
 ghost use Rattle.ic_set.specs.Pairs.{AreJoined, IsPairOf, IsActivePair, AreActivePairs, ArePairsOf, AreLedBy};
@@ -24,7 +24,7 @@ use ic_link::{Far, LinkStore};
 use ic_name::{AgentId, Event, EventId, Kind, Spot};
 use ic_names::NameId;
 use ic_names::queue::Lead;
-use ic_roster::AgentEntry;
+use ic_roster::{AgentEntry, Interaction};
 use std::alloc::AllocError;
 use std::cmp::Ordering;
 
@@ -175,20 +175,16 @@ impl<L: LinkStore> BareSet<L> {
         Ok(pairs)
     }
 
-    /// The agents whose principal ports wires lead to from the four auxiliary ports of this pair's agents, where its rule
-    /// makes no children; where it makes some, none is looked for, and two epsilons have no such ports. It takes no memory.
-    pub fn beside(&self, pair: ActivePair) -> [Option<AgentId>; 4]
-        requires { IsActivePair self.now.set pair }
+    /// The agents whose principal ports wires lead to from the four auxiliary ports of this pair's agents, where the rule of
+    /// its event makes no children; where it makes some, none is looked for, and two epsilons have no such ports. It takes
+    /// no memory.
+    pub fn beside(&self, pair: ActivePair, event: Interaction) -> [Option<AgentId>; 4]
+        requires active { IsActivePair self.now.set pair }
+        requires event { (e : AnEvent) → IsPairOf self.now.set e pair → event_in self.now.names event ≡ e }
         ensures { (e : AnEvent) → IsPairOf self.now.set e pair → born_kinds e.lead_kind e.other_kind ≡ [] → AreBeside self.now.set e result }
     {
         self.lawful();
-        let Some(lead) = self.roster.agent(pair.lead) else {
-            unreachable!()
-        };
-        let Some(other) = self.roster.agent(pair.other) else {
-            unreachable!()
-        };
-        if lead.kind != other.kind || lead.kind == Kind::Eps {
+        if event.lead_kind != event.other_kind || event.lead_kind == Kind::Eps {
             return [None; 4];
         }
         [

@@ -3,7 +3,7 @@ ghost use Rattle.ic_name.specs.Events.{Event as AnEvent};
 ghost use Rattle.ic_name.specs.declared.limits.TheConstants.{MAX_LINES};
 ghost use Rattle.ic_path.specs.Orders.{IsIn};
 ghost use Rattle.ic_theory.specs.Machine.{IsDeep};
-ghost use Rattle.ic_roster.specs.Rosters.{Stander};
+ghost use Rattle.ic_roster.specs.Rosters.{Stander, event_in, IsNamed};
 ghost use Rattle.ic_set.specs.Changes.{Admits, IsSame, TakesOut};
 ghost use Rattle.ic_set.specs.Cleared.{AreAll, Clears};
 ghost use Rattle.ic_set.specs.Entering.{GrowsBy};
@@ -16,6 +16,7 @@ use crate::standing::queue::{drop_stale, put_leads, put_start_leads};
 use crate::standing::renewing::MAX_CHILDREN;
 use ic_link::LinkStore;
 use ic_name::EventId;
+use ic_roster::Interaction;
 use ic_set::{ActivePair, Fired};
 use std::alloc::AllocError;
 
@@ -24,8 +25,15 @@ impl<L: LinkStore> StandingSet<L> {
     /// children come, and the links of its rule are put in. It answers the pairs that became active by it, too: each has
     /// a child, or, where the rule makes none, joins two agents that were beside the pair. At an error nothing changes but
     /// that names may be known that weren't.
-    pub fn admit(&mut self, pair: ActivePair, line: u32) -> Result<Fired, AllocError>
+    pub fn admit(
+        &mut self,
+        pair: ActivePair,
+        event: Interaction,
+        line: u32,
+    ) -> Result<Fired, AllocError>
         requires active { IsActivePair self.old.set pair }
+        requires named { IsNamed self.old.names event }
+        requires event { (e : AnEvent) → IsPairOf self.old.set e pair → event_in self.old.names event ≡ e }
         requires shallow { (e : AnEvent) → IsPairOf self.old.set e pair → ¬ (IsDeep e) }
         requires new_line { (x : Stander) → IsIn x self.old.set.events → x.id.line ≢ line }
         requires few_lines { line < MAX_LINES }
@@ -36,10 +44,10 @@ impl<L: LinkStore> StandingSet<L> {
         ensures unchanged { OnErr result (IsSame self.old.set self.new.set) }
     {
         self.bare.lawful();
-        let beside = self.bare.beside(pair);
+        let beside = self.bare.beside(pair, event);
         let names = self.bare.roster().names().len();
         self.queue.reserve(names + MAX_CHILDREN)?;
-        let id = self.bare.admit(pair, line)?;
+        let id = self.bare.admit(pair, event, line)?;
         self.bare.lawful();
         let awoken = self.bare.awoken(id, &beside);
         put_leads(&mut self.queue, &self.bare, &awoken);

@@ -34,7 +34,8 @@ pub(crate) fn fire_in_set(
 {
     let line = free_line(set.roster(), taken);
     make_room(taken, line)?;
-    let _ = set.admit(pair, line)?;
+    let event = set.interaction_of(pair);
+    let _ = set.admit(pair, event, line)?;
     taken[line as usize] = true;
     Ok(())
 }

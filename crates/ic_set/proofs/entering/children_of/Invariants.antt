@@ -1,4 +1,4 @@
-use Rattle.std.proofs.Common.{◌≡◌, take}
+use Rattle.std.proofs.Common.{◌≡◌, ◌+◌, ◌≤◌, length, take}
 use Rattle.ic_name.specs.Names.{child_name}
 use Rattle.ic_names.specs.Tables.{name_at, StandsAt}
 use Rattle.ic_theory.specs.Born.{named}
@@ -13,4 +13,5 @@ invariant-loop-digit l = record {
   grown : GrowsBy l.digit l.initial.roster.names l.roster.names;
   agents : l.roster.agents ≡ l.initial.roster.agents;
   events : l.roster.events ≡ l.initial.roster.events;
+  room : length l.agents.items + length l.kinds ≤ l.agents.capacity + l.digit;
 }

@@ -40,7 +40,7 @@ admit-requires-clause-shallow g c =
     let f = c.requires.active.0 in
     let first : IsPairOf s.set f c.args.pair = subst (λ v. IsPairOf (set_of v) f c.args.pair) (sym c.self.view_is) c.requires.active.1 in
     let limits : Meets s.set f None = subst (λ v. Meets (set_of v) f None) (sym c.self.view_is) c.requires.active.2 in
-    let its = rw c.bare-set.ensures at c.interaction_of-event.ensures.event in
+    let its = rw (← c.self.view_is) at c.requires.event in
     λ e p deep. limits.0 (subst IsDeep (sym (its e p) ∙ its f first) deep)
 
 pub invariant_of-self-2 : goal.invariant_of-self-2
@@ -50,11 +50,11 @@ invariant_of-self-2 g c =
     let f = c.requires.active.0 in
     let first : IsPairOf s.set f c.args.pair = subst (λ v. IsPairOf (set_of v) f c.args.pair) (sym c.self.view_is) c.requires.active.1 in
     let limits : Meets s.set f None = subst (λ v. Meets (set_of v) f None) (sym c.self.view_is) c.requires.active.2 in
-    let its = rw c.bare-set.ensures at c.interaction_of-event.ensures.event in
-    let named = rw c.bare-set.ensures at c.interaction_of-event.ensures.named in
-    let more : c.note.new.self.lines ≡ h.lines ++ Fired c.interaction_of-event.result ∷ [] = rw c.fired.ensures.line at c.note.ensures.lines in
+    let its = rw (← c.self.view_is) at c.requires.event in
+    let named = rw (← c.self.view_is) at c.requires.named in
+    let more : c.note.new.self.lines ≡ h.lines ++ Fired c.args.event ∷ [] = rw c.fired.ensures.line at c.note.ensures.lines in
     let down = c.note.ensures.room in
-    fired_kept s c.admit.new.self h c.note.new.self c.self.invariant c.admit.ensures.grown c.interaction_of-event.result named f (its f first)
+    fired_kept s c.admit.new.self h c.note.new.self c.self.invariant c.admit.ensures.grown c.args.event named f (its f first)
     more c.len-line.result c.len-line.ensures.count c.in_ok-fired.fired.id (c.in_ok-fired.ensures.admitted f first) first.active limits.0 limits.1 (omega (arith, down)) c.note.ensures.few
 
 pub returns-clause-fired : goal.returns-clause-fired
@@ -64,16 +64,16 @@ returns-clause-fired g c =
     let f = c.requires.active.0 in
     let first : IsPairOf s.set f c.args.pair = subst (λ v. IsPairOf (set_of v) f c.args.pair) (sym c.self.view_is) c.requires.active.1 in
     let limits : Meets s.set f None = subst (λ v. Meets (set_of v) f None) (sym c.self.view_is) c.requires.active.2 in
-    let its = rw c.bare-set.ensures at c.interaction_of-event.ensures.event in
-    let named = rw c.bare-set.ensures at c.interaction_of-event.ensures.named in
-    let more : c.note.new.self.lines ≡ h.lines ++ Fired c.interaction_of-event.result ∷ [] = rw c.fired.ensures.line at c.note.ensures.lines in
+    let its = rw (← c.self.view_is) at c.requires.event in
+    let named = rw (← c.self.view_is) at c.requires.named in
+    let more : c.note.new.self.lines ≡ h.lines ++ Fired c.args.event ∷ [] = rw c.fired.ensures.line at c.note.ensures.lines in
     let down = c.note.ensures.room in
     let room : h.room ≤ c.note.new.self.room + 1 = omega (arith, down) in
     λ e q. (
     let p : IsPairOf s.set e c.args.pair = subst (λ v. IsPairOf (set_of v) e c.args.pair) (sym c.self.view_is) q in
     let within = subst (λ x. Meets s.set x None) (sym (its f first) ∙ its e p) limits in
-    let fired = fired_steps s c.admit.new.self h c.note.new.self c.self.invariant c.admit.ensures.grown c.interaction_of-event.result named e (its e p)
+    let fired = fired_steps s c.admit.new.self h c.note.new.self c.self.invariant c.admit.ensures.grown c.args.event named e (its e p)
     more c.len-line.result c.len-line.ensures.count c.in_ok-fired.fired.id (c.in_ok-fired.ensures.admitted e p) p.active within.0 within.1 room in
-    let admits = fired_admits s c.admit.new.self h c.note.new.self c.self.invariant c.admit.ensures.grown c.interaction_of-event.result named e (its e p)
+    let admits = fired_admits s c.admit.new.self h c.note.new.self c.self.invariant c.admit.ensures.grown c.args.event named e (its e p)
     more c.len-line.result c.len-line.ensures.count c.in_ok-fired.fired.id (c.in_ok-fired.ensures.admitted e p) p.active within.0 within.1 room in
     subst (λ v. FiresPair v e (Ok c.in_ok-fired.fired) (view_of c.admit.new.self c.note.new.self)) c.self.view_is ((fired, admits), c.in_ok-fired.ensures.awoken))

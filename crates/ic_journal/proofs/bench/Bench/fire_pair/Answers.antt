@@ -73,3 +73,6 @@ returns-in-Ok-admit_noted g c =
 
 pub invariant_of-self-in_default-limit_of : goal.invariant_of-self-in_default-limit_of
 invariant_of-self-in_default-limit_of g c = same_kept c.self.inside.set c.self.inside.set c.self.inside.history c.reserve.new.self c.self.invariant (same_self _) (keeps_self _) c.reserve.ensures.lines c.reserve.ensures.few
+
+pub admit_noted-requires-clause-event : goal.admit_noted-requires-clause-event
+admit_noted-requires-clause-event g c = rw c.bare-set.ensures at c.interaction_of-event.ensures.event

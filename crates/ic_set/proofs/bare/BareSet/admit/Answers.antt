@@ -35,7 +35,7 @@ pub children_for-requires-clause-shallow : goal.children_for-requires-clause-sha
 children_for-requires-clause-shallow g c =
     let e = c.requires.active.0 in
     let active = c.requires.active.1 in
-    let same = rw (← c.self.view_is) at (c.interaction_of-interaction.ensures.event e active) in
+    let same = rw (← c.self.view_is) at (c.requires.event e active) in
     subst (λ (f : Event). ¬ (IsDeep f)) (sym same) (c.requires.shallow e active)
 
 pub returns-in_err-children-clause-unchanged : goal.returns-in_err-children-clause-unchanged
@@ -47,11 +47,11 @@ pub enter_all-requires-clause-can : goal.enter_all-requires-clause-can
 enter_all-requires-clause-can g c =
     let e = c.requires.active.0 in
     let active = c.requires.active.1 in
-    let same = rw (← c.self.view_is) at (c.interaction_of-interaction.ensures.event e active) in
+    let same = rw (← c.self.view_is) at (c.requires.event e active) in
     let view = c.self.inside in
     let v : SetView = record { start = view.start; agents = view.roster.agents; events = view.roster.events } in
     let ls = g.L.LinkStore.links view.store in
-    rw (c.children_for.ensures.agents, c.deref-2.ensures.value)
+    rw (c.children_for.ensures.agents, c.as_slice.ensures)
     (can_enter v c.args.self.now.set (ap (λ (w : NamedView). w.set) c.self.view_is) ls c.self.invariant e c.args.pair active c.args.line c.requires.new_line _ (c.in_ok-children.ensures.children ∙ ap born_agents same))
 
 pub invariant_of-self-in_err-born : goal.invariant_of-self-in_err-born
@@ -76,13 +76,13 @@ put_event-requires-clause-can g c =
     let view = c.self.inside in
     let v : SetView = record { start = view.start; agents = view.roster.agents; events = view.roster.events } in
     let ls = g.L.LinkStore.links view.store in
-    let same = rw (← c.self.view_is) at (c.interaction_of-interaction.ensures.event e active) in
-    let its = its_event c.children_for.ensures.grown (rw (← c.self.view_is) at c.interaction_of-interaction.ensures.named) same c.enter_all.ensures.names in
+    let same = rw (← c.self.view_is) at (c.requires.event e active) in
+    let its = its_event c.children_for.ensures.grown (rw (← c.self.view_is) at c.requires.named) same c.enter_all.ensures.names in
     let events = c.enter_all.ensures.events ∙ c.children_for.ensures.events in
     let ends = ends_same c.outcome-rules.ensures.links c.profile.ensures (ap (λ (e : Event). e.lead_kind) same) (ap (λ (e : Event). e.other_kind) same) in
-    let enters : Enters v.agents (agents_in c.children_for.new.roster.names c.in_ok-children.children.items) (c.args.line + 1) c.in_ok-born.born.items c.enter_all.new.roster.agents = rw (c.children_for.ensures.agents, c.deref-2.ensures.value) at c.in_ok-born.ensures.entered in
+    let enters : Enters v.agents (agents_in c.children_for.new.roster.names c.in_ok-children.children.items) (c.args.line + 1) c.in_ok-born.born.items c.enter_all.new.roster.agents = rw (c.children_for.ensures.agents, c.as_slice.ensures) at c.in_ok-born.ensures.entered in
     let lawful : IsLawful ls = record { slim = c.lawful.ensures.slim; own_ids = c.lawful.ensures.own_ids } in
-    rw (its, c.as_slice.ensures, ends, c.deref-3.ensures.value, events)
+    rw (its, c.as_slice-2.ensures, ends, c.deref-2.ensures.value, events)
     (can_put_in v c.args.self.now.set (ap (λ (w : NamedView). w.set) c.self.view_is) ls c.self.invariant e c.args.pair active c.args.line c.requires.new_line
     _ (c.in_ok-children.ensures.children ∙ ap born_agents same) c.in_ok-born.born.items _ enters c.lawful-2.ensures.names
     c.rank_over-rank.result c.in_ok-causes.causes.items (c.in_ok-causes.ensures e active) lawful)
@@ -94,13 +94,13 @@ invariant_of-self-in-Ok g c =
     let view = c.self.inside in
     let v : SetView = record { start = view.start; agents = view.roster.agents; events = view.roster.events } in
     let ls = g.L.LinkStore.links view.store in
-    let same = rw (← c.self.view_is) at (c.interaction_of-interaction.ensures.event e active) in
-    let its = its_event c.children_for.ensures.grown (rw (← c.self.view_is) at c.interaction_of-interaction.ensures.named) same c.enter_all.ensures.names in
+    let same = rw (← c.self.view_is) at (c.requires.event e active) in
+    let its = its_event c.children_for.ensures.grown (rw (← c.self.view_is) at c.requires.named) same c.enter_all.ensures.names in
     let events = c.enter_all.ensures.events ∙ c.children_for.ensures.events in
     let ends = ends_same c.outcome-rules.ensures.links c.profile.ensures (ap (λ (e : Event). e.lead_kind) same) (ap (λ (e : Event). e.other_kind) same) in
-    let enters : Enters v.agents (agents_in c.children_for.new.roster.names c.in_ok-children.children.items) (c.args.line + 1) c.in_ok-born.born.items c.enter_all.new.roster.agents = rw (c.children_for.ensures.agents, c.deref-2.ensures.value) at c.in_ok-born.ensures.entered in
+    let enters : Enters v.agents (agents_in c.children_for.new.roster.names c.in_ok-children.children.items) (c.args.line + 1) c.in_ok-born.born.items c.enter_all.new.roster.agents = rw (c.children_for.ensures.agents, c.as_slice.ensures) at c.in_ok-born.ensures.entered in
     let over = rw c.deref.ensures.value at c.rank_over-rank.ensures in
-    let puts = rw (its, c.as_slice.ensures, ends, c.deref-3.ensures.value, events) at c.in-Ok.ensures.put.1 in
+    let puts = rw (its, c.as_slice-2.ensures, ends, c.deref-2.ensures.value, events) at c.in-Ok.ensures.put.1 in
     rw c.put_event.ensures.agents
     (put_keeps v c.args.self.now.set (ap (λ (w : NamedView). w.set) c.self.view_is) ls c.self.invariant e c.args.pair active c.args.line c.requires.new_line
     _ (c.in_ok-children.ensures.children ∙ ap born_agents same) c.in_ok-born.born.items _ enters c.lawful-2.ensures.names
@@ -112,13 +112,13 @@ returns-in-Ok-clause-admitted g c = λ e active. (
     let view = c.self.inside in
     let v : SetView = record { start = view.start; agents = view.roster.agents; events = view.roster.events } in
     let ls = g.L.LinkStore.links view.store in
-    let same = rw (← c.self.view_is) at (c.interaction_of-interaction.ensures.event e active) in
-    let its = its_event c.children_for.ensures.grown (rw (← c.self.view_is) at c.interaction_of-interaction.ensures.named) same c.enter_all.ensures.names in
+    let same = rw (← c.self.view_is) at (c.requires.event e active) in
+    let its = its_event c.children_for.ensures.grown (rw (← c.self.view_is) at c.requires.named) same c.enter_all.ensures.names in
     let events = c.enter_all.ensures.events ∙ c.children_for.ensures.events in
     let ends = ends_same c.outcome-rules.ensures.links c.profile.ensures (ap (λ (e : Event). e.lead_kind) same) (ap (λ (e : Event). e.other_kind) same) in
-    let enters : Enters v.agents (agents_in c.children_for.new.roster.names c.in_ok-children.children.items) (c.args.line + 1) c.in_ok-born.born.items c.enter_all.new.roster.agents = rw (c.children_for.ensures.agents, c.deref-2.ensures.value) at c.in_ok-born.ensures.entered in
+    let enters : Enters v.agents (agents_in c.children_for.new.roster.names c.in_ok-children.children.items) (c.args.line + 1) c.in_ok-born.born.items c.enter_all.new.roster.agents = rw (c.children_for.ensures.agents, c.as_slice.ensures) at c.in_ok-born.ensures.entered in
     let over = rw c.deref.ensures.value at c.rank_over-rank.ensures in
-    let puts = rw (its, c.as_slice.ensures, ends, c.deref-3.ensures.value, events) at c.in-Ok.ensures.put.1 in
+    let puts = rw (its, c.as_slice-2.ensures, ends, c.deref-2.ensures.value, events) at c.in-Ok.ensures.put.1 in
     rw c.put_event.ensures.agents
     (put_admits v c.args.self.now.set (ap (λ (w : NamedView). w.set) c.self.view_is) ls c.self.invariant e c.args.pair active c.args.line c.requires.new_line
     _ (c.in_ok-children.ensures.children ∙ ap born_agents same) c.in_ok-born.born.items _ enters c.lawful-2.ensures.names
@@ -137,7 +137,7 @@ events_again {mid = mid} {new = new} same alike is = subst (λ ss. Alike ss new)
 pub invariant_of-self-in-Err : goal.invariant_of-self-in-Err
 invariant_of-self-in-Err g c =
     let view = c.self.inside in
-    let enters = rw (c.children_for.ensures.agents, c.deref-2.ensures.value) at c.in_ok-born.ensures.entered in
+    let enters = rw (c.children_for.ensures.agents, c.as_slice.ensures) at c.in_ok-born.ensures.entered in
     let left = c.in-Err.ensures.unchanged in
     let back = gone_again enters.entered c.put_event.ensures.agents enters.under c.as_slice-in-Err.ensures enters.alike c.remove_all.ensures.left in
     let events = events_again (c.enter_all.ensures.events ∙ c.children_for.ensures.events) left.events c.remove_all.ensures.events in
@@ -147,7 +147,7 @@ pub returns-clause-unchanged : goal.returns-clause-unchanged
 returns-clause-unchanged g c =
     let view = c.self.inside in
     let v : SetView = record { start = view.start; agents = view.roster.agents; events = view.roster.events } in
-    let enters = rw (c.children_for.ensures.agents, c.deref-2.ensures.value) at c.in_ok-born.ensures.entered in
+    let enters = rw (c.children_for.ensures.agents, c.as_slice.ensures) at c.in_ok-born.ensures.entered in
     let left = c.in-Err.ensures.unchanged in
     let back = gone_again enters.entered c.put_event.ensures.agents enters.under c.as_slice-in-Err.ensures enters.alike c.remove_all.ensures.left in
     let events = events_again (c.enter_all.ensures.events ∙ c.children_for.ensures.events) left.events c.remove_all.ensures.events in

@@ -1,4 +1,4 @@
-use Rattle.std.proofs.Common.{◌+◌, List, take, get_or, ap, arith, subst}
+use Rattle.std.proofs.Common.{List, take, get_or, ap, subst}
 use Rattle.std.proofs.lemmas.List.{take_more, take_all}
 use Rattle.ic_name.specs.declared.ids.EventId.{EventId}
 use Rattle.ic_path.specs.Orders.{IsIn}
