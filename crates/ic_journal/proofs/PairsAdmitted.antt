@@ -11,7 +11,8 @@ use Rattle.ic_theory.specs.Active.{IsActive}
 use Rattle.ic_theory.specs.Rules.{born_kinds}
 use Rattle.ic_theory.proofs.Normal.{active-alike}
 use Rattle.ic_names.specs.declared.queue.Lead.{Lead}
-use Rattle.ic_names.proofs.Heaps.{kept_heap}
+use Rattle.ic_names.specs.Queues.{QueueView, leads_of, IsQueue}
+use Rattle.ic_names.proofs.Queued.{kept_queue}
 use Rattle.ic_roster.specs.Rosters.{Stander}
 use Rattle.ic_set.specs.declared.pairs.ActivePair.{ActivePair}
 use Rattle.ic_set.specs.Changes.{Admits, IsSame}
@@ -46,10 +47,10 @@ front_same v w same (Some p) front = let l = front.0 in (
 )
 
 -- the same set keeps its queue, however many names become known
-pub same_keeps : (v w : NamedView) (leads : List Lead) (room room' : ℕ) (pair : Option ActivePair) → IsSame v.set w.set → Keeps v.names w.names → length w.names ≤ room' → KeepsQueue v leads room pair → KeepsQueue w leads room' pair
-same_keeps v w leads room room' pair same keeps enough k = record {
-  heap = kept_heap v.names w.names leads keeps k.heap;
-  each = λ f q h. (let queued = k.each f q (pair_same w.set v.set (sym same.start) (alike_back same.agents) (alike_back same.events) f q h) in (queued.0, keeps f.lead queued.0 queued.1, queued.2));
+pub same_keeps : (v w : NamedView) (q q' : QueueView) (pair : Option ActivePair) → IsSame v.set w.set → Keeps v.names w.names → (IsQueue w.names q → IsQueue w.names q') → leads_of q' ≡ leads_of q → length w.names ≤ q'.room → KeepsQueue v q pair → KeepsQueue w q' pair
+same_keeps v w q q' pair same keeps queue leads enough k = record {
+  queue = queue (kept_queue v.names w.names keeps q k.queue);
+  each = λ f p h. (let queued = k.each f p (pair_same w.set v.set (sym same.start) (alike_back same.agents) (alike_back same.events) f p h) in (queued.0, keeps f.lead queued.0 queued.1, rw leads queued.2));
   front = front_same v.set w.set same pair k.front;
   room = enough;
 }

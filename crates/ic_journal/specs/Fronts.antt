@@ -5,7 +5,7 @@ use Rattle.ic_names.specs.Tables.{name_at}
 use Rattle.ic_path.specs.Orders.{IsIn}
 use Rattle.ic_theory.specs.Active.{IsActive}
 use Rattle.ic_names.specs.declared.queue.Lead.{Lead}
-use Rattle.ic_names.specs.Queues.{places, IsHeap}
+use Rattle.ic_names.specs.Queues.{QueueView, places, leads_of, IsQueue}
 use Rattle.ic_roster.specs.Rosters.{Stander}
 use Rattle.ic_set.specs.declared.pairs.ActivePair.{ActivePair}
 use Rattle.ic_set.specs.Pairs.{IsLeastPair}
@@ -21,8 +21,8 @@ abbrev pub LeadNone : NamedView → List Lead → Type 0
 LeadNone v leads = (n : ℕ) → IsIn n (places leads) → (x : Stander) → IsIn x v.set.events → x.event.lead ≢ name_at v.names n
 
 -- the leads are in the queue, the pair is the one at its front, and there is room for each name that is known
-pub record KeepsQueue (v : NamedView) (leads : List Lead) (space : ℕ) (pair : Option ActivePair) : Type 0 where
-  pub heap : IsHeap v.names leads
-  pub each : HasLeads v leads
+pub record KeepsQueue (v : NamedView) (q : QueueView) (pair : Option ActivePair) : Type 0 where
+  pub queue : IsQueue v.names q
+  pub each : HasLeads v (leads_of q)
   pub front : IsFront v.set pair
-  pub room : length v.names ≤ space
+  pub room : length v.names ≤ q.room

@@ -39,7 +39,7 @@ impl<L: LinkStore> Model for StandingSet<L> {
 
     ghost view = { λ a. a.bare.value };
 
-    ghost invariant = { λ a. KeepsQueue a.bare.value a.queue.leads a.queue.room a.front };
+    ghost invariant = { λ a. KeepsQueue a.bare.value a.queue a.front };
 }
 
 impl<L: LinkStore> StandingSet<L> {

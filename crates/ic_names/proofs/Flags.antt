@@ -4,13 +4,14 @@ use Rattle.std.specs.Prelude.{slice_index_or}
 use Rattle.std.proofs.lemmas.Bool.{cases_lt}
 use Rattle.std.proofs.lemmas.Grind.{get_or-set_at}
 use Rattle.std.proofs.lemmas.List.{get_or_append_left, take_all, get_or-append_right, get_or-replicate, get_or_past, length-replicate}
-use Rattle.std.proofs.lemmas.List.Edits.{Swapped}
-use Rattle.ic_path.specs.Orders.{IsIn}
+use Rattle.ic_path.specs.Orders.{here, Alike, IsIn, IsOnce}
 use Rattle.ic_path.proofs.Alikes.{alike-in, alike_back}
+use Rattle.ic_path.proofs.EachOnce.{once_rest, once_cons}
+use Rattle.ic_path.proofs.Picks.{in_first, in_more, in-cons_cases}
 use Rattle.ic_names.specs.declared.queue.Lead.{Lead}
-use Rattle.ic_names.specs.Queues.{place_of, places, lead_at, AreFlagged}
+use Rattle.ic_names.specs.Queues.{places, AreFlagged}
 use Rattle.ic_names.proofs.UpTo.{same_or_not}
-use Rattle.ic_names.proofs.PlacedFacts.{swapped-alike, swapped_once, pushed_once, popped_once, popped_gone, in-pushed}
+use Rattle.ic_names.proofs.QueuedPlaces.{once-places, once_leads, once_moved}
 
 -- there is a flag for each place whose flag is true
 true_inside : (queued : List Bool) (n : ℕ) → slice_index_or queued n false ≡ true → n < length queued
@@ -18,48 +19,45 @@ true_inside [] n e = cc
 true_inside (b ∷ queued) zero e = omega arith
 true_inside (b ∷ queued) (suc n) e = let h = true_inside queued n e in omega arith
 
--- the flags after two leads have changed places
-pub swapped_flagged : (ls ms : List Lead) (queued : List Bool) (a b : ℕ) → AreFlagged ls queued → Swapped (lead_at ls) (lead_at ms) a b → a < length ls → b < length ls → length ms ≡ length ls → AreFlagged ms queued
-swapped_flagged ls ms queued a b are s ha hb len =
-    let alike = swapped-alike ls ms a b s ha hb len are.once in
-    record {
-      once = swapped_once ls ms a b s ha hb len are.once;
-      flags = λ n. ((λ t. alike-in alike ((are.flags n).0 t)), (λ i. (are.flags n).1 (alike-in (alike_back alike) i)));
-    }
-
--- the flags after a lead has come in at the end
-pub pushed_flagged : (ls : List Lead) (l : Lead) (queued : List Bool) → AreFlagged ls queued → (IsIn (place_of l) (places ls) → ⊥) → place_of l < length queued → AreFlagged (ls ++ l ∷ []) (set queued (place_of l) true)
-pushed_flagged ls l queued are fresh room = record { once = pushed_once ls l are.once fresh; flags = λ n. flags n (same_or_not n (place_of l)) }
+-- the flags after a name has come in
+pub added_flagged : (ls ms : List Lead) (n : ℕ) (queued : List Bool) → AreFlagged ls queued → (IsIn n (places ls) → ⊥) → n < length queued → Alike (places ms) (n ∷ places ls) → AreFlagged ms (set queued n true)
+added_flagged ls ms n queued are fresh room added = record {
+  once = once_leads ms (once_moved (alike_back added) (once_cons fresh (once-places ls are.once)));
+  flags = λ m. flags m (same_or_not m n);
+}
   where
-    flags : (n : ℕ) → (n ≡ place_of l) ⊎ (n ≢ place_of l) → IsTrue (slice_index_or (set queued (place_of l) true) n false) ↔ IsIn n (places (ls ++ l ∷ []))
-    flags n (inl e) = ((λ t. (in-pushed ls l n).1 (inl e)), (λ i. get_or-set_at queued (place_of l) n true false e room))
-    flags n (inr d) = ((λ t. (in-pushed ls l n).1 (inr ((are.flags n).0 (sym kept ∙ t)))), (λ i. told ((in-pushed ls l n).0 i)))
+    flags : (m : ℕ) → (m ≡ n) ⊎ (m ≢ n) → IsTrue (slice_index_or (set queued n true) m false) ↔ IsIn m (places ms)
+    flags m (inl e) = ((λ t. alike-in (alike_back added) (subst (λ k. IsIn k (n ∷ places ls)) (sym e) (in_first n (places ls)))), (λ i. get_or-set_at queued n m true false e room))
+    flags m (inr d) = ((λ t. alike-in (alike_back added) (in_more n ((are.flags m).0 (sym kept ∙ t)))), (λ i. told (in-cons_cases (alike-in added i))))
       where
-        kept : slice_index_or (set queued (place_of l) true) n false ≡ slice_index_or queued n false
-        kept = get_or-set_other queued (place_of l) n true false d
+        kept : slice_index_or (set queued n true) m false ≡ slice_index_or queued m false
+        kept = get_or-set_other queued n m true false d
 
-        told : (n ≡ place_of l) ⊎ IsIn n (places ls) → slice_index_or (set queued (place_of l) true) n false ≡ true
+        told : (m ≡ n) ⊎ IsIn m (places ls) → slice_index_or (set queued n true) m false ≡ true
         told (inl e) = absurd (d e)
-        told (inr i) = kept ∙ (are.flags n).1 i
+        told (inr i) = kept ∙ (are.flags m).1 i
 
--- the last lead's name has a flag
-pub last_inside : (ls : List Lead) (l : Lead) (queued : List Bool) → AreFlagged (ls ++ l ∷ []) queued → place_of l < length queued
-last_inside ls l queued are = true_inside queued (place_of l) ((are.flags (place_of l)).1 ((in-pushed ls l (place_of l)).1 (inl refl)))
+-- a name of the queue has a flag
+pub queued_flag : (ls ms : List Lead) (n : ℕ) (queued : List Bool) → AreFlagged ls queued → Alike (places ls) (n ∷ places ms) → n < length queued
+queued_flag ls ms n queued are taken = true_inside queued n ((are.flags n).1 (alike-in (alike_back taken) (in_first n (places ms))))
 
--- the flags after the last lead has gone
-pub popped_flagged : (ls : List Lead) (l : Lead) (queued : List Bool) → AreFlagged (ls ++ l ∷ []) queued → AreFlagged ls (set queued (place_of l) false)
-popped_flagged ls l queued are = record { once = popped_once ls l are.once; flags = λ n. flags n (same_or_not n (place_of l)) }
+-- the flags after a name has gone
+pub taken_flagged : (ls ms : List Lead) (n : ℕ) (queued : List Bool) → AreFlagged ls queued → Alike (places ls) (n ∷ places ms) → AreFlagged ms (set queued n false)
+taken_flagged ls ms n queued are taken = record { once = once_leads ms (once_rest once here); flags = λ m. flags m (same_or_not m n) }
   where
-    flags : (n : ℕ) → (n ≡ place_of l) ⊎ (n ≢ place_of l) → IsTrue (slice_index_or (set queued (place_of l) false) n false) ↔ IsIn n (places ls)
-    flags n (inl e) =
-        let off = get_or-set_at queued (place_of l) n false false e (last_inside ls l queued are) in
-        ((λ t. cc), (λ i. absurd (popped_gone ls l are.once (subst (λ m. IsIn m (places ls)) e i))))
-    flags n (inr d) = ((λ t. told ((in-pushed ls l n).0 ((are.flags n).0 (sym kept ∙ t)))), (λ i. kept ∙ (are.flags n).1 ((in-pushed ls l n).1 (inr i))))
-      where
-        kept : slice_index_or (set queued (place_of l) false) n false ≡ slice_index_or queued n false
-        kept = get_or-set_other queued (place_of l) n false false d
+    once : IsOnce (n ∷ places ms)
+    once = once_moved taken (once-places ls are.once)
 
-        told : (n ≡ place_of l) ⊎ IsIn n (places ls) → IsIn n (places ls)
+    flags : (m : ℕ) → (m ≡ n) ⊎ (m ≢ n) → IsTrue (slice_index_or (set queued n false) m false) ↔ IsIn m (places ms)
+    flags m (inl e) =
+        let off = get_or-set_at queued n m false false e (queued_flag ls ms n queued are taken) in
+        ((λ t. cc), (λ i. absurd (once n (places ms) here (subst (λ k. IsIn k (places ms)) e i))))
+    flags m (inr d) = ((λ t. told (in-cons_cases (alike-in taken ((are.flags m).0 (sym kept ∙ t))))), (λ i. kept ∙ (are.flags m).1 (alike-in (alike_back taken) (in_more n i))))
+      where
+        kept : slice_index_or (set queued n false) m false ≡ slice_index_or queued m false
+        kept = get_or-set_other queued n m false false d
+
+        told : (m ≡ n) ⊎ IsIn m (places ms) → IsIn m (places ms)
         told (inl e) = absurd (d e)
         told (inr i) = i
 

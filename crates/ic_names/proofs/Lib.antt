@@ -19,4 +19,6 @@ pub mod PlacedFacts
 pub mod Flags
 pub mod QueuedPlaces
 pub mod Heaps
+pub mod Runs
+pub mod Queued
 pub mod Tested

@@ -1,9 +1,9 @@
 -- The places of names in a list of leads.
-use Rattle.std.proofs.Common.{◌≡◌, ℕ, zero, suc, ◌<◌, ◌≤◌, List, [], ◌∷◌, ◌++◌, length, ◌⊎◌, inl, inr, sym, subst, arith}
+use Rattle.std.proofs.Common.{◌≡◌, ℕ, zero, suc, ◌<◌, ◌≤◌, List, [], ◌∷◌, ◌++◌, length, ◌⊎◌, inl, inr, refl, sym, ap, subst, arith}
 use Rattle.std.proofs.lemmas.List.{map-append}
-use Rattle.ic_path.specs.Orders.{Alike, IsIn, IsOnce}
+use Rattle.ic_path.specs.Orders.{here, Alike, IsIn, IsOnce}
 use Rattle.ic_path.proofs.Picks.{none_in, in_first, in_more, in-cons_cases, in_picked, length-pick}
-use Rattle.ic_path.proofs.Alikes.{append-alike-comm}
+use Rattle.ic_path.proofs.Alikes.{append-alike-comm, alike_pick, alike_back, alike-in}
 use Rattle.ic_path.proofs.EachOnce.{once_rest, once_cons}
 use Rattle.ic_names.specs.declared.queue.Lead.{Lead}
 use Rattle.ic_names.specs.Queues.{place_of, places, lead_at, StandOnce}
@@ -35,6 +35,22 @@ once-places (l ∷ ls) once = once_cons fresh (once-places ls (λ i j h h' e. le
   where
     fresh : IsIn (place_of l) (places ls) → ⊥
     fresh i = let r = in-places ls i in let h = r.1 in let same = once 0 (suc r.0) (omega arith) (omega (arith, h)) (sym r.2) in absurd (omega arith)
+
+-- and back
+pub once_leads : (ls : List Lead) → IsOnce (places ls) → StandOnce ls
+once_leads [] once i j h k e = absurd (omega (arith, h))
+once_leads (l ∷ ls) once zero zero h k e = refl
+once_leads (l ∷ ls) once zero (suc j) h k e = absurd (once (place_of l) (places ls) here (subst (λ n. IsIn n (places ls)) (sym e) (places-in ls j (omega (arith, k)))))
+once_leads (l ∷ ls) once (suc i) zero h k e = absurd (once (place_of l) (places ls) here (subst (λ n. IsIn n (places ls)) e (places-in ls i (omega (arith, h)))))
+once_leads (l ∷ ls) once (suc i) (suc j) h k e = ap suc (once_leads ls (once_rest once here) i j (omega (arith, h)) (omega (arith, k)) e)
+
+-- places in another order are each once, too
+pub once_moved : {ns ms : List ℕ} → Alike ns ms → IsOnce ns → IsOnce ms
+once_moved alike once x rest pick twice = let r = alike_pick (alike_back alike) pick in once x r.0 r.1 (alike-in r.2 twice)
+
+-- the places of two lists
+pub places-append : (ls ms : List Lead) → places (ls ++ ms) ≡ places ls ++ places ms
+places-append ls ms = map-append place_of ls ms
 
 -- a lead at the end may as well be in front
 pub last-alike : (ls : List Lead) (l : Lead) → Alike (places (ls ++ l ∷ [])) (place_of l ∷ places ls)

@@ -1,27 +1,31 @@
 //! A queue of names by their places in a table, from which the least name is taken first.
-ghost use Rattle.std.specs.Prelude.{◌≡◌, ℕ, ◌<◌, ◌≤◌, ◌∷◌, [], ◌⊎◌, ◌↔◌, List, length, IfSome, IfNone, OnOk, OnErr};
+ghost use Rattle.std.specs.Prelude.{◌≡◌, ℕ, ◌<◌, ◌≤◌, ◌∷◌, [], ◌⊎◌, ◌↔◌, List, length, IsTrue, IfSome, IfNone, IfOk, OnOk, OnErr};
 ghost use Rattle.ic_name.specs.Names.{Name};
 ghost use Rattle.ic_path.specs.Orders.{Alike, IsIn};
-ghost use Rattle.ic_names.specs.Queues.{places, IsHeap, IsLeast, StandOnce};
+ghost use Rattle.ic_names.specs.Queues.{places, lead_at, leads_of, IsQueue, IsLeast, StandOnce};
 
+mod heap;
 pub mod laws;
-mod placed;
+mod order;
+mod ordered;
+mod run;
 mod sifting;
 
-use crate::queue::placed::PlacedLeads;
-use crate::queue::sifting::{lower, raise};
+use crate::queue::ordered::OrderedLeads;
 use crate::{NameId, NameKey, NameTable};
 use std::alloc::{AllocError, Global};
 use std::marker::Model;
 
-/// A queue of names by their places in a table, the least name first, and each once. It is a heap that compares names by
-/// their keys, and asks the table only where two keys are one.
+/// A queue of names by their places in a table, the least name first, and each once. Names that come in order, each less or
+/// each greater than all others, lie in a run. All others lie in a heap. Names are compared by their keys, and the table is
+/// asked only if two keys are equal.
 ///
 /// The names are those of one table, which each call that compares is given. Which of them still lead a pair is the
 /// caller's business.
 #[derive(Drop)]
 pub struct LeadQueue {
-    heap: PlacedLeads,
+    leads: OrderedLeads,
+    queued: Vec<bool>,
 }
 
 /// A name by its place, with its key.
@@ -32,102 +36,124 @@ pub struct Lead {
 }
 
 impl Model for LeadQueue {
-    ghost use Rattle.ic_names.specs.Queues.{QueueView};
+    ghost use Rattle.std.specs.Prelude.{length, min};
+    ghost use Rattle.ic_names.specs.Queues.{QueueView, leads_of, AreFlagged};
 
     ghost Value = { QueueView };
 
-    ghost view = { λ q. q.heap };
+    ghost view = { λ q. record { run = q.leads.run; heap = q.leads.heap; room = min q.leads.room (length q.queued.items) } };
+
+    ghost invariant = { λ q. AreFlagged (leads_of q.leads) q.queued.items };
 }
 
 impl LeadQueue {
     /// No names. It takes no memory yet.
     pub fn new(alloc: Global) -> LeadQueue
-        ensures { result.leads ≡ [] }
+        ensures empty { leads_of result ≡ [] }
+        ensures queue { (ns : List Name) → IsQueue ns result }
     {
         LeadQueue {
-            heap: PlacedLeads::new(alloc),
+            leads: OrderedLeads::new(alloc),
+            queued: Vec::new(alloc),
         }
     }
 
-    /// What holds of every queue, for whoever has to show it.
+    /// The invariant of every queue.
     pub fn lawful(&self)
-        ensures { StandOnce self.now.leads }
+        ensures { StandOnce (leads_of self.now) }
     {
-        self.heap.lawful();
+        let _ = &self.leads;
     }
 
     /// The number of names in the queue.
     pub fn len(&self) -> usize
-        ensures { result ≡ length self.now.leads }
+        ensures { result ≡ length (leads_of self.now) }
     {
-        self.heap.len()
+        self.leads.len()
     }
 
-    /// The names in the queue with their keys, in no order.
-    pub fn leads(&self) -> &[Lead]
-        ensures { result.now ≡ self.now.leads }
+    /// The name at this index, with its key. The least is the first. The others are in no order.
+    pub fn lead(&self, at: usize) -> Lead
+        requires { at < length (leads_of self.now) }
+        ensures { result ≡ lead_at (leads_of self.now) at }
     {
-        self.heap.leads()
+        self.leads.lead(at)
     }
 
-    /// Makes room for the names of a table that has so many. It is an error only where memory runs out. The queue stays as
+    /// The names in the queue with their keys.
+    pub fn to_vec(&self, alloc: Global) -> Result<Vec<Lead>, AllocError>
+        ensures { IfOk result (λ leads. leads.items ≡ leads_of self.now) }
+    {
+        let mut leads = Vec::with_capacity(alloc, self.len())?;
+        for at in 0..self.len() {
+            leads.push_reserved(self.lead(at));
+        }
+        Ok(leads)
+    }
+
+    /// Makes room for the names of a table that has so many. It is an error only if no memory is left. The queue stays as
     /// it is, and the room never shrinks.
     pub fn reserve(&mut self, names: usize) -> Result<(), AllocError>
-        ensures same { self.new.leads ≡ self.old.leads }
+        ensures same { leads_of self.new ≡ leads_of self.old }
+        ensures queue { (ns : List Name) → IsQueue ns self.old → IsQueue ns self.new }
         ensures kept { self.old.room ≤ self.new.room }
         ensures reserved { OnOk result (names ≤ self.new.room) }
     {
-        self.heap.reserve(names)
+        let places = names.max(self.queued.len());
+        self.queued.resize(places, false)?;
+        self.leads.reserve(names)
     }
 
-    /// The name at this place comes in, where it isn't in the queue yet, in the room there is, in time that grows as the
-    /// logarithm of the number of names. It takes no memory.
+    /// The name at this place comes in, where it isn't in the queue yet, in the room there is. It takes constant time if the name
+    /// is less or greater than all in the run, else time that grows as the logarithm of the number of names. It takes no
+    /// memory.
     pub fn put(&mut self, names: &NameTable, name: NameId)
         requires inside { name.place < length names.now }
-        requires heap { IsHeap names.now self.old.leads }
+        requires queue { IsQueue names.now self.old }
         requires room { length names.now ≤ self.old.room }
-        ensures heap { IsHeap names.now self.new.leads }
-        ensures entered { (n : ℕ) → IsIn n (places self.new.leads) ↔ ((n ≡ name.place) ⊎ IsIn n (places self.old.leads)) }
+        ensures queue { IsQueue names.now self.new }
+        ensures entered { (n : ℕ) → IsIn n (places (leads_of self.new)) ↔ ((n ≡ name.place) ⊎ IsIn n (places (leads_of self.old))) }
         ensures room { self.old.room ≤ self.new.room }
     {
-        if self.heap.has(name) {
+        if self.has(name) {
             return;
         }
-        self.heap.lawful();
-        let at = self.heap.len();
         let key = names.key(name);
-        self.heap.push(Lead { key, name });
-        raise(&mut self.heap, names, at);
+        self.leads.put(names, Lead { key, name });
+        self.queued[name.place as usize] = true;
     }
 
-    /// The place of the least name, in constant time; `None` where the queue is empty. It takes no memory.
+    /// The place of the least name, in constant time; `None` if the queue is empty. It takes no memory.
     pub fn least(&self) -> Option<NameId>
-        ensures least { IfSome result (λ name. (ns : List Name) → IsHeap ns self.now.leads → IsLeast ns self.now.leads name.place) }
-        ensures none { IfNone result (self.now.leads ≡ []) }
+        ensures least { IfSome result (λ name. (ns : List Name) → IsQueue ns self.now → IsLeast ns (leads_of self.now) name.place) }
+        ensures none { IfNone result (leads_of self.now ≡ []) }
     {
-        if self.heap.len() == 0 {
-            return None;
-        }
-        Some(self.heap.lead(0).name)
+        Some(self.leads.least()?.name)
     }
 
-    /// The least name goes, in time that grows as the logarithm of the number of names; `None` where the queue is empty,
-    /// and then nothing changes. It takes no memory.
+    /// The least name goes; `None` if the queue is empty, and then nothing changes. It takes constant time, but if a name of the
+    /// heap becomes the least, time that grows as the logarithm of the number of names. It takes no memory.
     pub fn take_least(&mut self, names: &NameTable) -> Option<NameId>
-        requires heap { IsHeap names.now self.old.leads }
-        ensures heap { IsHeap names.now self.new.leads }
-        ensures least { IfSome result (λ name. IsLeast names.now self.old.leads name.place) }
-        ensures others { IfSome result (λ name. Alike (places self.old.leads) (name.place ∷ places self.new.leads)) }
+        requires queue { IsQueue names.now self.old }
+        ensures queue { IsQueue names.now self.new }
+        ensures least { IfSome result (λ name. IsLeast names.now (leads_of self.old) name.place) }
+        ensures others { IfSome result (λ name. Alike (places (leads_of self.old)) (name.place ∷ places (leads_of self.new))) }
         ensures room { self.old.room ≤ self.new.room }
-        ensures none { IfNone result (self.old.leads ≡ []) }
+        ensures none { IfNone result (leads_of self.old ≡ []) }
         ensures unchanged { IfNone result (self.new ≡ self.old) }
     {
-        names.lawful();
-        let least = self.least()?;
-        let last = self.heap.len() - 1;
-        self.heap.swap(0, last);
-        self.heap.pop();
-        lower(&mut self.heap, names);
-        Some(least)
+        let least = self.leads.take_least(names)?;
+        self.queued[least.name.place as usize] = false;
+        Some(least.name)
+    }
+
+    /// Whether the name is in the queue, in constant time.
+    fn has(&self, name: NameId) -> bool
+        ensures { IsTrue result ↔ IsIn name.place (places (leads_of self.now)) }
+    {
+        self.queued
+            .get(name.place as usize)
+            .copied()
+            .unwrap_or(false)
     }
 }

@@ -11,7 +11,7 @@ use Rattle.ic_path.proofs.Alikes.{alike-in}
 use Rattle.ic_path.proofs.Picks.{none_in, in-cons_cases}
 use Rattle.ic_theory.specs.Active.{IsActive}
 use Rattle.ic_names.specs.declared.queue.Lead.{Lead}
-use Rattle.ic_names.specs.Queues.{places, IsHeap, IsLeast}
+use Rattle.ic_names.specs.Queues.{places, AreNamed, IsLeast}
 use Rattle.ic_names.proofs.Heaps.{one_least}
 use Rattle.ic_roster.specs.Rosters.{Member}
 use Rattle.ic_set.specs.declared.pairs.ActivePair.{ActivePair}
@@ -62,7 +62,7 @@ others_lead v leads leads' n all stale taken e p h =
     ]
 
 -- a queue that isn't empty hands out the place at its front
-pub takes_front : (ns : List Name) (leads leads' : List Lead) (n : ℕ) (o : Option NameId) → IsTable ns → IsHeap ns leads → IsLeast ns leads n
+pub takes_front : (ns : List Name) (leads leads' : List Lead) (n : ℕ) (o : Option NameId) → IsTable ns → AreNamed ns leads → IsLeast ns leads n
     → IfSome o (λ m. IsLeast ns leads m.place) → IfSome o (λ m. Alike (places leads) (m.place ∷ places leads')) → IfNone o (leads ≡ []) → Alike (places leads) (n ∷ places leads')
-takes_front ns leads leads' n None table heap front least others none = absurd (none_in (subst (λ ls. IsIn n (places ls)) none front.present))
-takes_front ns leads leads' n (Some m) table heap front least others none = subst (λ k. Alike (places leads) (k ∷ places leads')) (one_least ns leads m.place n table heap least front) others
+takes_front ns leads leads' n None table named front least others none = absurd (none_in (subst (λ ls. IsIn n (places ls)) none front.present))
+takes_front ns leads leads' n (Some m) table named front least others none = subst (λ k. Alike (places leads) (k ∷ places leads')) (one_least ns leads m.place n table named least front) others

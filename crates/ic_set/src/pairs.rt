@@ -156,15 +156,15 @@ impl<L: LinkStore> BareSet<L> {
     }
 
     /// All active pairs, by lead, where the lead of each is among these names.
-    pub fn active_among(&self, leads: &[Lead]) -> Result<Vec<ActivePair>, AllocError>
-        requires named { AreNamed self.now.names leads.now }
-        requires once { StandOnce leads.now }
-        requires each { HasLeads self.now leads.now }
+    pub fn active_among(&self, leads: Vec<Lead>) -> Result<Vec<ActivePair>, AllocError>
+        requires named { AreNamed self.now.names leads.items }
+        requires once { StandOnce leads.items }
+        requires each { HasLeads self.now leads.items }
         ensures { IfOk result (λ pairs. AreActivePairs self.now.set pairs.items) }
     {
         self.lawful();
         let names = self.roster.names();
-        let mut sorted = Vec::from_slice(self.alloc, leads)?;
+        let mut sorted = leads;
         sorted.sort_by(|a, b| names.cmp(a.name, b.name))?;
         let mut pairs = Vec::new(self.alloc);
         for lead in &sorted {

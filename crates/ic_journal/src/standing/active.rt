@@ -46,6 +46,7 @@ impl<L: LinkStore> StandingSet<L> {
         ensures { IfOk result (λ pairs. AreActivePairs self.now.set pairs.items) }
     {
         self.queue.lawful();
-        self.bare.active_among(self.queue.leads())
+        let leads = self.queue.to_vec(self.alloc)?;
+        self.bare.active_among(leads)
     }
 }

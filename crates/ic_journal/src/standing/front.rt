@@ -1,5 +1,5 @@
 ghost use Rattle.std.specs.Prelude.{◌≡◌, ◌≢◌, ◌≤◌, length, IfSome};
-ghost use Rattle.ic_names.specs.Queues.{IsHeap};
+ghost use Rattle.ic_names.specs.Queues.{leads_of, IsQueue};
 ghost use Rattle.ic_set.specs.Pairs.{IsActivePair, IsLeastPair};
 ghost use Rattle.ic_set.specs.Queues.{HasLeads};
 ghost use Rattle.ic_journal.specs.Fronts.{IsFront};
@@ -22,12 +22,12 @@ pub(crate) fn front_after<L: LinkStore>(
     lead: AgentId,
     passed_over: &mut usize,
 ) -> Option<ActivePair>
-    requires heap { IsHeap set.now.names queue.old.leads }
-    requires each { HasLeads set.now queue.old.leads }
+    requires queue { IsQueue set.now.names queue.old }
+    requires each { HasLeads set.now (leads_of queue.old) }
     requires room { length set.now.names ≤ queue.old.room }
     requires active { IfSome front (λ pair. pair.lead ≢ lead → IsActivePair set.now.set pair) }
-    ensures heap { IsHeap set.now.names queue.new.leads }
-    ensures each { HasLeads set.now queue.new.leads }
+    ensures queue { IsQueue set.now.names queue.new }
+    ensures each { HasLeads set.now (leads_of queue.new) }
     ensures front { IsFront set.now.set result }
     ensures room { length set.now.names ≤ queue.new.room }
 {
@@ -48,8 +48,8 @@ fn still_front<L: LinkStore>(
     front: Option<ActivePair>,
     lead: AgentId,
 ) -> Option<ActivePair>
-    requires heap { IsHeap set.now.names queue.now.leads }
-    requires each { HasLeads set.now queue.now.leads }
+    requires queue { IsQueue set.now.names queue.now }
+    requires each { HasLeads set.now (leads_of queue.now) }
     requires active { IfSome front (λ pair. pair.lead ≢ lead → IsActivePair set.now.set pair) }
     ensures { IfSome result (λ pair. IsLeastPair set.now.set pair) }
 {

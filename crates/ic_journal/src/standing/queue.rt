@@ -4,7 +4,7 @@ ghost use Rattle.ic_name.specs.Events.{Event as AnEvent};
 ghost use Rattle.ic_name.specs.declared.ids.EventId.{EventId as AnEventId};
 ghost use Rattle.ic_path.specs.Orders.{IsIn};
 ghost use Rattle.ic_roster.specs.Rosters.{Stander};
-ghost use Rattle.ic_names.specs.Queues.{IsHeap};
+ghost use Rattle.ic_names.specs.Queues.{leads_of, IsQueue};
 ghost use Rattle.ic_set.specs.declared.pairs.ActivePair.{ActivePair as APair};
 ghost use Rattle.ic_set.specs.Pairs.{IsPairOf, IsActivePair};
 ghost use Rattle.ic_set.specs.Queues.{IsQueued, HasLeads};
@@ -18,11 +18,11 @@ use ic_set::{ActivePair, BareSet};
 
 /// Puts in each of these agents that leads an active pair. There is room for every name.
 pub(crate) fn put_all<L: LinkStore>(queue: &mut LeadQueue, set: &BareSet<L>, agents: &[AgentId])
-    requires heap { IsHeap set.now.names queue.old.leads }
+    requires queue { IsQueue set.now.names queue.old }
     requires room { length set.now.names ≤ queue.old.room }
-    ensures heap { IsHeap set.now.names queue.new.leads }
-    ensures stay { (n : Name) → IsQueued set.now.names queue.old.leads n → IsQueued set.now.names queue.new.leads n }
-    ensures led { (e : AnEvent) (p : APair) → IsPairOf set.now.set e p → IsIn p.lead agents.now → IsQueued set.now.names queue.new.leads e.lead }
+    ensures queue { IsQueue set.now.names queue.new }
+    ensures stay { (n : Name) → IsQueued set.now.names (leads_of queue.old) n → IsQueued set.now.names (leads_of queue.new) n }
+    ensures led { (e : AnEvent) (p : APair) → IsPairOf set.now.set e p → IsIn p.lead agents.now → IsQueued set.now.names (leads_of queue.new) e.lead }
     ensures room { queue.old.room ≤ queue.new.room }
 {
     set.lawful();
@@ -38,11 +38,11 @@ pub(crate) fn put_leads<L: LinkStore>(
     pairs: &[Option<ActivePair>],
 )
     requires active { (p : APair) → IsIn (Some p) pairs.now → IsActivePair set.now.set p }
-    requires heap { IsHeap set.now.names queue.old.leads }
+    requires queue { IsQueue set.now.names queue.old }
     requires room { length set.now.names ≤ queue.old.room }
-    ensures heap { IsHeap set.now.names queue.new.leads }
-    ensures stay { (n : Name) → IsQueued set.now.names queue.old.leads n → IsQueued set.now.names queue.new.leads n }
-    ensures led { (e : AnEvent) (p : APair) → IsPairOf set.now.set e p → IsIn (Some p) pairs.now → IsQueued set.now.names queue.new.leads e.lead }
+    ensures queue { IsQueue set.now.names queue.new }
+    ensures stay { (n : Name) → IsQueued set.now.names (leads_of queue.old) n → IsQueued set.now.names (leads_of queue.new) n }
+    ensures led { (e : AnEvent) (p : APair) → IsPairOf set.now.set e p → IsIn (Some p) pairs.now → IsQueued set.now.names (leads_of queue.new) e.lead }
     ensures room { queue.old.room ≤ queue.new.room }
 {
     for pair in pairs {
@@ -57,11 +57,11 @@ pub(crate) fn put_start_leads<L: LinkStore>(
     events: &[EventId],
 )
     requires standing { (d : AnEventId) → IsIn d events.now → Stands set.now.set d }
-    requires heap { IsHeap set.now.names queue.old.leads }
+    requires queue { IsQueue set.now.names queue.old }
     requires room { length set.now.names ≤ queue.old.room }
-    ensures heap { IsHeap set.now.names queue.new.leads }
-    ensures stay { (n : Name) → IsQueued set.now.names queue.old.leads n → IsQueued set.now.names queue.new.leads n }
-    ensures led { (x : Stander) → IsIn x set.now.set.events → IsIn x.id events.now → x.event.lead.digits ≡ [] → IsQueued set.now.names queue.new.leads x.event.lead }
+    ensures queue { IsQueue set.now.names queue.new }
+    ensures stay { (n : Name) → IsQueued set.now.names (leads_of queue.old) n → IsQueued set.now.names (leads_of queue.new) n }
+    ensures led { (x : Stander) → IsIn x set.now.set.events → IsIn x.id events.now → x.event.lead.digits ≡ [] → IsQueued set.now.names (leads_of queue.new) x.event.lead }
     ensures room { queue.old.room ≤ queue.new.room }
 {
     set.lawful();
@@ -80,11 +80,11 @@ pub(crate) fn put_start_leads<L: LinkStore>(
 /// Puts in the lead of the pair, if there is one. There is room for every name.
 fn put_pair<L: LinkStore>(queue: &mut LeadQueue, set: &BareSet<L>, pair: Option<ActivePair>)
     requires active { IfSome pair (λ p. IsActivePair set.now.set p) }
-    requires heap { IsHeap set.now.names queue.old.leads }
+    requires queue { IsQueue set.now.names queue.old }
     requires room { length set.now.names ≤ queue.old.room }
-    ensures heap { IsHeap set.now.names queue.new.leads }
-    ensures stay { (n : Name) → IsQueued set.now.names queue.old.leads n → IsQueued set.now.names queue.new.leads n }
-    ensures led { (e : AnEvent) (p : APair) → IsPairOf set.now.set e p → Some p ≡ pair → IsQueued set.now.names queue.new.leads e.lead }
+    ensures queue { IsQueue set.now.names queue.new }
+    ensures stay { (n : Name) → IsQueued set.now.names (leads_of queue.old) n → IsQueued set.now.names (leads_of queue.new) n }
+    ensures led { (e : AnEvent) (p : APair) → IsPairOf set.now.set e p → Some p ≡ pair → IsQueued set.now.names (leads_of queue.new) e.lead }
     ensures room { queue.old.room ≤ queue.new.room }
 {
     set.lawful();
@@ -103,10 +103,10 @@ pub(crate) fn drop_stale<L: LinkStore>(
     queue: &mut LeadQueue,
     set: &BareSet<L>,
 ) -> Option<ActivePair>
-    requires heap { IsHeap set.now.names queue.old.leads }
-    requires each { HasLeads set.now queue.old.leads }
-    ensures heap { IsHeap set.now.names queue.new.leads }
-    ensures each { HasLeads set.now queue.new.leads }
+    requires queue { IsQueue set.now.names queue.old }
+    requires each { HasLeads set.now (leads_of queue.old) }
+    ensures queue { IsQueue set.now.names queue.new }
+    ensures each { HasLeads set.now (leads_of queue.new) }
     ensures front { IsFront set.now.set result }
     ensures room { queue.old.room ≤ queue.new.room }
 {

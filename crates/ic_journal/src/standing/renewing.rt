@@ -1,6 +1,6 @@
 ghost use Rattle.std.specs.Prelude.{◌≡◌, ◌+◌, ◌≤◌, [], length, IfOk};
 ghost use Rattle.ic_path.specs.Orders.{IsIn};
-ghost use Rattle.ic_names.specs.Queues.{IsHeap};
+ghost use Rattle.ic_names.specs.Queues.{leads_of, IsQueue};
 ghost use Rattle.ic_set.specs.declared.pairs.ActivePair.{ActivePair as APair};
 ghost use Rattle.ic_set.specs.Pairs.{IsActivePair};
 ghost use Rattle.ic_set.specs.Queues.{HasLeads};
@@ -22,15 +22,15 @@ pub(crate) fn agents_in<L: LinkStore>(
     queue: &LeadQueue,
     set: &BareSet<L>,
 ) -> Result<Vec<AgentId>, AllocError>
-    requires heap { IsHeap set.now.names queue.now.leads }
-    requires each { HasLeads set.now queue.now.leads }
+    requires queue { IsQueue set.now.names queue.now }
+    requires each { HasLeads set.now (leads_of queue.now) }
     ensures { IfOk result (λ agents. (p : APair) → IsActivePair set.now.set p → IsIn p.lead agents.items) }
 {
     let roster = set.roster();
     roster.lawful();
     let mut leads = Vec::with_capacity(alloc, queue.len())?;
-    for lead in queue.leads() {
-        if let Some(agent) = roster.named(lead.name) {
+    for at in 0..queue.len() {
+        if let Some(agent) = roster.named(queue.lead(at).name) {
             leads.push_reserved(agent);
         }
     }
@@ -44,8 +44,8 @@ pub(crate) fn queue_of<L: LinkStore>(
     agents: &[AgentId],
 ) -> Result<LeadQueue, AllocError>
     requires { (p : APair) → IsActivePair set.now.set p → IsIn p.lead agents.now }
-    ensures heap { IfOk result (λ queue. IsHeap set.now.names queue.leads) }
-    ensures each { IfOk result (λ queue. HasLeads set.now queue.leads) }
+    ensures queue { IfOk result (λ queue. IsQueue set.now.names queue) }
+    ensures each { IfOk result (λ queue. HasLeads set.now (leads_of queue)) }
     ensures room { IfOk result (λ queue. length set.now.names ≤ queue.room) }
 {
     let mut queue = empty_queue(alloc, set)?;
@@ -60,18 +60,19 @@ fn without_fired<L: LinkStore>(
     queue: &LeadQueue,
     set: &BareSet<L>,
 ) -> Result<LeadQueue, AllocError>
-    requires heap { IsHeap set.now.names queue.now.leads }
-    requires each { HasLeads set.now queue.now.leads }
-    ensures heap { IfOk result (λ fresh. IsHeap set.now.names fresh.leads) }
-    ensures each { IfOk result (λ fresh. HasLeads set.now fresh.leads) }
-    ensures unled { IfOk result (λ fresh. LeadNone set.now fresh.leads) }
+    requires queue { IsQueue set.now.names queue.now }
+    requires each { HasLeads set.now (leads_of queue.now) }
+    ensures queue { IfOk result (λ fresh. IsQueue set.now.names fresh) }
+    ensures each { IfOk result (λ fresh. HasLeads set.now (leads_of fresh)) }
+    ensures unled { IfOk result (λ fresh. LeadNone set.now (leads_of fresh)) }
     ensures room { IfOk result (λ fresh. length set.now.names ≤ fresh.room) }
 {
     let roster = set.roster();
     let mut fresh = empty_queue(alloc, set)?;
-    for lead in queue.leads() {
-        if !roster.is_lead(lead.name) {
-            fresh.put(roster.names(), lead.name);
+    for at in 0..queue.len() {
+        let name = queue.lead(at).name;
+        if !roster.is_lead(name) {
+            fresh.put(roster.names(), name);
         }
     }
     Ok(fresh)
@@ -80,8 +81,8 @@ fn without_fired<L: LinkStore>(
 /// A queue without leads, with room for twice the names that are known, and for those of the children of one event more: so the
 /// children of further events don't make it grow at once.
 fn empty_queue<L: LinkStore>(alloc: Global, set: &BareSet<L>) -> Result<LeadQueue, AllocError>
-    ensures empty { IfOk result (λ queue. queue.leads ≡ []) }
-    ensures heap { IfOk result (λ queue. IsHeap set.now.names queue.leads) }
+    ensures empty { IfOk result (λ queue. leads_of queue ≡ []) }
+    ensures queue { IfOk result (λ queue. IsQueue set.now.names queue) }
     ensures room { IfOk result (λ queue. length set.now.names + MAX_CHILDREN ≤ queue.room) }
 {
     set.lawful();
@@ -99,11 +100,11 @@ pub(crate) fn renew_where_worn<L: LinkStore>(
     set: &BareSet<L>,
     passed_over: &mut usize,
 )
-    requires heap { IsHeap set.now.names queue.old.leads }
-    requires each { HasLeads set.now queue.old.leads }
+    requires queue { IsQueue set.now.names queue.old }
+    requires each { HasLeads set.now (leads_of queue.old) }
     requires room { length set.now.names ≤ queue.old.room }
-    ensures heap { IsHeap set.now.names queue.new.leads }
-    ensures each { HasLeads set.now queue.new.leads }
+    ensures queue { IsQueue set.now.names queue.new }
+    ensures each { HasLeads set.now (leads_of queue.new) }
     ensures room { length set.now.names ≤ queue.new.room }
 {
     if *passed_over <= queue.len() / 3 || *passed_over <= set.roster().names().len() / 64 {

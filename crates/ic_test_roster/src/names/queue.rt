@@ -14,13 +14,13 @@ struct Waiting {
 impl Model for Waiting {
     ghost use Rattle.std.specs.Prelude.{List};
     ghost use Rattle.ic_name.specs.Names.{Name};
-    ghost use Rattle.ic_names.specs.Queues.{IsHeap};
+    ghost use Rattle.ic_names.specs.Queues.{IsQueue};
 
     ghost Value = { List Name };
 
     ghost view = { λ w. w.names };
 
-    ghost invariant = { λ w. IsHeap w.names w.queue.leads };
+    ghost invariant = { λ w. IsQueue w.names w.queue };
 }
 
 impl Waiting {
@@ -61,6 +61,17 @@ impl Waiting {
                 self.queue.least() == Some(id) && self.queue.take_least(&self.names) == Some(id)
             }
             None => false,
+        }
+    }
+
+    /// Whether there are so many leads, and the first of them has the name.
+    fn starts_with(&self, alloc: Global, name: &AgentName, count: usize) -> bool {
+        let Ok(leads) = self.queue.to_vec(alloc) else {
+            return false;
+        };
+        match (leads.first(), self.names.find(name)) {
+            (Some(lead), Some(id)) => lead.name == id && leads.len() == count,
+            _ => false,
         }
     }
 
@@ -122,6 +133,14 @@ fn takes(alloc: Global, waiting: &mut Waiting, text: &[u8]) -> bool {
     }
 }
 
+/// Whether there are so many leads, and the first of them has the name that a text writes.
+fn starts_with(alloc: Global, waiting: &Waiting, text: &[u8], count: usize) -> bool {
+    match AgentName::read(alloc, text) {
+        Ok(name) => waiting.starts_with(alloc, &name, count),
+        Err(_) => false,
+    }
+}
+
 #[test]
 fn a_new_queue_is_empty(rt: HostRuntime) {
     let mut waiting = Waiting::new(rt.alloc());
@@ -140,6 +159,26 @@ fn names_are_taken_in_order(rt: HostRuntime) {
         }
         assert!(rt; waiting.is_empty());
     }
+}
+
+/// Names, each of which belongs at an end of the run but the last two. These belong between others, so they go into the heap.
+const ENDS_AND_BETWEEN: [&[u8]; 5] = [b"3.0", b"0", b"8.1", b"7", b"300"];
+
+#[test]
+fn names_of_the_heap_are_taken_in_their_turn(rt: HostRuntime) {
+    let mut waiting = Waiting::new(rt.alloc());
+    for text in &ENDS_AND_BETWEEN {
+        assert!(rt; put(rt.alloc(), &mut waiting, text));
+    }
+    assert!(rt; starts_with(rt.alloc(), &waiting, b"0", 5));
+    assert!(rt; takes(rt.alloc(), &mut waiting, b"0"));
+    assert!(rt; put(rt.alloc(), &mut waiting, b"3"));
+    assert!(rt; put(rt.alloc(), &mut waiting, b"65534"));
+    assert!(rt; starts_with(rt.alloc(), &waiting, b"3", 6));
+    for text in [b"3".as_slice(), b"7", b"300", b"65534", b"3.0", b"8.1"] {
+        assert!(rt; takes(rt.alloc(), &mut waiting, text));
+    }
+    assert!(rt; waiting.is_empty());
 }
 
 /// Texts of names, of which two stand twice.

@@ -1,8 +1,9 @@
-use Rattle.std.proofs.Common.{◌≡◌, ◌≤◌, length, arith, ap, ◌∙◌}
+use Rattle.std.proofs.Common.{◌≡◌, ◌≤◌, [], length, append-nil, arith, ap, sym, ◌∙◌}
 use Rattle.ic_path.proofs.Alikes.{alike-in}
 use Rattle.ic_path.proofs.Picks.{in_first}
 use Rattle.ic_path.proofs.Errors.{at_error}
-use Rattle.ic_names.proofs.Heaps.{kept_heap}
+use Rattle.ic_names.specs.Queues.{leads_of}
+use Rattle.ic_names.proofs.Queued.{kept_queue}
 use Rattle.ic_set.specs.Pairs.{IsPairOf}
 use Rattle.ic_set.specs.Sets.{IsStandingSet}
 use Rattle.ic_set.specs.Views.{NamedView}
@@ -17,10 +18,13 @@ invariant_of-self g c =
     let i = c.self.invariant in
     let kept = c.reserve.ensures.kept in
     let room = i.room in
-    rw c.reserve.ensures.same (record { heap = i.heap; each = i.each; front = i.front; room = omega (arith, kept, room) })
+    record { queue = c.reserve.ensures.queue c.self.inside.bare.value.names i.queue; each = rw c.reserve.ensures.same i.each; front = i.front; room = omega (arith, kept, room) }
 
 pub returns-in_err-reserve-clause-unchanged : goal.returns-in_err-reserve-clause-unchanged
 returns-in_err-reserve-clause-unchanged g c = rw (← c.self.view_is) (at_error _ (same_self _))
+
+pub returns-in_err-reserve-clause-grown : goal.returns-in_err-reserve-clause-grown
+returns-in_err-reserve-clause-grown g c = record { more = []; behind = ap (λ (v : NamedView). v.names) c.self.view_is ∙ sym (append-nil c.args.self.now.names); few = omega arith }
 
 pub admit-requires-clause-new_line : goal.admit-requires-clause-new_line
 admit-requires-clause-new_line g c = rw (c.deref_mut.ensures.value, c.self.view_is) c.requires.new_line
@@ -32,7 +36,7 @@ invariant_of-self-in_err-id g c =
     let grown = rw c.deref_mut.ensures.value at c.admit.ensures.grown in
     let count : c.len-names.result ≡ length before = c.len-names.ensures ∙ ap length (c.names.ensures ∙ c.roster.ensures.names ∙ ap (λ (v : NamedView). v.names) c.deref-3.ensures) in
     let enough : length after ≤ c.reserve.new.self.room = omega (arith, count, grown_length before after grown, c.in_ok-reserve.ensures.reserved) in
-    rw c.reserve.ensures.same (same_keeps c.self.inside.bare.value c.admit.new.self c.self.inside.queue.leads c.self.inside.queue.room _ c.self.inside.front (rw c.deref_mut.ensures.value at c.in_err-id.ensures.unchanged) (grown_keeps before after grown) enough c.self.invariant)
+    same_keeps c.self.inside.bare.value c.admit.new.self c.self.inside.queue c.reserve.new.self c.self.inside.front (rw c.deref_mut.ensures.value at c.in_err-id.ensures.unchanged) (grown_keeps before after grown) (c.reserve.ensures.queue after) c.reserve.ensures.same enough c.self.invariant
 
 pub awoken-awoken-requires : goal.awoken-awoken-requires
 awoken-awoken-requires g c =
@@ -51,10 +55,10 @@ put_leads-requires-clause-active g c =
     (rw c.deref-5.ensures at c.awoken-awoken.ensures.born) (rw c.deref-5.ensures at c.awoken-awoken.ensures.beside) in
     rw c.deref-6.ensures (λ p i. (awoken.only p i).0)
 
-pub put_leads-requires-clause-heap : goal.put_leads-requires-clause-heap
-put_leads-requires-clause-heap g c =
+pub put_leads-requires-clause-queue : goal.put_leads-requires-clause-queue
+put_leads-requires-clause-queue g c =
     let grown = rw c.deref_mut.ensures.value at c.admit.ensures.grown in
-    rw (c.deref-6.ensures, c.reserve.ensures.same) (kept_heap c.self.inside.bare.value.names c.admit.new.self.names c.self.inside.queue.leads (grown_keeps _ _ grown) c.self.invariant.heap)
+    rw c.deref-6.ensures (c.reserve.ensures.queue c.admit.new.self.names (kept_queue c.self.inside.bare.value.names c.admit.new.self.names (grown_keeps _ _ grown) c.self.inside.queue c.self.invariant.queue))
 
 pub front_after-self-inside-requires-clause-each : goal.front_after-self-inside-requires-clause-each
 front_after-self-inside-requires-clause-each g c =
@@ -68,7 +72,7 @@ front_after-self-inside-requires-clause-each g c =
     let awoken = admitted_awakes c.self.inside.bare.value c.admit.new.self e c.args.line c.in_ok-id.id a before after c.beside-beside.result c.awoken-awoken.result (beside e active)
     (rw c.deref-5.ensures at c.awoken-awoken.ensures.born) (rw c.deref-5.ensures at c.awoken-awoken.ensures.beside) in
     rw c.deref-7.ensures (admitted_each c.self.inside.bare.value c.admit.new.self e c.args.line c.in_ok-id.id a
-    c.self.inside.queue.leads c.put_leads.new.queue.leads (grown_keeps _ _ grown) c.awoken-awoken.result awoken
+    (leads_of c.self.inside.queue) (leads_of c.put_leads.new.queue) (grown_keeps _ _ grown) c.awoken-awoken.result awoken
     c.self.invariant.each (rw (c.reserve.ensures.same, c.deref-6.ensures) at c.put_leads.ensures.stay) (rw c.deref-6.ensures at c.put_leads.ensures.led))
 
 pub front_after-self-inside-requires-clause-active : goal.front_after-self-inside-requires-clause-active
@@ -83,7 +87,7 @@ front_after-self-inside-requires-clause-active g c =
 pub invariant_of-self-2 : goal.invariant_of-self-2
 invariant_of-self-2 g c =
     let after = c.front_after-self-inside in
-    let kept : KeepsQueue c.deref-7.result.now after.new.queue.leads after.new.queue.room after.result = record { heap = after.ensures.heap; each = after.ensures.each; front = after.ensures.front; room = after.ensures.room } in
+    let kept : KeepsQueue c.deref-7.result.now after.new.queue after.result = record { queue = after.ensures.queue; each = after.ensures.each; front = after.ensures.front; room = after.ensures.room } in
     rw c.deref-7.ensures at kept
 
 pub returns-clause-awoken : goal.returns-clause-awoken

@@ -1,4 +1,5 @@
 use Rattle.std.proofs.Common.{◌≡◌, ◌≤◌, length, arith, ap}
+use Rattle.ic_names.specs.Queues.{leads_of}
 use Rattle.ic_set.specs.Cleared.{AreAll, Clears}
 use Rattle.ic_set.specs.Sets.{IsStandingSet}
 use Rattle.ic_journal.specs.Fronts.{KeepsQueue}
@@ -15,7 +16,7 @@ drop_stale-self-inside-requires-clause-each g c =
     let names : c.clear.new.self.names ≡ c.self.inside.bare.value.names = rw c.deref_mut.ensures.value at c.clear.ensures.names in
     let all : AreAll c.self.inside.bare.value.set c.args.ids.now = rw c.self.view_is c.requires.all in
     let led = rw c.deref-2.ensures at c.put_start_leads.ensures.led in
-    rw c.deref-4.ensures (cleared_each c.self.inside.bare.value c.clear.new.self before names cleared c.self.inside.queue.leads c.put_start_leads.new.queue.leads
+    rw c.deref-4.ensures (cleared_each c.self.inside.bare.value c.clear.new.self before names cleared (leads_of c.self.inside.queue) (leads_of c.put_start_leads.new.queue)
     c.self.invariant.each (rw c.deref-2.ensures at c.put_start_leads.ensures.stay) (λ x there bare. led x there (all.each x there) bare))
 
 pub invariant_of-self : goal.invariant_of-self
@@ -26,5 +27,5 @@ invariant_of-self g c =
     let all = c.put_start_leads.ensures.room in
     let left = c.drop_stale-self-inside.ensures.room in
     let enough : length c.clear.new.self.names ≤ c.drop_stale-self-inside.new.queue.room = omega (arith, count, room, all, left) in
-    let kept : KeepsQueue c.deref-4.result.now c.drop_stale-self-inside.new.queue.leads c.drop_stale-self-inside.new.queue.room c.drop_stale-self-inside.result = record { heap = c.drop_stale-self-inside.ensures.heap; each = c.drop_stale-self-inside.ensures.each; front = c.drop_stale-self-inside.ensures.front; room = rw c.deref-4.ensures enough } in
+    let kept : KeepsQueue c.deref-4.result.now c.drop_stale-self-inside.new.queue c.drop_stale-self-inside.result = record { queue = c.drop_stale-self-inside.ensures.queue; each = c.drop_stale-self-inside.ensures.each; front = c.drop_stale-self-inside.ensures.front; room = rw c.deref-4.ensures enough } in
     rw c.deref-4.ensures at kept

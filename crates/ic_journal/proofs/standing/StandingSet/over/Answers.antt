@@ -15,4 +15,4 @@ invariant_of-result g c =
     let reserved = c.in_ok-queue.ensures.room in
     let left = c.drop_stale-front.ensures.room in
     let enough : length c.in_ok-bare.bare.names ≤ c.drop_stale-front.new.queue.room = omega (arith, reserved, left) in
-    rw c.in_ok-new.ensures.ok (record { heap = c.drop_stale-front.ensures.heap; each = c.drop_stale-front.ensures.each; front = c.drop_stale-front.ensures.front; room = enough })
+    rw c.in_ok-new.ensures.ok (record { queue = c.drop_stale-front.ensures.queue; each = c.drop_stale-front.ensures.each; front = c.drop_stale-front.ensures.front; room = enough })

@@ -1,6 +1,6 @@
 use Rattle.std.proofs.Common.{◌≡◌, ◌≢◌, false, nat_eq, ap, refl, sym, subst}
 use Rattle.std.specs.Prelude.{◌&&◌}
-use Rattle.ic_names.specs.Queues.{IsLeast}
+use Rattle.ic_names.specs.Queues.{leads_of, IsLeast}
 use Rattle.std.proofs.lemmas.Bool.{eq-eqb, eqb-true}
 use Rattle.ic_name.specs.declared.ids.AgentId.{AgentId}
 use Rattle.ic_set.proofs.ActivePairs.{one_id}
@@ -27,5 +27,5 @@ returns-in-Some-least g c =
     let there = rw (c.roster.ensures.agents, c.roster.ensures.names) at c.in-Some.ensures.found in
     let named = one_id v.set c.lawful.ensures.set _ _ active.1.lead there refl in
     let same = eqb-true c.in-Some-least.least.place c.in-Some.entry.name.place (sym c.if-eq-2.ensures) in
-    let least = subst (IsLeast v.names c.args.queue.now.leads) same (c.in-Some-least.ensures.least v.names c.requires.heap) in
-    front_least v c.lawful.ensures.set c.args.queue.now.leads c.in-Some.entry.name.place c.requires.each least active.0 c.in_ok-pair.pair active.1 (ap (λ (m : Member). m.name) named)
+    let least = subst (IsLeast v.names (leads_of c.args.queue.now)) same (c.in-Some-least.ensures.least v.names c.requires.queue) in
+    front_least v c.lawful.ensures.set (leads_of c.args.queue.now) c.in-Some.entry.name.place c.requires.each least active.0 c.in_ok-pair.pair active.1 (ap (λ (m : Member). m.name) named)

@@ -7,7 +7,7 @@ use Rattle.ic_journal.proofs.TakenElements.{in_taken}
 use Rattle.ic_journal.proofs.standing.queue.put_all.Goals as goal
 
 pub loop-agent-init : goal.loop-agent-init
-loop-agent-init g c = record { heap = c.requires.heap; stay = λ n i. i; led = λ e p h i. absurd (none_in i); room = omega arith }
+loop-agent-init g c = record { queue = c.requires.queue; stay = λ n i. i; led = λ e p h i. absurd (none_in i); room = omega arith }
 
 pub put_pair-requires-clause-active : goal.put_pair-requires-clause-active
 put_pair-requires-clause-active g c = if_some c.led.result (λ p h. h.1) c.led.ensures.found
@@ -18,7 +18,7 @@ loop-agent-preserved g c =
     let before = i.room in
     let after = c.put_pair.ensures.room in
     record {
-      heap = c.put_pair.ensures.heap;
+      queue = c.put_pair.ensures.queue;
       stay = λ n j. c.put_pair.ensures.stay n (i.stay n j);
       led = λ e p h j. elim (in_taken c.args.agents.now c.loop-agent.agent-index _ c.loop-agent-test.true j) [
         | inl k ↦ c.put_pair.ensures.stay e.lead (i.led e p h k)

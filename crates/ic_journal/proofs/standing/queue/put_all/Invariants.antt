@@ -2,7 +2,7 @@ use Rattle.std.proofs.Common.{◌≤◌, take}
 use Rattle.ic_name.specs.Names.{Name}
 use Rattle.ic_name.specs.Events.{Event}
 use Rattle.ic_path.specs.Orders.{IsIn}
-use Rattle.ic_names.specs.Queues.{IsHeap}
+use Rattle.ic_names.specs.Queues.{leads_of, IsQueue}
 use Rattle.ic_set.specs.declared.pairs.ActivePair.{ActivePair}
 use Rattle.ic_set.specs.Pairs.{IsPairOf}
 use Rattle.ic_set.specs.Queues.{IsQueued}
@@ -11,8 +11,8 @@ use Rattle.ic_journal.proofs.standing.queue.put_all.Given as goal
 -- the names of before are in the queue, and those of the leads so far
 abbrev pub invariant-loop-agent : goal.invariant-loop-agent
 invariant-loop-agent g l = record {
-  heap : IsHeap l.set.names l.queue.leads;
-  stay : (n : Name) → IsQueued l.set.names l.fn.queue.leads n → IsQueued l.set.names l.queue.leads n;
-  led : (e : Event) (p : ActivePair) → IsPairOf l.set.set e p → IsIn p.lead (take l.agent-index l.agents) → IsQueued l.set.names l.queue.leads e.lead;
+  queue : IsQueue l.set.names l.queue;
+  stay : (n : Name) → IsQueued l.set.names (leads_of l.fn.queue) n → IsQueued l.set.names (leads_of l.queue) n;
+  led : (e : Event) (p : ActivePair) → IsPairOf l.set.set e p → IsIn p.lead (take l.agent-index l.agents) → IsQueued l.set.names (leads_of l.queue) e.lead;
   room : l.fn.queue.room ≤ l.queue.room;
 }

@@ -6,7 +6,7 @@ use Rattle.ic_journal.proofs.TakenElements.{in_taken}
 use Rattle.ic_journal.proofs.standing.queue.put_leads.Goals as goal
 
 pub loop-pair-init : goal.loop-pair-init
-loop-pair-init g c = record { heap = c.requires.heap; stay = λ n i. i; led = λ e p h i. absurd (none_in i); room = omega arith }
+loop-pair-init g c = record { queue = c.requires.queue; stay = λ n i. i; led = λ e p h i. absurd (none_in i); room = omega arith }
 
 pub put_pair-requires-clause-active : goal.put_pair-requires-clause-active
 put_pair-requires-clause-active g c = active_at c.args.set.now.set c.args.pairs.now c.loop-pair.pair-index _ c.loop-pair-test.true c.requires.active
@@ -17,7 +17,7 @@ loop-pair-preserved g c =
     let before = i.room in
     let after = c.put_pair.ensures.room in
     record {
-      heap = c.put_pair.ensures.heap;
+      queue = c.put_pair.ensures.queue;
       stay = λ n j. c.put_pair.ensures.stay n (i.stay n j);
       led = λ e p h j. elim (in_taken c.args.pairs.now c.loop-pair.pair-index _ c.loop-pair-test.true j) [ inl k ↦ c.put_pair.ensures.stay e.lead (i.led e p h k) | inr same ↦ c.put_pair.ensures.led e p h same ];
       room = omega arith;

@@ -3,6 +3,7 @@ use Rattle.std.specs.Prelude.{slice_index_or}
 use Rattle.std.proofs.lemmas.List.{take_all}
 use Rattle.ic_name.specs.Names.{Name}
 use Rattle.ic_name.specs.declared.ids.EventId.{EventId}
+use Rattle.ic_names.specs.Queues.{leads_of}
 use Rattle.ic_names.specs.Tables.{name_at}
 use Rattle.ic_path.specs.Orders.{IsIn}
 use Rattle.ic_path.proofs.Picks.{none_in}
@@ -23,7 +24,7 @@ one_more ss own ids i d below y at under n leads x there j = elim (in_taken ids 
 ]
 
 pub loop-id-init : goal.loop-id-init
-loop-id-init g c = record { heap = c.requires.heap; stay = λ n i. i; led = λ x there i bare. absurd (none_in i); room = omega arith }
+loop-id-init g c = record { queue = c.requires.queue; stay = λ n i. i; led = λ x there i bare. absurd (none_in i); room = omega arith }
 
 pub unreachable-requires : goal.unreachable-requires
 unreachable-requires g c =
@@ -43,9 +44,9 @@ loop-id-preserved g c =
     elim c.if-depth-eq0.branch [
       | then-depth-eq0 w ↦
           let after = w.put.ensures.room in
-          let stays = still_queued ns c.loop-id.queue.leads w.put.new.self.leads (λ n k. (w.put.ensures.entered n).1 (inr k)) in
+          let stays = still_queued ns (leads_of c.loop-id.queue) (leads_of w.put.new.self) (λ n k. (w.put.ensures.entered n).1 (inr k)) in
           rw w.queue-is (record {
-            heap = rw names at w.put.ensures.heap;
+            queue = rw names at w.put.ensures.queue;
             stay = λ n k. stays n (i.stay n k);
             led = λ x there j bare. elim (one_more c.args.set.now.set.events c.lawful.ensures.set.own_lines c.args.events.now c.loop-id.id-index _ c.loop-id-test.true _ found refl (name_at ns at) refl x there j) [
               | inl k ↦ stays x.event.lead (i.led x there k bare)
@@ -57,7 +58,7 @@ loop-id-preserved g c =
           let deep = w.if-depth-eq0.false in
           let depth = rw names at c.depth.ensures in
           rw w.queue-is (record {
-            heap = i.heap;
+            queue = i.queue;
             stay = i.stay;
             led = λ x there j bare. elim (one_more c.args.set.now.set.events c.lawful.ensures.set.own_lines c.args.events.now c.loop-id.id-index _ c.loop-id-test.true _ found refl (name_at ns at) refl x there j) [
               | inl k ↦ i.led x there k bare

@@ -2,29 +2,31 @@ use Rattle.std.proofs.Common.{◌≡◌, inl, inr, sym, ap, arith, ◌∙◌}
 use Rattle.std.proofs.lemmas.List.{take_all}
 use Rattle.ic_path.proofs.Picks.{none_in}
 use Rattle.ic_names.specs.Tables.{name_at}
+use Rattle.ic_names.specs.Queues.{place_of, leads_of}
 use Rattle.ic_set.proofs.Partners.{none_led}
 use Rattle.ic_set.proofs.QueuedLeads.{still_queued}
 use Rattle.ic_journal.proofs.LeadsLeft.{one_more_queued, pair_unled}
 use Rattle.ic_journal.proofs.standing.renewing.without_fired.Goals as goal
 use Rattle.ic_journal.proofs.standing.renewing.without_fired.Goals.{then-not-is_lead, else-not-is_lead}
 
-pub loop-lead-init : goal.loop-lead-init
-loop-lead-init g c =
+pub loop-at-init : goal.loop-at-init
+loop-at-init g c =
     let made = c.in_ok-fresh.ensures in
     let space = made.room in
     record {
-      heap = made.heap;
+      queue = made.queue;
       led = λ e p h q. elim (none_in q.2) [ ];
       unled = λ n k x there same. none_in (rw made.empty at k);
       room = omega arith;
     }
 
-pub loop-lead-preserved : goal.loop-lead-preserved
-loop-lead-preserved g c =
-    let i = c.loop-lead.invariant in
+pub loop-at-preserved : goal.loop-at-preserved
+loop-at-preserved g c =
+    let i = c.loop-at.invariant in
     let ns = c.args.set.now.names in
-    let leads = c.leads-lead-items.result.now in
-    let split = one_more_queued c.args.set.now leads c.loop-lead.lead-index c.loop-lead-test.true in
+    let leads = leads_of c.args.queue.now in
+    let is = ap place_of c.lead.ensures in
+    let split = one_more_queued c.args.set.now leads c.loop-at.at (omega (arith, c.loop-at-test.true, c.len-at-end.ensures)) in
     elim c.if-not-is_lead.branch [
       | then-not-is_lead w ↦
           let names : w.names.result.now ≡ ns = w.names.ensures ∙ c.roster-roster.ensures.names in
@@ -33,10 +35,10 @@ loop-lead-preserved g c =
           let before = i.room in
           let after = w.put.ensures.room in
           rw w.fresh-is (record {
-            heap = rw names at w.put.ensures.heap;
+            queue = rw names at w.put.ensures.queue;
             led = λ e p h q. elim (split e q) [
-              | inl k ↦ still_queued ns c.loop-lead.fresh.leads w.put.new.self.leads (λ n j. (entered n).1 (inr j)) e.lead (i.led e p h k)
-              | inr last ↦ (last.0.0, last.0.1, (entered last.0.0).1 (inl last.1))
+              | inl k ↦ still_queued ns (leads_of c.loop-at.fresh) (leads_of w.put.new.self) (λ n j. (entered n).1 (inr j)) e.lead (i.led e p h k)
+              | inr last ↦ (last.0.0, last.0.1, (entered last.0.0).1 (inl (last.1 ∙ sym is)))
             ];
             unled = λ n k x there same. elim ((entered n).0 k) [
               | inl new ↦ absent x there (same ∙ ap (name_at ns) new)
@@ -46,13 +48,13 @@ loop-lead-preserved g c =
           })
       | else-not-is_lead w ↦
           rw w.fresh-is (record {
-            heap = i.heap;
+            queue = i.queue;
             led = λ e p h q. elim (split e q) [
               | inl k ↦ i.led e p h k
               | inr last ↦ (
                   let told = rw (c.roster-roster.ensures.events, c.roster-roster.ensures.names) at c.is_lead.ensures in
                   let x = told.0 w.if-not-is_lead.false in
-                  absurd (pair_unled c.args.set.now e p h last.0.0 (sym last.0.1.named) x.0 x.1 (x.2 ∙ sym (ap (name_at ns) last.1))))
+                  absurd (pair_unled c.args.set.now e p h last.0.0 (sym last.0.1.named) x.0 x.1 (x.2 ∙ sym (ap (name_at ns) (last.1 ∙ sym is)))))
             ];
             unled = i.unled;
             room = i.room;
@@ -61,5 +63,5 @@ loop-lead-preserved g c =
 
 pub returns-clause-each : goal.returns-clause-each
 returns-clause-each g c =
-    let all = take_all c.loop-lead.lead-index c.leads-lead-items.result.now c.loop-lead-test.false in
-    λ e p h. (rw (all, c.leads-lead-items.ensures) at c.loop-lead.invariant.led) e p h (c.requires.each e p h)
+    let all = take_all c.loop-at.at (leads_of c.args.queue.now) (omega (arith, c.loop-at-test.false, c.len-at-end.ensures)) in
+    λ e p h. (rw all at c.loop-at.invariant.led) e p h (c.requires.each e p h)

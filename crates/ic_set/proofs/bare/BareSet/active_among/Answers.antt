@@ -19,9 +19,9 @@ loop-lead-init g c = ([], nothing, search rules)
 
 pub led_by_name-requires : goal.led_by_name-requires
 led_by_name-requires g c =
-    let moved = rw (c.in_ok-sorted.ensures.items, ← c.deref-lead-items.ensures.value) at c.sort_by.ensures.permutation in
+    let moved = rw (← c.deref-lead-items.ensures.value) at c.sort_by.ensures.permutation in
     let leads = c.deref-lead-items.result.now in
-    moved_inside c.args.self.now.names c.args.leads.now leads c.requires.named moved _ (in_at leads c.loop-lead.lead-index none c.loop-lead-test.true)
+    moved_inside c.args.self.now.names c.args.leads.items leads c.requires.named moved _ (in_at leads c.loop-lead.lead-index none c.loop-lead-test.true)
 
 pub loop-lead-preserved : goal.loop-lead-preserved
 loop-lead-preserved g c =
@@ -44,6 +44,6 @@ returns g c =
     let i = c.loop-lead.invariant in
     let whole = take_all c.loop-lead.lead-index c.deref-lead-items.result.now c.loop-lead-test.false in
     let led : LedBy c.args.self.now c.sort_by.new.self.items i.0 = rw (whole, c.deref-lead-items.ensures.value) at i.1 in
-    let moved = rw c.in_ok-sorted.ensures.items at c.sort_by.ensures.permutation in
+    let moved = c.sort_by.ensures.permutation in
     let sorted = c.in_ok-sort_by.ensures.sorted (is_less_lead ns) (less_leads_order ns) (answers_by _ _ (λ f. f.0.now ≡ ns) (λ f a r f' k i. (search rules, search rules)) _ (c.names-names.ensures ∙ ap (λ (w : NamedView). w.names) c.self.view_is)) in
-    led_pairs c.args.self.now c.lawful.ensures.set c.lawful.ensures.table c.args.leads.now _ i.0 _ c.requires.named c.requires.once c.requires.each moved sorted led i.2
+    led_pairs c.args.self.now c.lawful.ensures.set c.lawful.ensures.table c.args.leads.items _ i.0 _ c.requires.named c.requires.once c.requires.each moved sorted led i.2

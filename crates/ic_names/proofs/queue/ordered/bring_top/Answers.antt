@@ -1,0 +1,66 @@
+use Rattle.std.proofs.Common.{◌≡◌, ◌≢◌, ℕ, suc, true, false, ◌<◌, List, length, subst, arith}
+use Rattle.std.specs.declared.cmp.Ordering.TheVariants.{Less}
+use Rattle.ic_name.specs.Names.{Name, name_cmp}
+use Rattle.ic_path.specs.Orders.{IsIn}
+use Rattle.ic_path.proofs.Alikes.{alike_self, alike_back, alike-in}
+use Rattle.ic_path.proofs.Picks.{in_more}
+use Rattle.ic_names.specs.Tables.{name_at}
+use Rattle.ic_names.specs.declared.queue.Lead.{Lead}
+use Rattle.ic_names.specs.Queues.{places, lead_at, name_of, IsNamed, IsHeap}
+use Rattle.ic_names.proofs.UpTo.{less_up_to, up_to_then}
+use Rattle.ic_names.proofs.QueuedPlaces.{in-places}
+use Rattle.ic_names.proofs.Heaps.{heap_top, named_at}
+use Rattle.ic_names.proofs.Runs.{run_before}
+use Rattle.ic_names.proofs.Queued.{put_in_heap}
+use Rattle.ic_names.proofs.queue.ordered.bring_top.Goals.{else-len-gt0-via-then-len-gt0+else-not-comes_before, else-len-gt0-via-else-len-gt0}
+use Rattle.ic_names.proofs.queue.ordered.bring_top.Goals as goal
+
+-- no name of a heap is less than that on top
+up_to_top : (ns : List Name) (ls : List Lead) → IsHeap ns ls → (n : ℕ) → IsIn n (places ls) → name_cmp (name_at ns n) (name_of ns ls 0) ≢ Less
+up_to_top ns ls heap n i = let r = in-places ls i in subst (λ p. name_cmp (name_at ns p) (name_of ns ls 0) ≢ Less) r.2 (heap_top heap (suc r.0) r.0 (omega arith) r.1)
+
+pub returns-then-len-eq0-clause-queue : goal.returns-then-len-eq0-clause-queue
+returns-then-len-eq0-clause-queue c = record {
+  run = c.requires.run;
+  heap = c.requires.heap;
+  first = λ n i. (let r = in-places c.args.heap.now.leads i in absurd (omega (arith, r.1, c.len.ensures.count, c.if-len-eq0.true)));
+}
+
+pub returns-then-len-eq0-clause-alike : goal.returns-then-len-eq0-clause-alike
+returns-then-len-eq0-clause-alike c = alike_self _
+
+pub returns-then-not-comes_before-clause-alike : goal.returns-then-not-comes_before-clause-alike
+returns-then-not-comes_before-clause-alike c = alike_self _
+
+pub returns-then-not-comes_before-clause-queue : goal.returns-then-not-comes_before-clause-queue
+returns-then-not-comes_before-clause-queue c =
+    let ns = c.args.names.now in
+    let run = c.args.run.now.leads in
+    let heap = c.args.heap.now.leads in
+    record {
+      run = c.requires.run;
+      heap = c.requires.heap;
+      first = λ n i. up_to_then (name_of ns run 0) (name_of ns heap 0) (name_at ns n)
+          (λ less. (let t : c.comes_before.result ≡ true = c.comes_before.ensures.1 (rw (c.lead.ensures, c.lead-then-len-gt0.ensures) less) in let f : c.comes_before.result ≡ false = c.if-not-comes_before.true in cc))
+          (up_to_top ns heap c.requires.heap n i);
+    }
+
+pub returns-clause-queue : goal.returns-clause-queue
+returns-clause-queue c =
+    let ns = c.args.names.now in
+    let run = c.args.run.now.leads in
+    let heap = c.args.heap.now.leads in
+    let order : 0 < length run → name_cmp (name_of ns run 0) (name_of ns heap 0) ≢ Less = λ some. elim c.else-len-gt0.branch [
+      | else-len-gt0-via-then-len-gt0+else-not-comes_before w ↦ less_up_to (name_of ns heap 0) (name_of ns run 0) (rw (w.lead.ensures, w.lead-then-len-gt0.ensures) at (w.comes_before.ensures.0 w.if-not-comes_before.false))
+      | else-len-gt0-via-else-len-gt0 w ↦ absurd (omega (arith, w.if-len-gt0.false, c.len-2.ensures.count, some))
+    ] in
+    let named : IsNamed ns (lead_at heap 0) = named_at c.requires.heap.named 0 (omega (arith, c.len.ensures.count, c.if-len-eq0.false)) in
+    record {
+      run = rw (c.push_first.ensures.pushed, c.take_top.ensures.top) (run_before c.requires.run named order);
+      heap = c.take_top.ensures.heap;
+      first = λ n i. rw (c.push_first.ensures.pushed, c.take_top.ensures.top) (up_to_top ns heap c.requires.heap n (alike-in (alike_back c.take_top.ensures.others) (in_more c.take_top.result.name.place i)));
+    }
+
+pub returns-clause-alike : goal.returns-clause-alike
+returns-clause-alike c =
+    rw c.push_first.ensures.pushed (put_in_heap c.args.run.now.leads c.take_top.new.heap.leads c.args.heap.now.leads c.take_top.result.name.place c.take_top.ensures.others)

@@ -1,0 +1,110 @@
+ghost use Rattle.std.specs.Prelude.{◌≡◌, ◌≢◌, ◌^◌, ◌<◌, ◌≤◌, ◌∷◌, [], ◌++◌, length, IsTrue, IsFalse, IfSome, IfNone, OnOk};
+ghost use Rattle.std.specs.declared.cmp.Ordering.TheVariants.{Less};
+ghost use Rattle.ic_name.specs.Names.{name_cmp};
+ghost use Rattle.ic_path.specs.Orders.{Alike};
+ghost use Rattle.ic_names.specs.Tables.{name_at};
+ghost use Rattle.ic_names.specs.Queues.{places, lead_at, name_of, IsNamed, IsRun};
+
+use crate::NameTable;
+use crate::queue::Lead;
+use crate::queue::order::comes_before;
+use std::alloc::{AllocError, Global};
+use std::collections::VecDeque;
+use std::marker::Model;
+
+/// Leads in order, the least first.
+#[derive(Drop)]
+pub struct LeadRun {
+    leads: VecDeque<Lead>,
+}
+
+impl Model for LeadRun {
+    ghost use Rattle.std.specs.VecDeque.{deque_capacity};
+    ghost use Rattle.ic_names.specs.Queues.{LeadsView};
+
+    ghost Value = { LeadsView };
+
+    ghost view = { λ r. record { leads = r.leads.items; room = deque_capacity r.leads } };
+}
+
+impl LeadRun {
+    /// No leads. It takes no memory yet.
+    pub fn new(alloc: Global) -> LeadRun
+        ensures { result.leads ≡ [] }
+    {
+        LeadRun {
+            leads: VecDeque::new(alloc),
+        }
+    }
+
+    /// The number of leads.
+    pub fn len(&self) -> usize
+        ensures count { result ≡ length self.now.leads }
+        ensures small { result < 2 ^ 63 }
+    {
+        self.leads.len()
+    }
+
+    /// The lead at this index.
+    pub fn lead(&self, at: usize) -> Lead
+        requires { at < length self.now.leads }
+        ensures { result ≡ lead_at self.now.leads at }
+    {
+        self.leads[at]
+    }
+
+    /// Makes room for so many leads. It is an error only if no memory is left. The leads stay, and the room never shrinks.
+    pub fn reserve(&mut self, leads: usize) -> Result<(), AllocError>
+        ensures same { self.new.leads ≡ self.old.leads }
+        ensures kept { self.old.room ≤ self.new.room }
+        ensures reserved { OnOk result (leads ≤ self.new.room) }
+    {
+        self.leads.reserve(leads.saturating_sub(self.leads.len()))
+    }
+
+    /// The lead comes in at the start or at the end, where it belongs at one of them. It is `false` where it belongs between two
+    /// leads, and then nothing changes. It takes no memory, and constant time.
+    pub fn put(&mut self, names: &NameTable, lead: Lead) -> bool
+        requires run { IsRun names.now self.old.leads }
+        requires named { IsNamed names.now lead }
+        requires room { length self.old.leads < self.old.room }
+        ensures run { IsRun names.now self.new.leads }
+        ensures put { IsTrue result → Alike (places self.new.leads) (lead.name.place ∷ places self.old.leads) }
+        ensures first { 0 < length self.old.leads → name_cmp (name_of names.now self.old.leads 0) (name_of names.now self.new.leads 0) ≢ Less }
+        ensures between { IsFalse result → name_cmp (name_at names.now lead.name.place) (name_of names.now self.old.leads 0) ≢ Less }
+        ensures some { 0 < length self.new.leads }
+        ensures unchanged { IsFalse result → self.new ≡ self.old }
+        ensures room { self.new.room ≡ self.old.room }
+    {
+        let len = self.leads.len();
+        if len == 0 || comes_before(names, lead, self.lead(0)) {
+            self.push_first(lead);
+            return true;
+        }
+        if comes_before(names, self.lead(len - 1), lead) {
+            self.leads.push_back_reserved(lead);
+            return true;
+        }
+        false
+    }
+
+    /// A lead comes in at the start. It takes no memory.
+    pub fn push_first(&mut self, lead: Lead)
+        requires { length self.old.leads < self.old.room }
+        ensures pushed { self.new.leads ≡ lead ∷ self.old.leads }
+        ensures room { self.new.room ≡ self.old.room }
+    {
+        self.leads.push_front_reserved(lead);
+    }
+
+    /// The first lead goes, and there is room for another; `None` if there is none.
+    pub fn pop_first(&mut self) -> Option<Lead>
+        ensures popped { IfSome result (λ lead. self.old.leads ≡ lead ∷ self.new.leads) }
+        ensures freed { IfSome result (λ _. length self.new.leads < self.new.room) }
+        ensures none { IfNone result (self.old.leads ≡ []) }
+        ensures unchanged { IfNone result (self.new ≡ self.old) }
+        ensures room { self.new.room ≡ self.old.room }
+    {
+        self.leads.pop_front()
+    }
+}
