@@ -50,7 +50,8 @@ pub(crate) fn put_leads<L: LinkStore>(
     }
 }
 
-/// Puts in the lead of each of these standing events that is an agent of the start. There is room for every name.
+/// Puts in the lead of each of these standing events that is an agent of the start, that of the last event first: if the events
+/// are in order, each lead is less than all in the queue. There is room for every name.
 pub(crate) fn put_start_leads<L: LinkStore>(
     queue: &mut LeadQueue,
     set: &BareSet<L>,
@@ -66,8 +67,8 @@ pub(crate) fn put_start_leads<L: LinkStore>(
 {
     set.lawful();
     let names = set.roster().names();
-    for id in events {
-        let Some(event) = set.roster().event(*id) else {
+    for place in (0..events.len()).rev() {
+        let Some(event) = set.roster().event(events[place]) else {
             unreachable!()
         };
         let lead = event.interaction.lead;
