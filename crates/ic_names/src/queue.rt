@@ -104,9 +104,8 @@ impl LeadQueue {
         self.leads.reserve(names)
     }
 
-    /// The name at this place comes in, where it isn't in the queue yet, in the room there is. It takes constant time if the name
-    /// is less or greater than all in the run, else time that grows as the logarithm of the number of names. It takes no
-    /// memory.
+    /// The name at this place comes in, if it isn't in the queue yet, in the room there is. It takes no memory. The time is
+    /// constant if the name is less than all in the run, or greater. Else it grows as the logarithm of the number of names.
     pub fn put(&mut self, names: &NameTable, name: NameId)
         requires inside { name.place < length names.now }
         requires queue { IsQueue names.now self.old }
@@ -131,8 +130,8 @@ impl LeadQueue {
         Some(self.leads.least()?.name)
     }
 
-    /// The least name goes; `None` if the queue is empty, and then nothing changes. It takes constant time, but if a name of the
-    /// heap becomes the least, time that grows as the logarithm of the number of names. It takes no memory.
+    /// The least name goes; `None` if the queue is empty, and then nothing changes. It takes no memory. The time is constant,
+    /// unless a name of the heap becomes the least: then it grows as the logarithm of the number of names.
     pub fn take_least(&mut self, names: &NameTable) -> Option<NameId>
         requires queue { IsQueue names.now self.old }
         ensures queue { IsQueue names.now self.new }

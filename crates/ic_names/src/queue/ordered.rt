@@ -100,7 +100,7 @@ impl OrderedLeads {
     }
 
     /// The least lead goes; `None` if there are no leads, and then nothing changes. It takes no memory. The time is constant,
-    /// but where a lead of the heap becomes the least: then it grows as the logarithm of the number of leads.
+    /// unless a lead of the heap becomes the least: then it grows as the logarithm of the number of leads.
     pub fn take_least(&mut self, names: &NameTable) -> Option<Lead>
         requires queue { IsQueue names.now self.old }
         ensures queue { IsQueue names.now self.new }

@@ -62,8 +62,8 @@ impl LeadRun {
         self.leads.reserve(leads.saturating_sub(self.leads.len()))
     }
 
-    /// The lead comes in at the start or at the end, where it belongs at one of them. It is `false` where it belongs between two
-    /// leads, and then nothing changes. It takes no memory, and constant time.
+    /// The lead comes in at the start or at the end, if it belongs at one of them. If it belongs between two leads, the answer is
+    /// `false`, and nothing changes. It takes constant time, and no memory.
     pub fn put(&mut self, names: &NameTable, lead: Lead) -> bool
         requires run { IsRun names.now self.old.leads }
         requires named { IsNamed names.now lead }

@@ -1,4 +1,4 @@
-use Rattle.std.proofs.Common.{◌≡◌, length, arith, refl, ap, sym, ◌∙◌}
+use Rattle.std.proofs.Common.{arith, refl}
 use Rattle.std.proofs.lemmas.List.{take_more, take_all}
 use Rattle.ic_path.proofs.Picks.{none_in}
 use Rattle.ic_names.specs.declared.queue.Lead.{Lead}

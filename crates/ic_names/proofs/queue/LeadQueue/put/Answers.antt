@@ -26,9 +26,10 @@ invariant_of-self c =
 pub returns-clause-entered : goal.returns-clause-entered
 returns-clause-entered c n =
     let added = c.put.ensures.put in
-    let same = ap leads_of c.self.view_is in
-    ((λ i. elim (in-cons_cases (alike-in added i)) [ inl e ↦ inl e | inr j ↦ inr (subst (λ ls. IsIn n (places ls)) same j) ]),
-    (λ h. alike-in (alike_back added) (elim h [
-      | inl e ↦ subst (λ m. IsIn n (m ∷ places (leads_of c.self.inside.leads))) e (in_first n (places (leads_of c.self.inside.leads)))
-      | inr j ↦ in_more c.args.name.place (subst (λ ls. IsIn n (places ls)) (sym same) j)
-    ])))
+    let same = ap leads_of c.self.view_is in (
+      (λ i. elim (in-cons_cases (alike-in added i)) [ inl e ↦ inl e | inr j ↦ inr (subst (λ ls. IsIn n (places ls)) same j) ]),
+      (λ h. alike-in (alike_back added) (elim h [
+        | inl e ↦ subst (λ m. IsIn n (m ∷ places (leads_of c.self.inside.leads))) e (in_first n (places (leads_of c.self.inside.leads)))
+        | inr j ↦ in_more c.args.name.place (subst (λ ls. IsIn n (places ls)) (sym same) j)
+      ])),
+    )

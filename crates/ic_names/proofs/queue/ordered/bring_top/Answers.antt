@@ -1,23 +1,17 @@
-use Rattle.std.proofs.Common.{◌≡◌, ◌≢◌, ℕ, suc, true, false, ◌<◌, List, length, subst, arith}
+use Rattle.std.proofs.Common.{◌≡◌, ◌≢◌, true, false, ◌<◌, length, arith}
 use Rattle.std.specs.declared.cmp.Ordering.TheVariants.{Less}
-use Rattle.ic_name.specs.Names.{Name, name_cmp}
-use Rattle.ic_path.specs.Orders.{IsIn}
+use Rattle.ic_name.specs.Names.{name_cmp}
 use Rattle.ic_path.proofs.Alikes.{alike_self, alike_back, alike-in}
 use Rattle.ic_path.proofs.Picks.{in_more}
 use Rattle.ic_names.specs.Tables.{name_at}
-use Rattle.ic_names.specs.declared.queue.Lead.{Lead}
-use Rattle.ic_names.specs.Queues.{places, lead_at, name_of, IsNamed, IsHeap}
+use Rattle.ic_names.specs.Queues.{lead_at, name_of, IsNamed}
 use Rattle.ic_names.proofs.UpTo.{less_up_to, up_to_then}
 use Rattle.ic_names.proofs.QueuedPlaces.{in-places}
-use Rattle.ic_names.proofs.Heaps.{heap_top, named_at}
+use Rattle.ic_names.proofs.Heaps.{top_least, named_at}
 use Rattle.ic_names.proofs.Runs.{run_before}
 use Rattle.ic_names.proofs.Queued.{put_in_heap}
 use Rattle.ic_names.proofs.queue.ordered.bring_top.Goals.{else-len-gt0-via-then-len-gt0+else-not-comes_before, else-len-gt0-via-else-len-gt0}
 use Rattle.ic_names.proofs.queue.ordered.bring_top.Goals as goal
-
--- no name of a heap is less than that on top
-up_to_top : (ns : List Name) (ls : List Lead) → IsHeap ns ls → (n : ℕ) → IsIn n (places ls) → name_cmp (name_at ns n) (name_of ns ls 0) ≢ Less
-up_to_top ns ls heap n i = let r = in-places ls i in subst (λ p. name_cmp (name_at ns p) (name_of ns ls 0) ≢ Less) r.2 (heap_top heap (suc r.0) r.0 (omega arith) r.1)
 
 pub returns-then-len-eq0-clause-queue : goal.returns-then-len-eq0-clause-queue
 returns-then-len-eq0-clause-queue c = record {
@@ -42,7 +36,7 @@ returns-then-not-comes_before-clause-queue c =
       heap = c.requires.heap;
       first = λ n i. up_to_then (name_of ns run 0) (name_of ns heap 0) (name_at ns n)
           (λ less. (let t : c.comes_before.result ≡ true = c.comes_before.ensures.1 (rw (c.lead.ensures, c.lead-then-len-gt0.ensures) less) in let f : c.comes_before.result ≡ false = c.if-not-comes_before.true in cc))
-          (up_to_top ns heap c.requires.heap n i);
+          ((top_least c.requires.heap (omega (arith, c.len.ensures.count, c.if-len-eq0.false))).none_less n i);
     }
 
 pub returns-clause-queue : goal.returns-clause-queue
@@ -58,7 +52,7 @@ returns-clause-queue c =
     record {
       run = rw (c.push_first.ensures.pushed, c.take_top.ensures.top) (run_before c.requires.run named order);
       heap = c.take_top.ensures.heap;
-      first = λ n i. rw (c.push_first.ensures.pushed, c.take_top.ensures.top) (up_to_top ns heap c.requires.heap n (alike-in (alike_back c.take_top.ensures.others) (in_more c.take_top.result.name.place i)));
+      first = λ n i. rw (c.push_first.ensures.pushed, c.take_top.ensures.top) ((top_least c.requires.heap (omega (arith, c.len.ensures.count, c.if-len-eq0.false))).none_less n (alike-in (alike_back c.take_top.ensures.others) (in_more c.take_top.result.name.place i)));
     }
 
 pub returns-clause-alike : goal.returns-clause-alike
