@@ -30,7 +30,7 @@ place_of l = l.name.place
 abbrev pub places : List Lead → List ℕ
 places ls = map place_of ls
 
--- the lead at an index of the heap
+-- the lead at an index of a list
 abbrev pub lead_at : List Lead → ℕ → Lead
 lead_at ls k = slice_index_or ls k (record { key = record { 0 = 0 }; name = record { place = 0 } })
 
