@@ -73,21 +73,19 @@ fn number_and_depth(alloc: Global, number: u16) -> Option<(u16, usize)> {
     Some((name.start_number(), name.depth()))
 }
 
-/// The text of the name of a start agent.
-fn start_text(alloc: Global, number: u16) -> Option<Vec<u8>> {
+/// Whether this is the text of the name of a start agent.
+fn has_start_text(alloc: Global, number: u16, wanted: &[u8]) -> Option<bool> {
     let name = AgentName::start(alloc, number)?;
     let mut text = Vec::new(alloc);
     name.write_to(&mut text).ok()?;
-    Some(text)
+    Some(text.as_slice() == wanted)
 }
 
 #[test]
-fn the_last_start_name_has_the_number_65534(rt: HostRuntime) -> Result<(), Fail> {
+fn the_last_start_name_has_the_number_65534(rt: HostRuntime) {
     assert_eq!(rt; number_and_depth(rt.alloc(), 65_534), Some((65_534, 0)));
-    assert!(rt; AgentName::start(rt.alloc(), 65_535).is_none());
-    let text = start_text(rt.alloc(), 65_534).ok_or("a text")?;
-    assert_eq!(rt; text.as_slice(), b"65534".as_slice());
-    Ok(())
+    assert_eq!(rt; number_and_depth(rt.alloc(), 65_535), None);
+    assert_eq!(rt; has_start_text(rt.alloc(), 65_534, b"65534"), Some(true));
 }
 
 /// The start numbers in the copy of the name of the event of two start agents, the lead's first.
@@ -220,14 +218,26 @@ fn reads_as(alloc: Global, text: &[u8], name: &AgentName) -> bool {
     }
 }
 
+/// The depth of the deepest name, and why it has no child 0.
+fn depth_and_fault(alloc: Global) -> Option<(usize, ChildFault)> {
+    let name = deepest_name(alloc)?;
+    Some((name.depth(), name.child(0).err()?))
+}
+
+/// Whether the deepest name is read from its text.
+fn deepest_is_read(alloc: Global) -> Option<bool> {
+    let text = deepest_text(alloc).ok()?;
+    let name = deepest_name(alloc)?;
+    Some(reads_as(alloc, text.as_slice(), &name))
+}
+
 #[test]
-fn children_end_at_the_greatest_depth(rt: HostRuntime) -> Result<(), Fail> {
-    let name = deepest_name(rt.alloc()).ok_or("the deepest name")?;
-    assert_eq!(rt; name.depth(), MAX_DEPTH);
-    assert_eq!(rt; name.child(0).err(), Some(ChildFault::Deep));
-    let text = deepest_text(rt.alloc())?;
-    assert!(rt; reads_as(rt.alloc(), text.as_slice(), &name));
-    Ok(())
+fn children_end_at_the_greatest_depth(rt: HostRuntime) {
+    assert_eq!(rt;
+        depth_and_fault(rt.alloc()),
+        Some((MAX_DEPTH, ChildFault::Deep))
+    );
+    assert_eq!(rt; deepest_is_read(rt.alloc()), Some(true));
 }
 
 #[test]

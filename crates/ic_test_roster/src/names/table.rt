@@ -74,11 +74,14 @@ fn is_found(alloc: Global, table: &NameTable, text: &[u8]) -> Option<bool> {
 /// Whether a text is that of the name at the place where the name that it writes is found.
 fn is_read_back(alloc: Global, table: &NameTable, text: &[u8]) -> Option<bool> {
     let name = AgentName::read(alloc, text).ok()?;
-    let id = table.find(&name)?;
-    let there = table.name(id).ok()?;
-    let found = there?;
+    has_text(alloc, table, table.find(&name)?, text)
+}
+
+/// Whether this is the text of the name at a place.
+fn has_text(alloc: Global, table: &NameTable, id: NameId, text: &[u8]) -> Option<bool> {
+    let found = table.name(id).ok()?;
     let mut written = Vec::new(alloc);
-    found.write_to(&mut written).ok()?;
+    found?.write_to(&mut written).ok()?;
     Some(written.as_slice() == text)
 }
 
@@ -97,9 +100,14 @@ fn names_are_found_and_read_back(rt: HostRuntime) -> Result<(), Fail> {
 fn compare_alike(alloc: Global, table: &NameTable, a: &[u8], b: &[u8]) -> Option<bool> {
     let first = AgentName::read(alloc, a).ok()?;
     let second = AgentName::read(alloc, b).ok()?;
-    let one = table.find(&first)?;
-    let other = table.find(&second)?;
-    Some(table.cmp(one, other) == first.cmp(&second))
+    compares_alike(table, &first, &second)
+}
+
+/// The same of two names.
+fn compares_alike(table: &NameTable, first: &AgentName, second: &AgentName) -> Option<bool> {
+    let one = table.find(first)?;
+    let other = table.find(second)?;
+    Some(table.cmp(one, other) == first.cmp(second))
 }
 
 #[test]
@@ -161,12 +169,19 @@ fn child_comes(alloc: Global, table: &mut NameTable, digit: u8) -> Option<bool>
 {
     let name = AgentName::start(alloc, 7)?;
     let child = name.child(digit).ok()?;
-    let Ok(parent) = table.enter(&name) else {
+    comes_in(table, &name, digit, &child)
+}
+
+/// The same of a name and its child.
+fn comes_in(table: &mut NameTable, name: &AgentName, digit: u8, child: &AgentName) -> Option<bool>
+    requires { digit < 4 }
+{
+    let Ok(parent) = table.enter(name) else {
         return None;
     };
     let absent = table.child(parent, digit).is_none();
     let id = table.enter_child(parent, digit).ok()?;
-    Some(absent && table.find(&child) == Some(id))
+    Some(absent && table.find(child) == Some(id))
 }
 
 #[test]

@@ -1,7 +1,6 @@
 use ic_name::{AgentId, AgentName, Kind};
 use ic_roster::Roster;
 use std::alloc::Global;
-use std::test::Fail;
 
 /// Enters an agent of the name that a text writes. It is `None` where the agent is there already, and where the text is
 /// no name.
@@ -109,29 +108,42 @@ fn enter_and_remove(alloc: Global, roster: &mut Roster) -> Option<AgentId> {
     Some(id)
 }
 
-#[test]
-fn an_agent_goes(rt: HostRuntime) -> Result<(), Fail> {
-    let mut roster = Roster::new(rt.alloc());
-    let id = enter_and_remove(rt.alloc(), &mut roster).ok_or("an agent")?;
-    assert!(rt; roster.agent(id).is_none());
-    assert!(rt; finds(rt.alloc(), &roster, b"1", None));
-    assert_eq!(rt; roster.agent_count(), 0);
-    assert_eq!(rt; roster.names().len(), 1);
-    Ok(())
+/// Whether an agent that goes is found no more, by its id or its name, and how many agents and names there are then.
+fn left_of_one(alloc: Global, roster: &mut Roster) -> Option<(bool, usize, usize)> {
+    let id = enter_and_remove(alloc, roster)?;
+    let gone = roster.agent(id).is_none() && finds(alloc, roster, b"1", None);
+    Some((gone, roster.agent_count(), roster.names().len()))
 }
 
 #[test]
-fn an_id_holds_no_more_once_its_slot_is_filled_again(rt: HostRuntime) -> Result<(), Fail> {
+fn an_agent_goes(rt: HostRuntime) {
     let mut roster = Roster::new(rt.alloc());
-    let old = enter_and_remove(rt.alloc(), &mut roster).ok_or("an agent")?;
-    let new = enter(rt.alloc(), &mut roster, b"2", Kind::Gamma, 4).ok_or("another agent")?;
-    assert_eq!(rt; new.slot, old.slot);
-    assert!(rt; roster.agent(old).is_none());
+    assert_eq!(rt; left_of_one(rt.alloc(), &mut roster), Some((true, 0, 1)));
+}
+
+/// Enters an agent in the slot of one that went, whose id removes none. Whether that id holds no more.
+fn enter_in_its_place(alloc: Global, roster: &mut Roster) -> Option<bool> {
+    let old = enter_and_remove(alloc, roster)?;
+    let new = enter(alloc, roster, b"2", Kind::Gamma, 4)?;
+    let holds = roster.agent(old).is_some();
     roster.remove(old);
-    assert_eq!(rt; roster.agent_count(), 1);
-    let read = read_again(rt.alloc(), &roster, b"2");
-    assert_eq!(rt; read, Some((Kind::Gamma, 4)));
-    Ok(())
+    Some(new.slot == old.slot && !holds)
+}
+
+/// Whether that is so, how many agents there are then, and what is read of the new one.
+fn left_of_two(alloc: Global, roster: &mut Roster) -> Option<(bool, usize, (Kind, u32))> {
+    let replaced = enter_in_its_place(alloc, roster)?;
+    let read = read_again(alloc, roster, b"2")?;
+    Some((replaced, roster.agent_count(), read))
+}
+
+#[test]
+fn an_id_holds_no_more_once_its_slot_is_filled_again(rt: HostRuntime) {
+    let mut roster = Roster::new(rt.alloc());
+    assert_eq!(rt;
+        left_of_two(rt.alloc(), &mut roster),
+        Some((true, 1, (Kind::Gamma, 4)))
+    );
 }
 
 /// The texts of the names of the agents of the table, in order of names.
@@ -180,11 +192,14 @@ fn child_is_entered(alloc: Global, roster: &mut Roster) -> Option<bool> {
     Some(roster.names().find(&child) == Some(id))
 }
 
+/// Whether that is so twice, and how many names and agents there are then.
+fn entered_twice(alloc: Global, roster: &mut Roster) -> Option<(bool, usize, usize)> {
+    let entered = child_is_entered(alloc, roster)? && child_is_entered(alloc, roster)?;
+    Some((entered, roster.names().len(), roster.agent_count()))
+}
+
 #[test]
 fn names_are_entered_without_agents(rt: HostRuntime) {
     let mut roster = Roster::new(rt.alloc());
-    assert_eq!(rt; child_is_entered(rt.alloc(), &mut roster), Some(true));
-    assert_eq!(rt; child_is_entered(rt.alloc(), &mut roster), Some(true));
-    assert_eq!(rt; roster.names().len(), 2);
-    assert_eq!(rt; roster.agent_count(), 0);
+    assert_eq!(rt; entered_twice(rt.alloc(), &mut roster), Some((true, 2, 0)));
 }

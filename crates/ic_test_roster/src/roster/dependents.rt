@@ -3,11 +3,10 @@ ghost use Rattle.ic_name.specs.declared.ids.EventId.{EventId as AnEventId};
 ghost use Rattle.ic_roster.specs.Rosters.{Stands};
 ghost use Rattle.ic_path.specs.Orders.{IsOnce};
 
-use crate::roster::standing::{interaction, line_is_new, take_out};
+use crate::roster::standing::{have_all, interaction, line_is_new, take_out};
 use ic_name::EventId;
 use ic_roster::Roster;
 use std::alloc::Global;
-use std::test::Fail;
 
 /// Enters the event of two start agents after these causes. It is `None` where one of this line or this lead stands.
 fn stand_after(
@@ -56,36 +55,57 @@ fn nothing_depends_on_what_is_not_there(rt: HostRuntime) {
     assert!(rt; roster.dependents(EventId { slot: 0, line: 4 }).is_empty());
 }
 
-#[test]
-fn causes_are_kept(rt: HostRuntime) -> Result<(), Fail> {
-    let mut roster = Roster::new(rt.alloc());
-    let (first, second, third) = stand_three(rt.alloc(), &mut roster).ok_or("three events")?;
-    assert!(rt; has_causes(&roster, first, &[]));
-    assert!(rt; has_causes(&roster, second, &[first]));
-    assert!(rt; has_causes(&roster, third, &[first, second]));
-    Ok(())
+/// Whether three events have their causes.
+fn have_causes(alloc: Global, roster: &mut Roster) -> Option<bool> {
+    let (first, second, third) = stand_three(alloc, roster)?;
+    Some(
+        has_causes(roster, first, &[])
+            && has_causes(roster, second, &[first])
+            && has_causes(roster, third, &[first, second]),
+    )
 }
 
 #[test]
-fn dependents_are_kept(rt: HostRuntime) -> Result<(), Fail> {
+fn causes_are_kept(rt: HostRuntime) {
     let mut roster = Roster::new(rt.alloc());
-    let (first, second, third) = stand_three(rt.alloc(), &mut roster).ok_or("three events")?;
-    assert_eq!(rt; roster.dependents(first).len(), 2);
-    assert!(rt; roster.dependents(first).contains(&second));
-    assert!(rt; roster.dependents(first).contains(&third));
-    assert_eq!(rt; roster.dependents(second), [third].as_slice());
-    assert!(rt; roster.dependents(third).is_empty());
-    Ok(())
+    assert_eq!(rt; have_causes(rt.alloc(), &mut roster), Some(true));
+}
+
+/// Whether these are the events that depend on the one under an id, each once, in whatever order.
+fn has_dependents(roster: &Roster, event: EventId, dependents: &[EventId]) -> bool {
+    let found = roster.dependents(event);
+    found.len() == dependents.len() && have_all(found, dependents)
+}
+
+/// Whether three events have their dependents.
+fn have_dependents(alloc: Global, roster: &mut Roster) -> Option<bool> {
+    let (first, second, third) = stand_three(alloc, roster)?;
+    Some(
+        has_dependents(roster, first, &[second, third])
+            && has_dependents(roster, second, &[third])
+            && has_dependents(roster, third, &[]),
+    )
 }
 
 #[test]
-fn what_goes_is_no_dependent(rt: HostRuntime) -> Result<(), Fail> {
+fn dependents_are_kept(rt: HostRuntime) {
     let mut roster = Roster::new(rt.alloc());
-    let (first, second, third) = stand_three(rt.alloc(), &mut roster).ok_or("three events")?;
-    assert!(rt; take_out(&mut roster, first).is_none());
-    assert!(rt; take_out(&mut roster, third).is_some());
-    assert!(rt; roster.event(third).is_none());
-    assert_eq!(rt; roster.dependents(first), [second].as_slice());
-    assert!(rt; roster.dependents(second).is_empty());
-    Ok(())
+    assert_eq!(rt; have_dependents(rt.alloc(), &mut roster), Some(true));
+}
+
+/// Whether the last of three events goes, but not the first, and is then no dependent of the others.
+fn last_goes(alloc: Global, roster: &mut Roster) -> Option<bool> {
+    let (first, second, third) = stand_three(alloc, roster)?;
+    let goes = take_out(roster, first).is_none() && take_out(roster, third).is_some();
+    Some(
+        goes && roster.event(third).is_none()
+            && has_dependents(roster, first, &[second])
+            && has_dependents(roster, second, &[]),
+    )
+}
+
+#[test]
+fn what_goes_is_no_dependent(rt: HostRuntime) {
+    let mut roster = Roster::new(rt.alloc());
+    assert_eq!(rt; last_goes(rt.alloc(), &mut roster), Some(true));
 }
