@@ -2,7 +2,6 @@ use ic_name::{Kind, Profile, RuleEnd};
 use ic_start::{Start, outcome};
 use ic_text::read_net;
 use std::alloc::Global;
-use std::test::Fail;
 
 /// The start of `G(x,a) = D(x,b);`, where gammas are wired straight.
 const TWO_AGENTS: &[u8] = b"@straight; G(x,a) = D(x,b);";
@@ -20,21 +19,28 @@ pub(crate) fn two_agents(alloc: Global) -> Option<Start> {
     read_net(alloc, TWO_AGENTS).ok()
 }
 
-#[test]
-fn a_start_shows_its_agents(rt: HostRuntime) -> Result<(), Fail> {
-    let start = two_agents(rt.alloc()).ok_or("a start")?;
+/// How many agents the start has, and whether a gamma and a delta are all its kinds.
+fn agents_of_two(alloc: Global) -> Option<(usize, bool)> {
+    let start = two_agents(alloc)?;
     start.lawful();
-    assert_eq!(rt; start.agents(), 2);
-    assert_eq!(rt; start.kinds(), [Kind::Gamma, Kind::Delta].as_slice());
-    Ok(())
+    let kinds = [Kind::Gamma, Kind::Delta];
+    Some((start.agents(), start.kinds() == kinds.as_slice()))
 }
 
 #[test]
-fn a_start_shows_the_kind_of_an_agent(rt: HostRuntime) -> Result<(), Fail> {
-    let start = two_agents(rt.alloc()).ok_or("a start")?;
-    assert_eq!(rt; start.kind(1), Some(Kind::Delta));
-    assert_eq!(rt; start.kind(2), None);
-    Ok(())
+fn a_start_shows_its_agents(rt: HostRuntime) {
+    assert_eq!(rt; agents_of_two(rt.alloc()), Some((2, true)));
+}
+
+/// The kinds of the agents 1 and 2 of the start.
+fn last_kinds(alloc: Global) -> Option<(Option<Kind>, Option<Kind>)> {
+    let start = two_agents(alloc)?;
+    Some((start.kind(1), start.kind(2)))
+}
+
+#[test]
+fn a_start_shows_the_kind_of_an_agent(rt: HostRuntime) {
+    assert_eq!(rt; last_kinds(rt.alloc()), Some((Some(Kind::Delta), None)));
 }
 
 /// Whether this is the last name of a start.
@@ -46,13 +52,19 @@ fn is_last_name(start: &Start, text: &[u8]) -> bool {
     }
 }
 
+/// How many links the start has, its profile, and whether its last name is `b`.
+fn links_and_names(alloc: Global) -> Option<(usize, Profile, bool)> {
+    let start = two_agents(alloc)?;
+    let named = is_last_name(&start, b"b");
+    Some((start.links().len(), start.profile(), named))
+}
+
 #[test]
-fn a_start_shows_its_links_and_names(rt: HostRuntime) -> Result<(), Fail> {
-    let start = two_agents(rt.alloc()).ok_or("a start")?;
-    assert_eq!(rt; start.links().len(), 5);
-    assert_eq!(rt; start.profile(), Profile::Straight);
-    assert!(rt; is_last_name(&start, b"b"));
-    Ok(())
+fn a_start_shows_its_links_and_names(rt: HostRuntime) {
+    assert_eq!(rt;
+        links_and_names(rt.alloc()),
+        Some((5, Profile::Straight, true))
+    );
 }
 
 /// Whether the start of a text is that of the first one.

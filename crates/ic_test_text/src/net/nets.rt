@@ -2,7 +2,6 @@ use crate::start::two_agents;
 use ic_name::{AgentName, Port};
 use ic_net::{Kind, Net, Profile, laws};
 use std::alloc::Global;
-use std::test::Fail;
 
 /// The net of the start of two agents.
 fn two_agents_net(alloc: Global) -> Option<Net> {
@@ -10,15 +9,24 @@ fn two_agents_net(alloc: Global) -> Option<Net> {
     Net::of_start(alloc, &start).ok()
 }
 
-#[test]
-fn a_net_has_its_wires(rt: HostRuntime) -> Result<(), Fail> {
-    let net = two_agents_net(rt.alloc()).ok_or("a net")?;
+/// How many agents, wires and rings a net has.
+pub(crate) fn counts(net: &Net) -> (usize, u64, u64) {
+    (net.agents(), net.wires(), net.rings())
+}
+
+/// How many the net of two agents has, and its profile.
+fn counts_and_profile(alloc: Global) -> Option<((usize, u64, u64), Profile)> {
+    let net = two_agents_net(alloc)?;
     net.lawful();
-    assert_eq!(rt; net.agents(), 2);
-    assert_eq!(rt; net.wires(), 4);
-    assert_eq!(rt; net.rings(), 0);
-    assert_eq!(rt; net.profile(), Profile::Straight);
-    Ok(())
+    Some((counts(&net), net.profile()))
+}
+
+#[test]
+fn a_net_has_its_wires(rt: HostRuntime) {
+    assert_eq!(rt;
+        counts_and_profile(rt.alloc()),
+        Some(((2, 4, 0), Profile::Straight))
+    );
 }
 
 /// Whether the start agent of this number has this kind, or isn't there where none is given.
@@ -29,12 +37,16 @@ pub(crate) fn is_of_kind(alloc: Global, net: &Net, number: u16, kind: Option<Kin
     }
 }
 
+/// Whether the net of two agents has its kinds.
+fn has_kinds(alloc: Global) -> Option<bool> {
+    let net = two_agents_net(alloc)?;
+    let lead = is_of_kind(alloc, &net, 0, Some(Kind::Gamma));
+    Some(lead && is_of_kind(alloc, &net, 2, None))
+}
+
 #[test]
-fn a_net_has_its_kinds(rt: HostRuntime) -> Result<(), Fail> {
-    let net = two_agents_net(rt.alloc()).ok_or("a net")?;
-    assert!(rt; is_of_kind(rt.alloc(), &net, 0, Some(Kind::Gamma)));
-    assert!(rt; is_of_kind(rt.alloc(), &net, 2, None));
-    Ok(())
+fn a_net_has_its_kinds(rt: HostRuntime) {
+    assert_eq!(rt; has_kinds(rt.alloc()), Some(true));
 }
 
 /// A port of a start agent, or a name of the text, by its number.
@@ -60,16 +72,20 @@ fn partner_at(alloc: Global, net: &Net, agent: u16, number: u8) -> Option<Partne
     Some(partner_of(net, &port))
 }
 
+/// The partners of two ports of the first agent, and of the first name.
+fn partners(alloc: Global) -> Option<(Partner, Partner, Partner)> {
+    let net = two_agents_net(alloc)?;
+    let first = partner_at(alloc, &net, 0, 1)?;
+    let second = partner_at(alloc, &net, 0, 2)?;
+    Some((first, second, partner_of(&net, &Port::Name(0))))
+}
+
 #[test]
-fn ports_have_partners(rt: HostRuntime) -> Result<(), Fail> {
-    let net = two_agents_net(rt.alloc()).ok_or("a net")?;
+fn ports_have_partners(rt: HostRuntime) {
     assert_eq!(rt;
-        partner_at(rt.alloc(), &net, 0, 1),
-        Some(Partner::Agent(1, 1))
+        partners(rt.alloc()),
+        Some((Partner::Agent(1, 1), Partner::Name(1), Partner::Nothing))
     );
-    assert_eq!(rt; partner_at(rt.alloc(), &net, 0, 2), Some(Partner::Name(1)));
-    assert_eq!(rt; partner_of(&net, &Port::Name(0)), Partner::Nothing);
-    Ok(())
 }
 
 /// Whether the net of a start made twice is the same.
@@ -115,13 +131,20 @@ fn loose_names(alloc: Global, net: &Net) -> Option<(u32, u32)> {
     }
 }
 
+/// The active pair, the second agent and the loose names of the net of two agents.
+fn parts(alloc: Global) -> Option<((u16, u16), (u16, Kind, usize), (u32, u32))> {
+    let net = two_agents_net(alloc)?;
+    let pair = active_pair(alloc, &net)?;
+    let agent = second_agent(alloc, &net)?;
+    Some((pair, agent, loose_names(alloc, &net)?))
+}
+
 #[test]
-fn a_net_shows_its_parts_in_order(rt: HostRuntime) -> Result<(), Fail> {
-    let net = two_agents_net(rt.alloc()).ok_or("a net")?;
-    assert_eq!(rt; active_pair(rt.alloc(), &net), Some((0, 1)));
-    assert_eq!(rt; second_agent(rt.alloc(), &net), Some((1, Kind::Delta, 3)));
-    assert_eq!(rt; loose_names(rt.alloc(), &net), Some((1, 2)));
+fn a_net_shows_its_parts_in_order(rt: HostRuntime) {
+    assert_eq!(rt;
+        parts(rt.alloc()),
+        Some(((0, 1), (1, Kind::Delta, 3), (1, 2)))
+    );
     laws::one_listing();
     laws::active_pairs_are_active();
-    Ok(())
 }

@@ -1,10 +1,9 @@
-use crate::net::nets::is_of_kind;
+use crate::net::nets::{counts, is_of_kind};
 use crate::start::two_agents;
 use ic_name::{AgentName, Event, Port};
 use ic_net::{Kind, Net, Profile, Start, StepFault};
 use ic_text::read_net;
 use std::alloc::Global;
-use std::test::Fail;
 
 /// The event of the first two start agents, of these kinds.
 fn first_two(alloc: Global, lead: Kind, other: Kind) -> Option<Event> {
@@ -42,22 +41,29 @@ fn has_kind(alloc: Global, net: &Net, text: &[u8], kind: Kind) -> bool {
     }
 }
 
-#[test]
-fn a_step_puts_four_agents_in_place_of_two(rt: HostRuntime) -> Result<(), Fail> {
-    let net = passed(rt.alloc()).ok_or("a net")?;
-    assert_eq!(rt; net.agents(), 4);
-    assert_eq!(rt; net.wires(), 7);
-    assert_eq!(rt; net.rings(), 0);
-    Ok(())
+/// How many agents, wires and rings are there then.
+fn counts_when_passed(alloc: Global) -> Option<(usize, u64, u64)> {
+    Some(counts(&passed(alloc)?))
 }
 
 #[test]
-fn the_agents_of_a_step_go_and_their_children_come(rt: HostRuntime) -> Result<(), Fail> {
-    let net = passed(rt.alloc()).ok_or("a net")?;
-    assert!(rt; is_of_kind(rt.alloc(), &net, 0, None));
-    assert!(rt; has_kind(rt.alloc(), &net, b"0.1", Kind::Delta));
-    assert!(rt; has_kind(rt.alloc(), &net, b"0.2", Kind::Gamma));
-    Ok(())
+fn a_step_puts_four_agents_in_place_of_two(rt: HostRuntime) {
+    assert_eq!(rt; counts_when_passed(rt.alloc()), Some((4, 7, 0)));
+}
+
+/// Whether the agents that met are gone then, and their children are there.
+fn children_came(alloc: Global) -> Option<bool> {
+    let net = passed(alloc)?;
+    Some(
+        is_of_kind(alloc, &net, 0, None)
+            && has_kind(alloc, &net, b"0.1", Kind::Delta)
+            && has_kind(alloc, &net, b"0.2", Kind::Gamma),
+    )
+}
+
+#[test]
+fn the_agents_of_a_step_go_and_their_children_come(rt: HostRuntime) {
+    assert_eq!(rt; children_came(rt.alloc()), Some(true));
 }
 
 /// Whether the partner of a port is this port of the agent of this name.
@@ -79,13 +85,19 @@ fn first_child_meets(alloc: Global, net: &Net, own: u8, text: &[u8], number: u8)
     }
 }
 
+/// Whether the children are wired up then.
+fn are_wired(alloc: Global) -> Option<bool> {
+    let net = passed(alloc)?;
+    Some(
+        first_child_meets(alloc, &net, 0, b"0.2", 0)
+            && first_child_meets(alloc, &net, 2, b"0.3", 1)
+            && meets(alloc, &net, &Port::Name(2), b"0.3", 0),
+    )
+}
+
 #[test]
-fn a_step_wires_up_its_children(rt: HostRuntime) -> Result<(), Fail> {
-    let net = passed(rt.alloc()).ok_or("a net")?;
-    assert!(rt; first_child_meets(rt.alloc(), &net, 0, b"0.2", 0));
-    assert!(rt; first_child_meets(rt.alloc(), &net, 2, b"0.3", 1));
-    assert!(rt; meets(rt.alloc(), &net, &Port::Name(2), b"0.3", 0));
-    Ok(())
+fn a_step_wires_up_its_children(rt: HostRuntime) {
+    assert_eq!(rt; are_wired(rt.alloc()), Some(true));
 }
 
 /// What is wrong with the step of two agents as epsilons, if the net stays as it was.
@@ -114,11 +126,12 @@ fn annihilated(alloc: Global) -> Option<Net> {
     stepped(alloc, &start, Kind::Gamma, Kind::Gamma)
 }
 
+/// How many agents, wires and rings they leave.
+fn counts_when_annihilated(alloc: Global) -> Option<(usize, u64, u64)> {
+    Some(counts(&annihilated(alloc)?))
+}
+
 #[test]
-fn two_gammas_wired_straight_leave_two_rings(rt: HostRuntime) -> Result<(), Fail> {
-    let net = annihilated(rt.alloc()).ok_or("a net")?;
-    assert_eq!(rt; net.agents(), 0);
-    assert_eq!(rt; net.wires(), 0);
-    assert_eq!(rt; net.rings(), 2);
-    Ok(())
+fn two_gammas_wired_straight_leave_two_rings(rt: HostRuntime) {
+    assert_eq!(rt; counts_when_annihilated(rt.alloc()), Some((0, 0, 2)));
 }

@@ -43,18 +43,40 @@ pub(crate) fn put(table: &mut PortTable, row: Row) -> bool {
     table.add(added).is_ok()
 }
 
+/// Puts in these links. It is `false` where one can't be put in.
+fn put_all(table: &mut PortTable, rows: &[Row]) -> bool {
+    for row in rows {
+        if !put(table, *row) {
+            return false;
+        }
+    }
+    true
+}
+
 /// A table of these links.
 fn table_of(alloc: Global, rows: &[Row]) -> Option<PortTable> {
     let mut table = PortTable::empty(alloc);
-    for row in rows {
-        if !put(&mut table, *row) {
-            return None;
-        }
+    if put_all(&mut table, rows) {
+        Some(table)
+    } else {
+        None
     }
-    Some(table)
 }
 
-/// What two links that make a path answer of each name.
+/// Whether a table answers so of these names, and has so many rings.
+fn answers(table: &PortTable, fars: &[(u32, Far)], rings: u64) -> bool {
+    for (name, far) in fars {
+        if table.far(Spot::Name(*name)) != *far {
+            return false;
+        }
+    }
+    table.rings() == rings
+}
+
+/// Two links that make a path.
+const TWO_LINKS: [Row; 2] = [(1, 0, 4, 5), (2, 1, 6, 5)];
+
+/// What a table of them answers of each name.
 const FARS: [(u32, Far); 4] = [
     (4, Far::End(Spot::Name(6))),
     (5, Far::Joint),
@@ -64,71 +86,85 @@ const FARS: [(u32, Far); 4] = [
 
 #[test]
 fn two_links_make_a_path(rt: HostRuntime) -> Result<(), Fail> {
-    let table = table_of(rt.alloc(), &[(1, 0, 4, 5), (2, 1, 6, 5)]).ok_or("a path")?;
-    for (name, far) in &FARS {
-        assert_eq!(rt; table.far(Spot::Name(*name)), *far);
-    }
-    assert_eq!(rt; table.rings(), 0);
+    let table = table_of(rt.alloc(), &TWO_LINKS).ok_or("a path")?;
+    assert!(rt; answers(&table, &FARS, 0));
     Ok(())
+}
+
+/// Whether the path of two links has them in order, from either end.
+fn is_in_order(alloc: Global, table: &PortTable) -> bool {
+    has_places(alloc, table, 4, &[0, 1]) && has_places(alloc, table, 6, &[1, 0])
 }
 
 #[test]
 fn a_path_has_its_links_in_order(rt: HostRuntime) -> Result<(), Fail> {
-    let table = table_of(rt.alloc(), &[(1, 0, 4, 5), (2, 1, 6, 5)]).ok_or("a path")?;
-    assert!(rt; has_places(rt.alloc(), &table, 4, &[0, 1]));
-    assert!(rt; has_places(rt.alloc(), &table, 6, &[1, 0]));
+    let table = table_of(rt.alloc(), &TWO_LINKS).ok_or("a path")?;
+    assert!(rt; is_in_order(rt.alloc(), &table));
     Ok(())
 }
 
-#[test]
-fn a_long_path_touches_few_records(rt: HostRuntime) -> Result<(), Fail> {
-    let mut table = PortTable::empty(rt.alloc());
+/// Puts in a path of a thousand links, in turn from name 0 to name 1,000. Whether each touches few records.
+fn put_long_path(table: &mut PortTable) -> bool {
     for i in 0..1_000 {
-        assert!(rt; put(&mut table, (i, i, i, i + 1)));
-        assert!(rt; table.touched() <= 4);
-    }
-    assert_eq!(rt; table.far(Spot::Name(0)), Far::End(Spot::Name(1_000)));
-    let whole = path_places(rt.alloc(), &table, 0).ok_or("a path")?;
-    assert_eq!(rt; whole.len(), 1_000);
-    Ok(())
-}
-
-/// A table with a path of a thousand links, in turn from name 0 to name 1,000.
-fn long_path(alloc: Global) -> Option<PortTable> {
-    let mut table = PortTable::empty(alloc);
-    for i in 0..1_000 {
-        if !put(&mut table, (i, i, i, i + 1)) {
-            return None;
+        if !put(table, (i, i, i, i + 1)) || table.touched() > 4 {
+            return false;
         }
     }
-    Some(table)
+    true
 }
 
-/// The names at the ends of the two halves of the long path, each with its far end.
-const HALVES: [(u32, u32); 4] = [(0, 500), (500, 0), (501, 1_000), (1_000, 501)];
-
-#[test]
-fn a_long_path_is_split_in_its_middle(rt: HostRuntime) -> Result<(), Fail> {
-    let mut table = long_path(rt.alloc()).ok_or("a path")?;
-    table.take_of(event(500));
-    assert_eq!(rt; table.touched(), 4);
-    for (near, far) in &HALVES {
-        assert_eq!(rt; table.far(Spot::Name(*near)), Far::End(Spot::Name(*far)));
+/// The number of links of that path, if it leads to its end.
+fn long_path_len(alloc: Global, table: &PortTable) -> Option<usize> {
+    if table.far(Spot::Name(0)) != Far::End(Spot::Name(1_000)) {
+        return None;
     }
-    Ok(())
+    Some(path_places(alloc, table, 0)?.len())
 }
 
 #[test]
-fn a_ring_is_closed_and_opened(rt: HostRuntime) -> Result<(), Fail> {
-    let rows = [(1, 0, 1, 2), (2, 0, 2, 3), (3, 0, 3, 1)];
-    let mut table = table_of(rt.alloc(), &rows).ok_or("a ring")?;
-    assert_eq!(rt; table.rings(), 1);
-    assert_eq!(rt; table.far(Spot::Name(1)), Far::Joint);
+fn a_long_path_touches_few_records(rt: HostRuntime) {
+    let mut table = PortTable::empty(rt.alloc());
+    assert!(rt; put_long_path(&mut table));
+    assert_eq!(rt; long_path_len(rt.alloc(), &table), Some(1_000));
+}
+
+/// The far ends of the names at the ends of the two halves of the long path.
+const HALVES: [(u32, Far); 4] = [
+    (0, Far::End(Spot::Name(500))),
+    (500, Far::End(Spot::Name(0))),
+    (501, Far::End(Spot::Name(1_000))),
+    (1_000, Far::End(Spot::Name(501))),
+];
+
+/// Whether the long path is split in its middle.
+fn is_split(table: &mut PortTable) -> bool {
+    table.take_of(event(500));
+    table.touched() == 4 && answers(table, &HALVES, 0)
+}
+
+#[test]
+fn a_long_path_is_split_in_its_middle(rt: HostRuntime) {
+    let mut table = PortTable::empty(rt.alloc());
+    assert!(rt; put_long_path(&mut table) && is_split(&mut table));
+}
+
+/// Three links that make a ring.
+const RING: [Row; 3] = [(1, 0, 1, 2), (2, 0, 2, 3), (3, 0, 3, 1)];
+
+/// What a table answers once the second of them is taken out.
+const OPENED: [(u32, Far); 2] = [(2, Far::End(Spot::Name(3))), (3, Far::End(Spot::Name(2)))];
+
+/// Whether the ring is closed, and opened when its second link is taken out.
+fn is_opened(table: &mut PortTable) -> bool {
+    let closed = answers(table, &[(1, Far::Joint)], 1);
     table.take_of(event(2));
-    assert_eq!(rt; table.rings(), 0);
-    assert_eq!(rt; table.far(Spot::Name(2)), Far::End(Spot::Name(3)));
-    assert_eq!(rt; table.far(Spot::Name(3)), Far::End(Spot::Name(2)));
-    Ok(())
+    closed && answers(table, &OPENED, 0)
+}
+
+#[test]
+fn a_ring_is_closed_and_opened(rt: HostRuntime) {
+    let mut table = PortTable::empty(rt.alloc());
+    assert!(rt; put_all(&mut table, &RING) && is_opened(&mut table));
 }
 
 /// Opens a ring at the link of a row, and closes it again. Whether the table said so.
@@ -140,38 +176,62 @@ fn reopened(table: &mut PortTable, row: Row) -> bool {
     put(table, row) && opened && far == Far::End(Spot::Name(b)) && table.rings() == 1
 }
 
+/// Puts in a ring of a thousand links.
+fn put_long_ring(table: &mut PortTable) -> bool {
+    for i in 0..1_000 {
+        if !put(table, (i, 0, i, (i + 1) % 1_000)) {
+            return false;
+        }
+    }
+    table.rings() == 1
+}
+
+/// Whether that ring is opened and closed again at each of 200 of its links.
+fn is_reopened(table: &mut PortTable) -> bool {
+    for i in 0..200 {
+        let line = 7 * i % 1_000;
+        if !reopened(table, (line, 0, line, (line + 1) % 1_000)) {
+            return false;
+        }
+    }
+    true
+}
+
 #[test]
 fn a_long_ring_is_opened_anywhere(rt: HostRuntime) {
     let mut table = PortTable::empty(rt.alloc());
-    for i in 0..1_000 {
-        assert!(rt; put(&mut table, (i, 0, i, (i + 1) % 1_000)));
-    }
-    assert_eq!(rt; table.rings(), 1);
-    for i in 0..200 {
-        let line = 7 * i % 1_000;
-        assert!(rt; reopened(&mut table, (line, 0, line, (line + 1) % 1_000)));
-    }
+    assert!(rt; put_long_ring(&mut table));
+    assert!(rt; is_reopened(&mut table));
+}
+
+/// A link from name 7 to itself.
+const SELF_LINK: [Row; 1] = [(1, 0, 7, 7)];
+
+/// How many rings a table has, how many records were touched at last, and how many link ends are at name 7.
+fn counts_at_self_link(table: &PortTable) -> (u64, u64, u8) {
+    (table.rings(), table.touched(), table.degree(Spot::Name(7)))
 }
 
 #[test]
 fn a_self_link_is_a_ring(rt: HostRuntime) -> Result<(), Fail> {
-    let table = table_of(rt.alloc(), &[(1, 0, 7, 7)]).ok_or("a ring")?;
-    assert_eq!(rt; table.rings(), 1);
-    assert_eq!(rt; table.touched(), 1);
-    assert_eq!(rt; table.degree(Spot::Name(7)), 2);
-    assert_eq!(rt; table.far(Spot::Name(7)), Far::Joint);
+    let table = table_of(rt.alloc(), &SELF_LINK).ok_or("a ring")?;
+    assert_eq!(rt; counts_at_self_link(&table), (1, 1, 2));
+    assert!(rt; answers(&table, &[(7, Far::Joint)], 1));
     Ok(())
 }
 
-#[test]
-fn a_self_link_gives_its_room_back(rt: HostRuntime) -> Result<(), Fail> {
-    let mut table = table_of(rt.alloc(), &[(1, 0, 7, 7)]).ok_or("a ring")?;
-    assert!(rt; !has_room(&table, &link((2, 0, 7, 8))));
+/// Whether another link finds room at name 7 only when the self link is taken out.
+fn gives_room_back(table: &mut PortTable) -> bool {
+    let other = link((2, 0, 7, 8));
+    let before = has_room(table, &other);
     table.take_of(event(1));
-    assert!(rt; has_room(&table, &link((2, 0, 7, 8))));
-    assert_eq!(rt; table.rings(), 0);
-    assert_eq!(rt; table.far(Spot::Name(7)), Far::Bare);
-    Ok(())
+    !before && has_room(table, &other) && answers(table, &[(7, Far::Bare)], 0)
+}
+
+#[test]
+fn a_self_link_gives_its_room_back(rt: HostRuntime) {
+    let mut table = PortTable::empty(rt.alloc());
+    assert!(rt; put_all(&mut table, &SELF_LINK) && gives_room_back(&mut table));
 }
 
 /// Whether these are the ids of the links from a loose name to its far end.
@@ -186,14 +246,18 @@ fn has_ids(table: &PortTable, from: u32, ids: &[LinkId]) -> bool {
     }
 }
 
+/// Whether the id of the link of this row is found, but not another one, and none once the link is taken out.
+fn has_its_id(table: &mut PortTable, row: Row) -> bool {
+    let (line, place, a, b) = row;
+    let found = has_ids(table, a, &[link(row).id])
+        && !has_ids(table, a, &[link((line, place.wrapping_add(1), a, b)).id]);
+    table.take_of(event(line));
+    found && !has_ids(table, a, &[link(row).id]) && table.degree(Spot::Name(a)) == 0
+}
+
 #[test]
-fn ids_are_found(rt: HostRuntime) -> Result<(), Fail> {
+fn ids_are_found(rt: HostRuntime) {
     let row = (1, 2, 4, 5);
-    let mut table = table_of(rt.alloc(), &[row]).ok_or("a link")?;
-    assert!(rt; has_ids(&table, 4, &[link(row).id]));
-    assert!(rt; !has_ids(&table, 4, &[link((1, 3, 4, 5)).id]));
-    table.take_of(event(1));
-    assert!(rt; !has_ids(&table, 4, &[link(row).id]));
-    assert_eq!(rt; table.degree(Spot::Name(4)), 0);
-    Ok(())
+    let mut table = PortTable::empty(rt.alloc());
+    assert!(rt; put(&mut table, row) && has_its_id(&mut table, row));
 }

@@ -118,14 +118,23 @@ fn two_that_meet(alloc: Global) -> Result<Start, TextFault> {
     read_net(alloc, b"G(x,a) = D(E,x); # done")
 }
 
+/// The kinds of the agents of that start, by number.
+const KINDS: [Kind; 3] = [Kind::Gamma, Kind::Delta, Kind::Eps];
+
+/// Whether the agents of a start are of those kinds.
+fn has_kinds(start: &Start) -> bool {
+    for number in 0..KINDS.len() {
+        if start.kind(number) != Some(KINDS[number]) {
+            return false;
+        }
+    }
+    start.agents() == KINDS.len() && start.kind(KINDS.len()).is_none()
+}
+
 #[test]
 fn two_agents_that_meet(rt: HostRuntime) -> Result<(), TextFault> {
     let start = two_that_meet(rt.alloc())?;
-    assert_eq!(rt; start.agents(), 3);
-    assert_eq!(rt; start.kind(0), Some(Kind::Gamma));
-    assert_eq!(rt; start.kind(1), Some(Kind::Delta));
-    assert_eq!(rt; start.kind(2), Some(Kind::Eps));
-    assert_eq!(rt; start.kind(3), None);
+    assert!(rt; has_kinds(&start));
     Ok(())
 }
 
@@ -166,12 +175,17 @@ fn has_names(start: &Start, first: &[u8], second: &[u8]) -> bool {
     names.len() == 2 && names.get(0) == Some(first) && names.get(1) == Some(second)
 }
 
+/// Whether a start has the links, the names and the profile of two agents that meet.
+fn has_parts(start: &Start) -> bool {
+    has_links(start, &ends_of_two())
+        && has_names(start, b"x", b"a")
+        && start.profile() == Profile::Classic
+}
+
 #[test]
 fn two_agents_that_meet_have_links(rt: HostRuntime) -> Result<(), TextFault> {
     let start = two_that_meet(rt.alloc())?;
-    assert!(rt; has_links(&start, &ends_of_two()));
-    assert!(rt; has_names(&start, b"x", b"a"));
-    assert_eq!(rt; start.profile(), Profile::Classic);
+    assert!(rt; has_parts(&start));
     Ok(())
 }
 
