@@ -48,10 +48,15 @@ pub fn fire<B: Ledger, R: Wait>(
     if seen == Some(id) { seen } else { None }
 }
 
+/// The net of a bench, as text.
+pub fn net_of(alloc: Global, bench: &Bench<Store>) -> Option<Vec<u8>> {
+    let net = bench.net().ok()?;
+    print_net(alloc, &net, bench.start().names()).ok()
+}
+
 /// The net of a bench and its journal, as text.
 pub fn shown(alloc: Global, bench: &Bench<Store>) -> Option<Vec<u8>> {
-    let net = bench.net().ok()?;
-    let mut text = print_net(alloc, &net, bench.start().names()).ok()?;
+    let mut text = net_of(alloc, bench)?;
     let journal = bench.journal().ok()?;
     text.extend_from_slice(&journal).ok()?;
     Some(text)

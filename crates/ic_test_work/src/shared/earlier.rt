@@ -2,9 +2,10 @@
 ghost use Rattle.std.specs.Prelude.{◌≡◌};
 
 use crate::benches::{FOUR_COPIES, bench_over, fire, proposal, shown};
+use crate::shared::refused_growth::first_pair;
 use ic_journal::{Bench, Store};
-use ic_name::Reply;
-use ic_shared::{settle, share};
+use ic_name::{EventId, Reply};
+use ic_shared::{Opening, Pass, Shared, settle, share};
 use ic_work::{End, NoGate, sweep};
 use std::alloc::Global;
 use std::marker::Brand;
@@ -18,8 +19,7 @@ use std::thread::Threads;
 fn call_each(alloc: Global, bench: &mut Bench<Store>) -> Option<()> {
     let first = bench.fire(proposal(alloc, 0, 2)?).ok()?;
     let _ = bench.fire(proposal(alloc, 0, 2)?);
-    let pair = *bench.active().ok()?.first()?;
-    let second = bench.fire(bench.propose(pair.lead, pair.other).ok()?).ok()?;
+    let second = bench.fire(first_pair(bench)?).ok()?;
     let _ = bench.undo(first);
     bench.undo(second).ok()?;
     let _ = bench.undo(second);
@@ -47,6 +47,26 @@ fn replied(bench: &Bench<Store>) -> Option<bool> {
     Some(lines.len() == REPLIES.len())
 }
 
+/// Fires an event with the last of these passes.
+fn fire_one<B: Ledger, R: Wait>(
+    rt: &R,
+    alloc: Global,
+    shared: &Shared<B>,
+    passes: &mut [Pass<B>],
+) -> Option<EventId> {
+    fire(rt, alloc, shared, passes.last_mut()?, 4, 6)
+}
+
+/// How many lines settle, and how many the bench has then.
+fn lines_of<B: Ledger>(
+    opening: Opening<B>,
+    passes: Vec<Pass<B>>,
+    shared: Shared<B>,
+) -> Option<(u32, u32)> {
+    let settled = settle(opening, passes, shared).ok()?;
+    Some((settled.lines, settled.bench.lines()))
+}
+
 /// Whether a bench on which these calls were made is settled with one line more, once an event was fired on it.
 fn settles_with_one_more<B: Ledger, R: Wait>(
     rt: &R,
@@ -58,18 +78,19 @@ fn settles_with_one_more<B: Ledger, R: Wait>(
     requires parts { (blank.parts ≡ B.parts) × (blank.parts ≡ 2) }
 {
     let (shared, opening, mut passes) = share::<B>(alloc, bench, blank, 1).ok()?;
-    fire(rt, alloc, &shared, passes.last_mut()?, 4, 6)?;
-    let settled = settle(opening, passes, shared).ok()?;
-    Some(settled.lines == 1 && settled.bench.lines() == 7)
+    let fired = fire_one(rt, alloc, &shared, passes.as_mut_slice());
+    let lines = lines_of(opening, passes, shared)?;
+    fired?;
+    Some(lines == (1, 7))
 }
 
 fn all_replies<R: Wait>(rt: &R, alloc: Global) -> Option<bool> {
     let mut bench = bench_over(alloc, FOUR_COPIES)?;
-    call_each(alloc, &mut bench)?;
-    if replied(&bench) != Some(true) {
-        return Some(false);
-    }
-    settles_with_one_more::<Brand, R>(rt, alloc, bench, Blank::new(2))
+    let called = call_each(alloc, &mut bench);
+    let replied = replied(&bench);
+    let settled = settles_with_one_more::<Brand, R>(rt, alloc, bench, Blank::new(2))?;
+    called?;
+    Some(replied? && settled)
 }
 
 #[test]

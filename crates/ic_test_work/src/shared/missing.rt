@@ -23,6 +23,18 @@ fn fault_of<B: Ledger>(
     }
 }
 
+/// Fires an event with the last pass and one with the first.
+fn fire_with_each<B: Ledger, R: Wait>(
+    rt: &R,
+    alloc: Global,
+    shared: &Shared<B>,
+    passes: &mut [Pass<B>],
+) -> Option<()> {
+    fire(rt, alloc, shared, passes.last_mut()?, 4, 6)?;
+    fire(rt, alloc, shared, passes.first_mut()?, 8, 10)?;
+    Some(())
+}
+
 /// The fault after a firing of either pass, of which one is kept back.
 fn fault_without_a_pass<B: Ledger, R: Wait>(
     rt: &R,
@@ -34,10 +46,12 @@ fn fault_without_a_pass<B: Ledger, R: Wait>(
     requires parts { (blank.parts ≡ B.parts) × (blank.parts ≡ 3) }
 {
     let (shared, opening, mut passes) = share::<B>(alloc, bench, blank, 2).ok()?;
-    let mut kept = passes.pop()?;
-    fire(rt, alloc, &shared, &mut kept, 4, 6)?;
-    fire(rt, alloc, &shared, passes.last_mut()?, 8, 10)?;
-    fault_of(opening, passes, shared)
+    let fired = fire_with_each(rt, alloc, &shared, passes.as_mut_slice());
+    let kept = passes.pop();
+    let fault = fault_of(opening, passes, shared)?;
+    fired?;
+    kept?;
+    Some(fault)
 }
 
 fn one_kept_back<R: Wait>(rt: &R, alloc: Global) -> Option<(u8, u32)> {

@@ -2,8 +2,9 @@
 ghost use Rattle.std.specs.Prelude.{◌≡◌};
 
 use crate::benches::{FOUR_COPIES, bench_over};
+use crate::shared::stale::settled_lines;
 use ic_journal::{Bench, FireFault, Proposal, Store};
-use ic_shared::{Pass, Shared, settle, share};
+use ic_shared::{Pass, Shared, share};
 use ic_work::{NoGate, SweepFault, sweep};
 use std::alloc::Global;
 use std::marker::Brand;
@@ -45,8 +46,13 @@ fn fires<B: Ledger, R: Wait>(rt: &R, shared: &Shared<B>, pass: &mut Pass<B>) -> 
     }
 }
 
-/// Whether this is so of each of the sixteen firings.
-fn fires_all<B: Ledger, R: Wait>(rt: &R, shared: &Shared<B>, pass: &mut Pass<B>) -> Option<bool> {
+/// Whether this is so of each of the sixteen firings, with the last of these passes.
+fn fires_all<B: Ledger, R: Wait>(
+    rt: &R,
+    shared: &Shared<B>,
+    passes: &mut [Pass<B>],
+) -> Option<bool> {
+    let pass = passes.last_mut()?;
     let mut right = true;
     for _ in 0..16u32 {
         right = right && fires(rt, shared, pass)?;
@@ -68,9 +74,9 @@ fn settles<B: Ledger, R: Wait>(
     let Ok((shared, opening, mut passes)) = share::<B>(alloc, bench, blank, 1) else {
         return Some(true);
     };
-    let right = fires_all(rt, &shared, passes.last_mut()?)?;
-    let settled = settle(opening, passes, shared).ok()?;
-    Some(right && settled.lines == 16)
+    let right = fires_all(rt, &shared, passes.as_mut_slice());
+    let lines = settled_lines(opening, passes, shared)?;
+    Some(right? && lines == 16)
 }
 
 /// A bench over the four copies, at the first try or the second.

@@ -55,8 +55,8 @@ fn call_in_two_threads<B: Ledger + Send + Sync, R: Threads + Wait + Sync>(
     rt: &R,
     alloc: Global,
     shared: &Shared<B>,
-    mut passes: Vec<Pass<B>>,
-) -> Option<Vec<Pass<B>>> {
+    passes: &mut Vec<Pass<B>>,
+) -> Option<()> {
     let first = passes.pop()?;
     let second = passes.pop()?;
     let (first, second) = join(
@@ -66,7 +66,7 @@ fn call_in_two_threads<B: Ledger + Send + Sync, R: Threads + Wait + Sync>(
     );
     passes.push(first?).ok()?;
     passes.push(second?).ok()?;
-    Some(passes)
+    Some(())
 }
 
 /// Whether each receipt is the line of the history that has its number.
@@ -104,12 +104,12 @@ fn settled_of_two<B: Ledger + Send + Sync, R: Threads + Wait + Sync>(
     requires name { blank.name ≡ B.name }
     requires parts { (blank.parts ≡ B.parts) × (blank.parts ≡ 3) }
 {
-    let (shared, opening, passes) = share::<B>(alloc, bench, blank, 2).ok()?;
-    let passes = call_in_two_threads(rt, alloc, &shared, passes)?;
-    if !are_confirmed(rt, &shared, passes.as_slice()) {
-        return None;
-    }
-    settled(opening, passes, shared)
+    let (shared, opening, mut passes) = share::<B>(alloc, bench, blank, 2).ok()?;
+    let called = call_in_two_threads(rt, alloc, &shared, &mut passes);
+    let confirmed = are_confirmed(rt, &shared, passes.as_slice());
+    let settled = settled(opening, passes, shared)?;
+    called?;
+    if confirmed { Some(settled) } else { None }
 }
 
 fn two_threads<R: Threads + Wait + Sync>(rt: &R, alloc: Global) -> Option<(u32, usize)> {
@@ -146,8 +146,10 @@ fn settled_with_an_idle_one<B: Ledger, R: Wait>(
     requires parts { (blank.parts ≡ B.parts) × (blank.parts ≡ 4) }
 {
     let (shared, opening, mut passes) = share::<B>(alloc, bench, blank, 3).ok()?;
-    fire_beside_an_idle_one(rt, alloc, &shared, passes.as_mut_slice())?;
-    settled(opening, passes, shared)
+    let fired = fire_beside_an_idle_one(rt, alloc, &shared, passes.as_mut_slice());
+    let settled = settled(opening, passes, shared)?;
+    fired?;
+    Some(settled)
 }
 
 fn one_idle<R: Wait>(rt: &R, alloc: Global) -> Option<(u32, usize)> {

@@ -5,7 +5,7 @@ use crate::benches::{FOUR_COPIES, bench_over};
 use crate::shared::refused_growth::first_pair;
 use ic_journal::{Bench, Store};
 use ic_name::Reply;
-use ic_shared::{Pass, Shared, settle, share};
+use ic_shared::{Opening, Pass, Shared, settle, share};
 use std::alloc::Global;
 use std::marker::Brand;
 use std::sync::Wait;
@@ -33,6 +33,26 @@ fn last_receipt<B: Ledger>(pass: &Pass<B>) -> Option<(u32, Reply)> {
     Some((receipt.number, receipt.reply))
 }
 
+/// That refusal by the last of these passes, and what its last receipt says of it.
+fn told<B: Ledger, R: Wait>(
+    rt: &R,
+    shared: &Shared<B>,
+    passes: &mut [Pass<B>],
+) -> Option<(u8, (u32, Reply))> {
+    let number = second_refusal(rt, shared, passes.last_mut()?)?;
+    Some((number, last_receipt(passes.last()?)?))
+}
+
+/// How many lines settle.
+pub(crate) fn settled_lines<B: Ledger>(
+    opening: Opening<B>,
+    passes: Vec<Pass<B>>,
+    shared: Shared<B>,
+) -> Option<u32> {
+    let settled = settle(opening, passes, shared).ok()?;
+    Some(settled.lines)
+}
+
 /// That refusal, what the last receipt says of it, and how many lines settle.
 fn refused<B: Ledger, R: Wait>(
     rt: &R,
@@ -44,10 +64,10 @@ fn refused<B: Ledger, R: Wait>(
     requires parts { (blank.parts ≡ B.parts) × (blank.parts ≡ 2) }
 {
     let (shared, opening, mut passes) = share::<B>(alloc, bench, blank, 1).ok()?;
-    let number = second_refusal(rt, &shared, passes.last_mut()?)?;
-    let told = last_receipt(passes.last()?)?;
-    let settled = settle(opening, passes, shared).ok()?;
-    Some((number, told, settled.lines))
+    let told = told(rt, &shared, passes.as_mut_slice());
+    let lines = settled_lines(opening, passes, shared)?;
+    let (number, receipt) = told?;
+    Some((number, receipt, lines))
 }
 
 fn stale<R: Wait>(rt: &R, alloc: Global) -> Option<(u8, (u32, Reply), u32)> {

@@ -1,17 +1,15 @@
 ghost use Rattle.std.specs.Prelude.{◌≡◌};
 
-use crate::benches::{FOUR_COPIES, bench_over};
+use crate::benches::{FOUR_COPIES, bench_over, net_of};
 use ic_journal::{Bench, Proposal, Store};
 use ic_name::{Call, Event, EventId, Line};
 use ic_shared::{Pass, Shared, settle, share};
-use ic_text::print_net;
 use ic_undo::undo_all;
 use ic_work::{End, NoGate, sweep};
 use std::alloc::Global;
 use std::marker::Brand;
 use std::sync::Wait;
 use std::sync::ledger::{Blank, Ledger};
-use std::test::Fail;
 use std::thread::{Threads, for_each_mut};
 
 /// The turns that each pass makes.
@@ -98,12 +96,6 @@ fn repeat(bench: &mut Bench<Store>, line: &Line) -> Option<()> {
     Some(())
 }
 
-/// The text of what a bench shows.
-fn net_of(alloc: Global, bench: &Bench<Store>) -> Option<Vec<u8>> {
-    let net = bench.net().ok()?;
-    print_net(alloc, &net, bench.start().names()).ok()
-}
-
 /// Makes the calls of a history again.
 fn repeat_all(bench: &mut Bench<Store>, lines: &[Line]) -> Option<()> {
     for line in lines {
@@ -112,11 +104,24 @@ fn repeat_all(bench: &mut Bench<Store>, lines: &[Line]) -> Option<()> {
     Some(())
 }
 
-/// Whether a new bench on which the calls of the history are made again shows the same net.
+/// Whether two benches show the same net.
+fn show_the_same(alloc: Global, bench: &Bench<Store>, other: &Bench<Store>) -> Option<bool> {
+    let text = net_of(alloc, bench)?;
+    let other_text = net_of(alloc, other)?;
+    Some(text.as_slice() == other_text.as_slice())
+}
+
+/// Whether another bench shows the same net once the calls of the history are made again on it.
+fn shows_the_same(alloc: Global, bench: &Bench<Store>, other: &mut Bench<Store>) -> Option<bool> {
+    let lines = bench.history().ok()?;
+    repeat_all(other, &lines)?;
+    show_the_same(alloc, bench, other)
+}
+
+/// Whether a new bench does.
 fn shows_the_same_again(alloc: Global, bench: &Bench<Store>) -> Option<bool> {
     let mut again = bench_over(alloc, FOUR_COPIES)?;
-    repeat_all(&mut again, &bench.history().ok()?)?;
-    Some(net_of(alloc, bench)?.as_slice() == net_of(alloc, &again)?.as_slice())
+    shows_the_same(alloc, bench, &mut again)
 }
 
 /// The bench on which four threads made their turns, settled.
@@ -148,7 +153,13 @@ fn four_threads<R: Threads + Wait + Sync>(rt: &R, alloc: Global) -> Option<Bench
 /// Whether the bench shows the net of the start.
 fn shows_the_start(alloc: Global, bench: &Bench<Store>) -> Option<bool> {
     let fresh = bench_over(alloc, FOUR_COPIES)?;
-    Some(net_of(alloc, bench)?.as_slice() == net_of(alloc, &fresh)?.as_slice())
+    show_the_same(alloc, bench, &fresh)
+}
+
+/// Whether sixteen events are undone, and the bench shows the start then.
+fn clears(alloc: Global, bench: &mut Bench<Store>) -> Option<bool> {
+    let undone = undo_all(alloc, bench).ok()?.len();
+    Some(undone == 16 && shows_the_start(alloc, bench)?)
 }
 
 /// Whether a sweep by four workers leaves all sixteen events at its normal end, and undoing them shows the start again.
@@ -157,17 +168,19 @@ fn sweeps_and_clears<R: Threads + Wait + Sync>(
     alloc: Global,
     bench: Bench<Store>,
 ) -> Option<bool> {
-    let swept = sweep(rt, alloc, bench, 4, 1_048_576, &NoGate).ok()?;
-    let normal = swept.end == End::Normal;
-    let mut bench = swept.bench;
-    let undone = undo_all(alloc, &mut bench).ok()?.len();
-    Some(normal && undone == 16 && shows_the_start(alloc, &bench)?)
+    let mut swept = sweep(rt, alloc, bench, 4, 1_048_576, &NoGate).ok()?;
+    Some(swept.end == End::Normal && clears(alloc, &mut swept.bench)?)
+}
+
+/// Whether the bench of four threads shows the same net again, and whether it is swept and cleared.
+fn after_four_threads<R: Threads + Wait + Sync>(rt: &R, alloc: Global) -> Option<(bool, bool)> {
+    let bench = four_threads(rt, alloc)?;
+    let same = shows_the_same_again(alloc, &bench);
+    let cleared = sweeps_and_clears(rt, alloc, bench);
+    Some((same?, cleared?))
 }
 
 #[test]
-fn four_threads_settle_under_stress(rt: HostRuntime) -> Result<(), Fail> {
-    let bench = four_threads(&rt, rt.alloc()).ok_or("four threads")?;
-    assert_eq!(rt; shows_the_same_again(rt.alloc(), &bench), Some(true));
-    assert_eq!(rt; sweeps_and_clears(&rt, rt.alloc(), bench), Some(true));
-    Ok(())
+fn four_threads_settle_under_stress(rt: HostRuntime) {
+    assert_eq!(rt; after_four_threads(&rt, rt.alloc()), Some((true, true)));
 }

@@ -78,6 +78,26 @@ fn holding(hold: Hold) -> HoldsFirst {
     }
 }
 
+/// Whether so many workers fire so many events, and all there are, with a gate that holds workers so.
+fn fires_all<R: Threads + Wait + Sync>(
+    rt: &R,
+    alloc: Global,
+    text: &[u8],
+    hold: Hold,
+    gate: &HoldsFirst,
+) -> Result<bool, Fail> {
+    if hold.held >= MAX_WORKERS || hold.budget > MAX_BUDGET {
+        return Ok(false);
+    }
+    let workers = hold.held + 1;
+    let bench = bench_over(alloc, text).ok_or("a bench")?;
+    let swept = sweep(rt, alloc, bench, workers, hold.budget, gate)
+        .ok()
+        .ok_or("a sweep that settles")?;
+    let whole = swept.fired == hold.events && swept.end == End::Normal;
+    Ok(whole && swept.ran == workers)
+}
+
 /// Whether all events over the net of this text are fired where workers are held so.
 fn goes_on<R: Threads + Wait + Sync>(
     rt: &R,
@@ -85,19 +105,11 @@ fn goes_on<R: Threads + Wait + Sync>(
     text: &[u8],
     hold: Hold,
 ) -> Result<bool, Fail> {
-    if hold.held >= MAX_WORKERS || hold.budget > MAX_BUDGET {
-        return Ok(false);
-    }
     let gate = holding(hold);
-    let workers = hold.held + 1;
-    let bench = bench_over(alloc, text).ok_or("a bench")?;
-    let swept = sweep(rt, alloc, bench, workers, hold.budget, &gate)
-        .ok()
-        .ok_or("a sweep that settles")?;
+    let whole = fires_all(rt, alloc, text, hold, &gate)?;
     let held = gate.seen.load(Ordering::SeqCst) == u64::from(hold.held);
     let early = !gate.late.load(Ordering::SeqCst);
-    let whole = swept.fired == hold.events && swept.end == End::Normal;
-    Ok(held && early && whole && swept.ran == workers)
+    Ok(held && early && whole)
 }
 
 /// Puts the name with this number in.

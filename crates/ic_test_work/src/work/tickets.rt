@@ -56,6 +56,31 @@ impl Notes {
     }
 }
 
+/// Notes of so many tickets.
+fn empty_notes(alloc: Global, count: usize) -> Option<Notes> {
+    Some(Notes {
+        asked: zeros(alloc, count).ok()?,
+        told: zeros(alloc, count).ok()?,
+    })
+}
+
+/// How many events workers fire with a gate.
+fn fired<R: Threads + Wait + Sync>(
+    rt: &R,
+    alloc: Global,
+    text: &[u8],
+    limits: (u32, u32),
+    gate: &Notes,
+) -> Option<u32> {
+    let (workers, budget) = limits;
+    if workers == 0 || workers > 64 || budget > 1_000 {
+        return None;
+    }
+    let bench = bench_over(alloc, text)?;
+    let swept = sweep(rt, alloc, bench, workers, budget, gate).ok()?;
+    Some(swept.fired)
+}
+
 /// How many events workers fire, and how often the gate is told of a ticket, of which none comes twice.
 fn commits<R: Threads + Wait + Sync>(
     rt: &R,
@@ -64,17 +89,9 @@ fn commits<R: Threads + Wait + Sync>(
     workers: u32,
     budget: u32,
 ) -> Option<(u32, u64)> {
-    if workers == 0 || workers > 64 || budget > 1_000 {
-        return None;
-    }
-    let count = budget as usize * 2;
-    let gate = Notes {
-        asked: zeros(alloc, count).ok()?,
-        told: zeros(alloc, count).ok()?,
-    };
-    let bench = bench_over(alloc, text)?;
-    let swept = sweep(rt, alloc, bench, workers, budget, &gate).ok()?;
-    Some((swept.fired, gate.told_once()?))
+    let gate = empty_notes(alloc, budget as usize * 2)?;
+    let fired = fired(rt, alloc, text, (workers, budget), &gate)?;
+    Some((fired, gate.told_once()?))
 }
 
 #[test]
