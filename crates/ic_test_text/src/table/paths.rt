@@ -6,7 +6,6 @@ use ic_link::{Far, LinkStore, has_room};
 use ic_name::{EventId, Link, LinkId, MakerId, Spot};
 use ic_table::PortTable;
 use std::alloc::Global;
-use std::test::Fail;
 
 /// The event that stands in a line of a history.
 pub(crate) fn event(line: u32) -> EventId
@@ -53,16 +52,6 @@ fn put_all(table: &mut PortTable, rows: &[Row]) -> bool {
     true
 }
 
-/// A table of these links.
-fn table_of(alloc: Global, rows: &[Row]) -> Option<PortTable> {
-    let mut table = PortTable::empty(alloc);
-    if put_all(&mut table, rows) {
-        Some(table)
-    } else {
-        None
-    }
-}
-
 /// Whether a table answers so of these names, and has so many rings.
 fn answers(table: &PortTable, fars: &[(u32, Far)], rings: u64) -> bool {
     for (name, far) in fars {
@@ -85,10 +74,9 @@ const FARS: [(u32, Far); 4] = [
 ];
 
 #[test]
-fn two_links_make_a_path(rt: HostRuntime) -> Result<(), Fail> {
-    let table = table_of(rt.alloc(), &TWO_LINKS).ok_or("a path")?;
-    assert!(rt; answers(&table, &FARS, 0));
-    Ok(())
+fn two_links_make_a_path(rt: HostRuntime) {
+    let mut table = PortTable::empty(rt.alloc());
+    assert!(rt; put_all(&mut table, &TWO_LINKS) && answers(&table, &FARS, 0));
 }
 
 /// Whether the path of two links has them in order, from either end.
@@ -97,10 +85,9 @@ fn is_in_order(alloc: Global, table: &PortTable) -> bool {
 }
 
 #[test]
-fn a_path_has_its_links_in_order(rt: HostRuntime) -> Result<(), Fail> {
-    let table = table_of(rt.alloc(), &TWO_LINKS).ok_or("a path")?;
-    assert!(rt; is_in_order(rt.alloc(), &table));
-    Ok(())
+fn a_path_has_its_links_in_order(rt: HostRuntime) {
+    let mut table = PortTable::empty(rt.alloc());
+    assert!(rt; put_all(&mut table, &TWO_LINKS) && is_in_order(rt.alloc(), &table));
 }
 
 /// Puts in a path of a thousand links, in turn from name 0 to name 1,000. Whether each touches few records.
@@ -207,17 +194,17 @@ fn a_long_ring_is_opened_anywhere(rt: HostRuntime) {
 /// A link from name 7 to itself.
 const SELF_LINK: [Row; 1] = [(1, 0, 7, 7)];
 
-/// How many rings a table has, how many records were touched at last, and how many link ends are at name 7.
-fn counts_at_self_link(table: &PortTable) -> (u64, u64, u8) {
-    (table.rings(), table.touched(), table.degree(Spot::Name(7)))
+/// Whether it is a ring, for which one record was touched, in which both its ends are.
+fn is_a_ring(table: &PortTable) -> bool {
+    table.touched() == 1
+        && table.degree(Spot::Name(7)) == 2
+        && answers(table, &[(7, Far::Joint)], 1)
 }
 
 #[test]
-fn a_self_link_is_a_ring(rt: HostRuntime) -> Result<(), Fail> {
-    let table = table_of(rt.alloc(), &SELF_LINK).ok_or("a ring")?;
-    assert_eq!(rt; counts_at_self_link(&table), (1, 1, 2));
-    assert!(rt; answers(&table, &[(7, Far::Joint)], 1));
-    Ok(())
+fn a_self_link_is_a_ring(rt: HostRuntime) {
+    let mut table = PortTable::empty(rt.alloc());
+    assert!(rt; put_all(&mut table, &SELF_LINK) && is_a_ring(&table));
 }
 
 /// Whether another link finds room at name 7 only when the self link is taken out.
