@@ -85,14 +85,20 @@ fn has_text(alloc: Global, table: &NameTable, id: NameId, text: &[u8]) -> Option
     Some(written.as_slice() == text)
 }
 
+/// Whether all names are found in a table and read back, and no other one is found.
+fn are_read_back(alloc: Global, table: &NameTable) -> Option<bool> {
+    for text in &NAMES {
+        if !is_found(alloc, table, text)? || !is_read_back(alloc, table, text)? {
+            return Some(false);
+        }
+    }
+    Some(is_found(alloc, table, b"7.1.3").is_none())
+}
+
 #[test]
 fn names_are_found_and_read_back(rt: HostRuntime) -> Result<(), Fail> {
     let table = table_of_names(rt.alloc()).ok_or("a table")?;
-    for text in &NAMES {
-        assert_eq!(rt; is_found(rt.alloc(), &table, text), Some(true));
-        assert_eq!(rt; is_read_back(rt.alloc(), &table, text), Some(true));
-    }
-    assert_eq!(rt; is_found(rt.alloc(), &table, b"7.1.3"), None);
+    assert_eq!(rt; are_read_back(rt.alloc(), &table), Some(true));
     Ok(())
 }
 
@@ -137,14 +143,23 @@ fn place(alloc: Global, table: &mut NameTable, text: &[u8]) -> Option<u32> {
     Some(entered(alloc, table, text)?.place)
 }
 
+/// Texts of names that are entered in turn, each with its place.
+const PLACES: [(&[u8], u32); 4] = [(b"5.0.1", 2), (b"3", 3), (b"5.0", 1), (b"5.0.2", 4)];
+
+/// How many names a table has once these are entered, if each has its place.
+fn len_in_order(alloc: Global, table: &mut NameTable) -> Option<usize> {
+    for (text, wanted) in &PLACES {
+        if place(alloc, table, text)? != *wanted {
+            return None;
+        }
+    }
+    Some(table.len())
+}
+
 #[test]
 fn places_are_in_the_order_of_entering(rt: HostRuntime) {
     let mut table = NameTable::new(rt.alloc());
-    assert_eq!(rt; place(rt.alloc(), &mut table, b"5.0.1"), Some(2));
-    assert_eq!(rt; place(rt.alloc(), &mut table, b"3"), Some(3));
-    assert_eq!(rt; place(rt.alloc(), &mut table, b"5.0"), Some(1));
-    assert_eq!(rt; place(rt.alloc(), &mut table, b"5.0.2"), Some(4));
-    assert_eq!(rt; table.len(), 5);
+    assert_eq!(rt; len_in_order(rt.alloc(), &mut table), Some(5));
 }
 
 /// Whether no name is read at a place.
@@ -153,14 +168,18 @@ fn has_no_name(table: &NameTable, place: u32) -> Option<bool> {
     Some(name.is_none())
 }
 
+/// Whether no name is read at place 0 of an empty table, and at place 2 of one of two names, of which this is the last.
+fn ends_behind(alloc: Global, table: &mut NameTable) -> Option<bool> {
+    let empty = has_no_name(table, 0)?;
+    let last = place(alloc, table, b"0.3")?;
+    let ended = !has_no_name(table, 1)? && has_no_name(table, 2)?;
+    Some(empty && last == 1 && ended)
+}
+
 #[test]
-fn places_beyond_the_names_have_none(rt: HostRuntime) -> Result<(), Fail> {
+fn places_beyond_the_names_have_none(rt: HostRuntime) {
     let mut table = NameTable::new(rt.alloc());
-    assert_eq!(rt; has_no_name(&table, 0), Some(true));
-    assert_eq!(rt; place(rt.alloc(), &mut table, b"0.3"), Some(1));
-    assert_eq!(rt; has_no_name(&table, 1), Some(false));
-    assert_eq!(rt; has_no_name(&table, 2), Some(true));
-    Ok(())
+    assert_eq!(rt; ends_behind(rt.alloc(), &mut table), Some(true));
 }
 
 /// Whether the child of agent 7 with a digit comes into the table, and is then the one that is found.

@@ -58,15 +58,21 @@ fn is_entered_again(alloc: Global, roster: &mut Roster, text: &[u8]) -> bool {
     enter(alloc, roster, text, Kind::Delta, 1).is_some()
 }
 
+/// Whether each agent of the table is found as soon as it is entered, and none is entered a second time.
+fn are_found(alloc: Global, roster: &mut Roster) -> bool {
+    for (text, kind, serial) in &AGENTS {
+        if !is_found(alloc, roster, text, *kind, *serial) || is_entered_again(alloc, roster, text) {
+            return false;
+        }
+    }
+    roster.lawful();
+    roster.agent_count() == 5
+}
+
 #[test]
 fn agents_are_found(rt: HostRuntime) {
     let mut roster = Roster::new(rt.alloc());
-    for (text, kind, serial) in &AGENTS {
-        assert!(rt; is_found(rt.alloc(), &mut roster, text, *kind, *serial));
-        assert!(rt; !is_entered_again(rt.alloc(), &mut roster, text));
-    }
-    roster.lawful();
-    assert_eq!(rt; roster.agent_count(), 5);
+    assert!(rt; are_found(rt.alloc(), &mut roster));
 }
 
 /// The kind and the serial number that are read of the agent of the name that a text writes.
@@ -91,14 +97,20 @@ fn enter_all(alloc: Global, roster: &mut Roster) -> bool {
     true
 }
 
+/// Whether the agents of the table are read as they were entered.
+fn are_read(alloc: Global, roster: &Roster) -> bool {
+    for (text, kind, serial) in &AGENTS {
+        if read_again(alloc, roster, text) != Some((*kind, *serial)) {
+            return false;
+        }
+    }
+    true
+}
+
 #[test]
 fn agents_are_read(rt: HostRuntime) {
     let mut roster = Roster::new(rt.alloc());
-    assert!(rt; enter_all(rt.alloc(), &mut roster));
-    for (text, kind, serial) in &AGENTS {
-        let read = read_again(rt.alloc(), &roster, text);
-        assert_eq!(rt; read, Some((*kind, *serial)));
-    }
+    assert!(rt; enter_all(rt.alloc(), &mut roster) && are_read(rt.alloc(), &roster));
 }
 
 /// Enters the agent 1, with the serial number 6, and lets it go again.
