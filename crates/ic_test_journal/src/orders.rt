@@ -1,7 +1,7 @@
 use ic_journal::{Bench, Store};
 use ic_name::limits::MAX_LINES;
 use ic_name::{Event, EventId};
-use ic_net::replay;
+use ic_net::{Net, replay};
 use ic_test_games::answers::answer_of;
 use ic_test_games::player::{Game, Player, wins};
 use ic_text::print_net;
@@ -81,17 +81,22 @@ fn is_printed(alloc: Global, bench: &Bench<Store>, text: &[u8]) -> Result<bool, 
     Ok(shown.as_slice() == text)
 }
 
+/// Whether a net is printed as the bench's is.
+fn is_shown(alloc: Global, bench: &Bench<Store>, net: &Net) -> Result<bool, Fail> {
+    let text = print_net(alloc, net, bench.start().names())?;
+    is_printed(alloc, bench, &text)
+}
+
 /// Whether the events are replayed to the bench's net.
 pub(crate) fn is_replayed(
     alloc: Global,
     bench: &Bench<Store>,
     events: &[Event],
 ) -> Result<bool, Fail> {
-    let Ok(replayed) = replay(alloc, bench.start(), events) else {
-        return Ok(false);
-    };
-    let text = print_net(alloc, &replayed, bench.start().names())?;
-    is_printed(alloc, bench, &text)
+    match replay(alloc, bench.start(), events) {
+        Ok(replayed) => is_shown(alloc, bench, &replayed),
+        Err(_) => Ok(false),
+    }
 }
 
 /// Whether the events are a causal order over the bench's start.
@@ -102,11 +107,16 @@ fn is_causal(alloc: Global, bench: &Bench<Store>, events: &[Event]) -> Result<bo
     Ok(is_causal_order(alloc, bench.start(), events)?)
 }
 
-/// Whether a causal order of what stands, which one by a number, leads to the bench's net.
+/// Whether events are a causal order that leads to the bench's net.
+fn events_agree(alloc: Global, bench: &Bench<Store>, events: &[Event]) -> Result<bool, Fail> {
+    Ok(is_causal(alloc, bench, events)? && is_replayed(alloc, bench, events)?)
+}
+
+/// Whether a causal order of what stands, which one by a number, does.
 fn order_agrees(alloc: Global, bench: &Bench<Store>, number: usize) -> Result<bool, Fail> {
     let ids = causal_order(alloc, bench, number)?;
     let events = events_under(alloc, bench, &ids)?;
-    Ok(is_causal(alloc, bench, &events)? && is_replayed(alloc, bench, &events)?)
+    events_agree(alloc, bench, &events)
 }
 
 /// Whether causal orders of what stands do.

@@ -1,25 +1,36 @@
+use crate::net::steps::is_printed;
 use crate::orders::is_replayed;
-use ic_name::Kind;
-use ic_net::{ReplayFault, StepFault, replay};
+use ic_name::{Event, Kind};
+use ic_net::{ReplayFault, Start, StepFault, replay};
 use ic_test_games::events::{
     COPYING, CROSSING, FIRST_ERASING, Meeting, SECOND_ERASING, VANISHING, events_of,
 };
 use ic_test_games::player::{Game, Player, Step, wins};
-use ic_text::{print_net, read_net};
+use ic_text::read_net;
 use std::alloc::Global;
 use std::test::Fail;
 
 /// A gamma is erased.
 const ERASING: Meeting = (b"0", Kind::Gamma, b"1", Kind::Eps);
 
-/// Whether the replay of the erasing alone is printed so.
+/// Whether the replay of events is printed so.
+fn is_replayed_to(
+    alloc: Global,
+    start: &Start,
+    events: &[Event],
+    printed: &[u8],
+) -> Result<bool, Fail> {
+    match replay(alloc, start, events) {
+        Ok(net) => is_printed(alloc, &net, start, printed),
+        Err(_) => Ok(false),
+    }
+}
+
+/// Whether that of the erasing alone is.
 fn is_erased_to(alloc: Global, printed: &[u8]) -> Result<bool, Fail> {
     let start = read_net(alloc, b"G(a,b) = E;")?;
     let events = events_of(alloc, &[ERASING])?;
-    match replay(alloc, &start, &events) {
-        Ok(net) => Ok(print_net(alloc, &net, start.names())?.as_slice() == printed),
-        Err(_) => Ok(false),
-    }
+    is_replayed_to(alloc, &start, &events, printed)
 }
 
 #[test]
@@ -33,10 +44,7 @@ fn an_event_is_replayed(rt: HostRuntime) -> Result<(), Fail> {
 fn fault_of(alloc: Global, text: &[u8], meetings: &[Meeting]) -> Result<Option<ReplayFault>, Fail> {
     let start = read_net(alloc, text)?;
     let events = events_of(alloc, meetings)?;
-    match replay(alloc, &start, &events) {
-        Ok(_) => Ok(None),
-        Err(fault) => Ok(Some(fault)),
-    }
+    Ok(replay(alloc, &start, &events).err())
 }
 
 /// Whether a replay of these meetings is refused at this place, with an event that isn't active.

@@ -22,12 +22,29 @@ fn refusal(
 }
 
 /// Whether a net over a start is printed so.
-fn is_printed(alloc: Global, net: &Net, start: &Start, printed: &[u8]) -> Result<bool, Fail> {
+pub(crate) fn is_printed(
+    alloc: Global,
+    net: &Net,
+    start: &Start,
+    printed: &[u8],
+) -> Result<bool, Fail> {
     let text = print_net(alloc, net, start.names())?;
     Ok(text.as_slice() == printed)
 }
 
-/// Whether the step of the agents 0 and 1 leads from the net of a text to one that is printed so.
+/// Whether the step of the agents 0 and 1, of these kinds, leads from the net of a start to one that is printed so.
+fn is_stepped(
+    alloc: Global,
+    start: &Start,
+    net: &mut Net,
+    kinds: (Kind, Kind),
+    printed: &[u8],
+) -> Result<bool, Fail> {
+    let (lead, other) = kinds;
+    Ok(refusal(alloc, net, lead, other)?.is_none() && is_printed(alloc, net, start, printed)?)
+}
+
+/// The same of the net of a text.
 fn steps_to(
     alloc: Global,
     text: &[u8],
@@ -37,10 +54,7 @@ fn steps_to(
 ) -> Result<bool, Fail> {
     let start = read_net(alloc, text)?;
     let mut net = Net::of_start(alloc, &start)?;
-    Ok(
-        refusal(alloc, &mut net, lead, other)?.is_none()
-            && is_printed(alloc, &net, &start, printed)?,
-    )
+    is_stepped(alloc, &start, &mut net, (lead, other), printed)
 }
 
 /// Texts of nets of two gammas or two epsilons, with what the net is printed as once they have met.
@@ -88,13 +102,17 @@ fn agents_of_two_kinds_pass_or_erase(rt: HostRuntime) -> Result<(), Fail> {
     Ok(())
 }
 
+/// Why the net of a start refuses the step of two epsilons, if it stays as it was.
+fn refusal_over(alloc: Global, start: &Start) -> Result<Option<StepFault>, Fail> {
+    let before = Net::of_start(alloc, start)?;
+    let mut net = Net::of_start(alloc, start)?;
+    let refusal = refusal(alloc, &mut net, Kind::Eps, Kind::Eps)?;
+    Ok(if net.same(&before) { refusal } else { None })
+}
+
 #[test]
 fn a_refused_step_leaves_the_net(rt: HostRuntime) -> Result<(), Fail> {
     let start = read_net(rt.alloc(), b"G(x,a) = E;")?;
-    let before = Net::of_start(rt.alloc(), &start)?;
-    let mut net = Net::of_start(rt.alloc(), &start)?;
-    let refusal = refusal(rt.alloc(), &mut net, Kind::Eps, Kind::Eps)?;
-    assert!(rt; refusal == Some(StepFault::NotActive));
-    assert!(rt; net.same(&before));
+    assert!(rt; refusal_over(rt.alloc(), &start)? == Some(StepFault::NotActive));
     Ok(())
 }

@@ -160,6 +160,17 @@ fn changes_are_told_apart<L: LinkStore>(
     Ok(true)
 }
 
+/// Whether moves lead the letters of a run to its firings, and changed ones don't.
+fn is_checked<L: LinkStore>(alloc: Global, bench: &Bench<L>, run: &Run) -> Result<bool, Fail> {
+    match moves_to_canonical(alloc, bench.start(), &run.letters) {
+        Ok(moves) => Ok(
+            leads(alloc, bench.start(), &run.letters, &moves, &run.to)?
+                && changes_are_told_apart(alloc, bench, run, &moves)?,
+        ),
+        Err(_) => Ok(false),
+    }
+}
+
 /// After some calls, which ones by a number, moves lead the letters to the firings of what stands, and changed ones don't.
 #[derive(Drop)]
 struct SomeSession(u32);
@@ -174,14 +185,7 @@ impl Game for SomeSession {
             letters: letters(alloc, &player.bench)?,
             to: firings(alloc, &player.bench)?,
         };
-        let start = player.bench.start();
-        match moves_to_canonical(alloc, start, &run.letters) {
-            Ok(moves) => Ok(
-                leads(alloc, start, &run.letters, &moves, &run.to)?
-                    && changes_are_told_apart(alloc, &player.bench, &run, &moves)?,
-            ),
-            Err(_) => Ok(false),
-        }
+        is_checked(alloc, &player.bench, &run)
     }
 }
 

@@ -99,12 +99,18 @@ fn fault_of(alloc: Global, letters: &[Letter]) -> Result<Option<TraceFault>, Fai
     Ok(moves_to_canonical(alloc, &start, letters).err())
 }
 
+/// Why there are none for the letters of these signs.
+fn fault_of_signs(alloc: Global, signs: &[Sign]) -> Result<Option<TraceFault>, Fail> {
+    let letters = letters_of(alloc, signs)?;
+    fault_of(alloc, &letters)
+}
+
 #[test]
 fn the_first_letter_that_is_refused_is_told(rt: HostRuntime) -> Result<(), Fail> {
-    let early = letters_of(rt.alloc(), &[EFFECT])?;
-    let held = letters_of(rt.alloc(), &[CAUSE, EFFECT, CAUSE_UNDONE, CAUSE_UNDONE])?;
-    assert!(rt; fault_of(rt.alloc(), &early)? == Some(TraceFault::NotLegal(0)));
-    assert!(rt; fault_of(rt.alloc(), &held)? == Some(TraceFault::NotLegal(2)));
+    let early = fault_of_signs(rt.alloc(), &[EFFECT])?;
+    assert!(rt; early == Some(TraceFault::NotLegal(0)));
+    let held = [CAUSE, EFFECT, CAUSE_UNDONE, CAUSE_UNDONE];
+    assert!(rt; fault_of_signs(rt.alloc(), &held)? == Some(TraceFault::NotLegal(2)));
     Ok(())
 }
 
@@ -118,6 +124,12 @@ fn in_turn(alloc: Global, count: usize) -> Result<Vec<Letter>, Fail> {
     Ok(letters)
 }
 
+/// Why there are no moves for them.
+fn fault_in_turn(alloc: Global, count: usize) -> Result<Option<TraceFault>, Fail> {
+    let letters = in_turn(alloc, count)?;
+    fault_of(alloc, &letters)
+}
+
 #[test]
 fn refusals_of_lists_have_numbers(rt: HostRuntime) {
     assert!(rt; TraceFault::TooMany.number() == 71);
@@ -127,10 +139,8 @@ fn refusals_of_lists_have_numbers(rt: HostRuntime) {
 
 #[test]
 fn a_list_has_two_thousand_letters_at_most(rt: HostRuntime) -> Result<(), Fail> {
-    let most = in_turn(rt.alloc(), 2_000)?;
-    let more = in_turn(rt.alloc(), 2_001)?;
-    assert!(rt; fault_of(rt.alloc(), &most)?.is_none());
-    assert!(rt; fault_of(rt.alloc(), &more)? == Some(TraceFault::TooMany));
+    assert!(rt; fault_in_turn(rt.alloc(), 2_000)?.is_none());
+    assert!(rt; fault_in_turn(rt.alloc(), 2_001)? == Some(TraceFault::TooMany));
     Ok(())
 }
 
@@ -143,23 +153,47 @@ pub(crate) fn firings<L: LinkStore>(alloc: Global, bench: &Bench<L>) -> Result<V
     Ok(letters)
 }
 
+/// Whether the letters of a bench are those of these signs.
+fn has_letters<L: LinkStore>(
+    alloc: Global,
+    bench: &Bench<L>,
+    signs: &[Sign],
+) -> Result<bool, Fail> {
+    let told = letters(alloc, bench)?;
+    let wanted = letters_of(alloc, signs)?;
+    Ok(told.as_slice() == wanted.as_slice())
+}
+
+/// Whether moves lead from the first list to the second, which are those that bring the first to canonical order.
+fn are_brought(
+    alloc: Global,
+    start: &Start,
+    letters: &[Letter],
+    to: &[Letter],
+) -> Result<bool, Fail> {
+    match moves_to_canonical(alloc, start, letters) {
+        Ok(moves) => leads(alloc, start, letters, &moves, to),
+        Err(_) => Ok(false),
+    }
+}
+
+/// Whether they lead from the letters of a bench to the firings of what stands.
+fn is_brought<L: LinkStore>(alloc: Global, bench: &Bench<L>) -> Result<bool, Fail> {
+    let told = letters(alloc, bench)?;
+    let to = firings(alloc, bench)?;
+    are_brought(alloc, bench.start(), &told, &to)
+}
+
 /// After these calls, each with its answer, the letters are these, and moves lead to the firings of what stands.
 struct Session(&'static [(Step, u8)], &'static [Sign]);
 
 impl Game for Session {
     fn is_won(&self, alloc: Global, player: &mut Player) -> Result<bool, Fail> {
-        if !player.plays(self.0)? {
-            return Ok(false);
-        }
-        let told = letters(alloc, &player.bench)?;
-        if told.as_slice() != letters_of(alloc, self.1)?.as_slice() {
-            return Ok(false);
-        }
-        let to = firings(alloc, &player.bench)?;
-        match moves_to_canonical(alloc, player.bench.start(), &told) {
-            Ok(moves) => leads(alloc, player.bench.start(), &told, &moves, &to),
-            Err(_) => Ok(false),
-        }
+        Ok(
+            player.plays(self.0)?
+                && has_letters(alloc, &player.bench, self.1)?
+                && is_brought(alloc, &player.bench)?,
+        )
     }
 }
 

@@ -3,7 +3,6 @@ use ic_name::EventName;
 use ic_test_games::answers::{answer_of, answers};
 use ic_test_games::names::{name_of, names_of, standing_names};
 use ic_test_games::player::{Game, Player, wins};
-use ic_text::read_net;
 use ic_undo::{AbsorbFault, absorb};
 use std::alloc::Global;
 use std::test::Fail;
@@ -77,16 +76,13 @@ fn the_least_that_cannot_come_is_named(rt: HostRuntime) -> Result<(), Fail> {
     Ok(())
 }
 
-/// A bench over four copies of a net, on which so many events were fired.
-fn reduced(alloc: Global, most: u32) -> Result<Bench<Store>, Fail> {
-    let text = b"G(E,a) = D(b,E); G(E,c) = D(d,E); G(E,e) = D(f,E); G(E,g) = D(h,E);";
-    let mut bench = Bench::over(alloc, read_net(alloc, text)?)?;
-    let (fired, _) = fire_least(&mut bench, most, &NoGate, 0);
-    if fired == most {
-        Ok(bench)
-    } else {
-        Err("a firing".into())
-    }
+/// Four copies of a net.
+const COPIES: &[u8] = b"G(E,a) = D(b,E); G(E,c) = D(d,E); G(E,e) = D(f,E); G(E,g) = D(h,E);";
+
+/// Whether so many events are fired.
+fn is_reduced(bench: &mut Bench<Store>, most: u32) -> bool {
+    let (fired, _) = fire_least(bench, most, &NoGate, 0);
+    fired == most
 }
 
 /// Whether a bench absorbs what stands on the other, and so many events come.
@@ -100,14 +96,35 @@ fn takes_in(
     Ok(absorbs(alloc, bench, &names) == (0, count))
 }
 
+/// Whether a bench and another one that has more absorb each other.
+fn absorb_each_other(
+    alloc: Global,
+    less: &mut Bench<Store>,
+    more: &mut Bench<Store>,
+) -> Result<bool, Fail> {
+    if !takes_in(alloc, less, more, 2)? || !takes_in(alloc, more, less, 0)? {
+        return Ok(false);
+    }
+    let journal = answer_of(alloc, less, b"journal")?;
+    answers(alloc, more, b"journal", journal.bytes())
+}
+
+/// A bench on which three events were fired, and one on which five were, absorb each other.
+struct EachOther;
+
+impl Game for EachOther {
+    fn is_won(&self, alloc: Global, player: &mut Player) -> Result<bool, Fail> {
+        let mut other = Player::over(alloc, COPIES)?;
+        if !is_reduced(&mut player.bench, 3) || !is_reduced(&mut other.bench, 5) {
+            return Ok(false);
+        }
+        absorb_each_other(alloc, &mut player.bench, &mut other.bench)
+    }
+}
+
 #[test]
 fn two_benches_absorb_each_other(rt: HostRuntime) -> Result<(), Fail> {
-    let mut less = reduced(rt.alloc(), 3)?;
-    let mut more = reduced(rt.alloc(), 5)?;
-    assert!(rt; takes_in(rt.alloc(), &mut less, &more, 2)?);
-    assert!(rt; takes_in(rt.alloc(), &mut more, &less, 0)?);
-    let journal = answer_of(rt.alloc(), &mut less, b"journal")?;
-    assert!(rt; answers(rt.alloc(), &mut more, b"journal", journal.bytes())?);
+    assert!(rt; wins(rt.alloc(), COPIES, &EachOther)?);
     Ok(())
 }
 
@@ -120,30 +137,39 @@ fn pairs(alloc: Global, count: usize) -> Result<Vec<u8>, Fail> {
     Ok(text)
 }
 
+/// The name of the event of the pair at a place.
+fn name_at(alloc: Global, place: usize) -> Result<EventName, Fail> {
+    let lead = format!(in alloc; "{}", place.wrapping_mul(2))?;
+    let other = format!(in alloc; "{}", place.wrapping_mul(2).wrapping_add(1))?;
+    name_of(alloc, lead.as_bytes(), other.as_bytes())
+}
+
 /// The names of their events, each once, far from their order: each place is that many behind the one before, around the
 /// end.
 fn scattered(alloc: Global, count: usize) -> Result<Vec<EventName>, Fail> {
     let mut names = Vec::new(alloc);
     for turn in 0..count {
         let place = turn.wrapping_mul(12_289).checked_rem(count).unwrap_or(0);
-        let lead = format!(in alloc; "{}", place.wrapping_mul(2))?;
-        let other = format!(in alloc; "{}", place.wrapping_mul(2).wrapping_add(1))?;
-        names.push(name_of(alloc, lead.as_bytes(), other.as_bytes())?)?;
+        names.push(name_at(alloc, place)?)?;
     }
     Ok(names)
 }
 
-/// Whether all of so many events are absorbed.
-fn absorbs_many(alloc: Global, count: usize) -> Result<bool, Fail> {
-    let start = read_net(alloc, &pairs(alloc, count)?)?;
-    let mut bench: Bench<Store> = Bench::over(alloc, start)?;
-    let names = scattered(alloc, count)?;
-    let answer = absorbs(alloc, &mut bench, &names);
-    Ok(answer.0 == 0 && answer.1 as usize == count)
+/// All of so many events are absorbed.
+#[derive(Drop)]
+struct Many(usize);
+
+impl Game for Many {
+    fn is_won(&self, alloc: Global, player: &mut Player) -> Result<bool, Fail> {
+        let names = scattered(alloc, self.0)?;
+        let (number, count) = absorbs(alloc, &mut player.bench, &names);
+        Ok(number == 0 && count as usize == self.0)
+    }
 }
 
 #[test]
 fn a_long_list_is_absorbed(rt: HostRuntime) -> Result<(), Fail> {
-    assert!(rt; absorbs_many(rt.alloc(), 32_000)?);
+    let text = pairs(rt.alloc(), 32_000)?;
+    assert!(rt; wins(rt.alloc(), &text, &Many(32_000))?);
     Ok(())
 }
