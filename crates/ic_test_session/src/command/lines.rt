@@ -54,16 +54,21 @@ fn is_skipped(input: &mut Input, reader: &mut &[u8], line: &mut Vec<u8>, most: u
     input.next_line(reader, line, most) == Ok(Piece::TooLong) && input.skip_line(reader) == Ok(())
 }
 
+/// Whether the lines of this reader come in turn, one of which is too long.
+fn come_in_turn(input: &mut Input, reader: &mut &[u8], line: &mut Vec<u8>) -> bool {
+    is_line(input, reader, line, 3, (b"ab", true))
+        && is_line(input, reader, line, 3, (b"", true))
+        && is_skipped(input, reader, line, 3)
+        && is_line(input, reader, line, 2, (b"cd", false))
+        && input.next_line(reader, line, 2) == Ok(Piece::End)
+}
+
 #[test]
 fn lines_in_turn(rt: HostRuntime) -> Result<(), Fail> {
     let mut reader = b"ab\n\ntoolong\ncd".as_slice();
     let mut input = Input::new(rt.alloc(), 10)?;
     let mut line = Vec::new(rt.alloc());
-    assert!(rt; is_line(&mut input, &mut reader, &mut line, 3, (b"ab", true)));
-    assert!(rt; is_line(&mut input, &mut reader, &mut line, 3, (b"", true)));
-    assert!(rt; is_skipped(&mut input, &mut reader, &mut line, 3));
-    assert!(rt; is_line(&mut input, &mut reader, &mut line, 2, (b"cd", false)));
-    assert!(rt; input.next_line(&mut reader, &mut line, 2) == Ok(Piece::End));
+    assert!(rt; come_in_turn(&mut input, &mut reader, &mut line));
     Ok(())
 }
 

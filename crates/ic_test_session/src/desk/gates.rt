@@ -32,8 +32,26 @@ impl Gate for Counter {
     }
 }
 
-/// How many commits the gate of a desk saw, by so many workers, in a reduction to the normal end, which takes four events,
-/// and whether tickets were drawn ahead; `None` where it is answered otherwise.
+/// Whether a desk with a gate answers that so many workers reduced it to its normal end, which takes four events.
+fn reduces<T: Threads + Wait + Sync>(
+    threads: &T,
+    alloc: Global,
+    workers: u32,
+    gate: &Counter,
+) -> Option<bool>
+    requires { (0 < workers) × (workers ≤ 64) }
+{
+    let start = read_net(alloc, b"G(E,a) = D(b,E);\n").ok()?;
+    let desk: Desk<Store> = Desk::over(alloc, start).ok()?;
+    let reduce = Request::Bench(Command::Reduce(100));
+    let (_, answer) = desk
+        .carry_out_with(threads, alloc, workers, reduce, gate)
+        .ok()?;
+    Some(answer.bytes() == b"reduced 4 normal\n".as_slice())
+}
+
+/// How many commits the gate saw in that reduction, and whether tickets were drawn ahead; `None` where it is answered
+/// otherwise.
 fn commits<T: Threads + Wait + Sync>(
     threads: &T,
     alloc: Global,
@@ -46,13 +64,7 @@ fn commits<T: Threads + Wait + Sync>(
         used: AtomicU64::new(0),
         ahead: AtomicU64::new(0),
     };
-    let start = read_net(alloc, b"G(E,a) = D(b,E);\n").ok()?;
-    let desk: Desk<Store> = Desk::over(alloc, start).ok()?;
-    let reduce = Request::Bench(Command::Reduce(100));
-    let (_, answer) = desk
-        .carry_out_with(threads, alloc, workers, reduce, &gate)
-        .ok()?;
-    if answer.bytes() == b"reduced 4 normal\n".as_slice() {
+    if reduces(threads, alloc, workers, &gate)? {
         let ahead = gate.ahead.load(Ordering::SeqCst) > 0;
         Some((gate.used.load(Ordering::SeqCst), ahead))
     } else {

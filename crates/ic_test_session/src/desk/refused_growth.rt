@@ -58,15 +58,36 @@ fn answer<L: LinkStore>(alloc: Global, desk: &mut Desk<L>, line: &[u8]) -> Optio
     desk.carry_out(alloc, asked, &NoGate).ok()
 }
 
-/// What a desk shows: its net, and what stands.
-fn shown<L: LinkStore>(alloc: Global, desk: &mut Desk<L>) -> Option<(Answer, Answer)> {
-    let net = desk
-        .carry_out(alloc, Request::Bench(Command::Net), &NoGate)
-        .ok()?;
-    let journal = desk
-        .carry_out(alloc, Request::Bench(Command::Journal), &NoGate)
-        .ok()?;
-    Some((net, journal))
+/// Whether two desks answer a line alike.
+fn answer_alike<L: LinkStore>(
+    alloc: Global,
+    desk: &mut Desk<L>,
+    other: &mut Desk<LinkRows>,
+    line: &[u8],
+) -> Option<bool> {
+    let first = answer(alloc, desk, line)?;
+    let second = answer(alloc, other, line)?;
+    Some(first.bytes() == second.bytes())
+}
+
+/// Carries out these lines.
+fn carry_out_all(alloc: Global, desk: &mut Desk<LinkRows>, lines: &[(&[u8], &[u8])]) -> Option<()> {
+    for (line, _) in lines {
+        answer(alloc, desk, line)?;
+    }
+    Some(())
+}
+
+/// Whether a desk shows what another one does once these lines are carried out there: its net, and what stands.
+fn shows_the_same<L: LinkStore>(
+    alloc: Global,
+    desk: &mut Desk<L>,
+    other: &mut Desk<LinkRows>,
+    lines: &[(&[u8], &[u8])],
+) -> Option<bool> {
+    carry_out_all(alloc, other, lines)?;
+    let net = answer_alike(alloc, desk, other, b"net")?;
+    Some(net && answer_alike(alloc, desk, other, b"journal")?)
 }
 
 /// Whether the desk shows what another one shows on which these lines were carried out.
@@ -76,12 +97,7 @@ fn shows_what_follows<L: LinkStore>(
     lines: &[(&[u8], &[u8])],
 ) -> Option<bool> {
     let mut other = desk_at_last::<LinkRows>(alloc)?;
-    for (line, _) in lines {
-        answer(alloc, &mut other, line)?;
-    }
-    let (net, journal) = shown(alloc, desk)?;
-    let (other_net, other_journal) = shown(alloc, &mut other)?;
-    Some(net.bytes() == other_net.bytes() && journal.bytes() == other_journal.bytes())
+    shows_the_same(alloc, desk, &mut other, lines)
 }
 
 /// Whether the desk, which answered the line so for want of memory, is as before where the answer says so, and whether it
@@ -118,14 +134,23 @@ fn answers<L: LinkStore>(
     }
 }
 
-/// Whether a desk answers each of these lines as it should, at the first try or the second.
-fn plays<L: LinkStore>(alloc: Global, lines: &[(&[u8], &[u8])]) -> Option<bool> {
-    let mut desk = desk_at_last::<L>(alloc)?;
+/// Whether the desk answers each of these lines as it should, at the first try or the second.
+fn answers_all<L: LinkStore>(
+    alloc: Global,
+    desk: &mut Desk<L>,
+    lines: &[(&[u8], &[u8])],
+) -> Option<bool> {
     let mut right = true;
     for place in 0..lines.len() {
-        right = right && answers(alloc, &mut desk, lines, place)?;
+        right = right && answers(alloc, desk, lines, place)?;
     }
     Some(right)
+}
+
+/// Whether a new desk does.
+fn plays<L: LinkStore>(alloc: Global, lines: &[(&[u8], &[u8])]) -> Option<bool> {
+    let mut desk = desk_at_last::<L>(alloc)?;
+    answers_all(alloc, &mut desk, lines)
 }
 
 /// Firings, undoings and an unwinding.

@@ -45,11 +45,16 @@ fn undoes_all<L: LinkStore>(bench: &mut Bench<L>) -> Option<bool> {
 }
 
 /// Whether all events of the net are undone at once where there is room.
+fn undoes_with_room<L: LinkStore>(alloc: Global, bench: &mut Bench<L>) -> Option<bool> {
+    let reduced = reduces_with_room(alloc, bench);
+    let undone = undoes_all(bench)?;
+    Some(reduced && undone)
+}
+
+/// Whether they are on a new bench.
 fn undoes<L: LinkStore>(alloc: Global) -> Option<bool> {
     let mut bench = bench_at_last::<L>(alloc)?;
-    let reduced = reduces_with_room(alloc, &mut bench);
-    let undone = undoes_all(&mut bench)?;
-    Some(reduced && undone)
+    undoes_with_room(alloc, &mut bench)
 }
 
 #[test]
