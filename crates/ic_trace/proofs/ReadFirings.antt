@@ -1,5 +1,7 @@
 -- Firings as they are read.
-use Rattle.std.proofs.Common.{◌≡◌, ℕ, List, [], ◌∷◌, ◌++◌, inl, inr, length, sym, ap, arith, subst, ◌∙◌, append-nil, Some, None}
+use Rattle.std.proofs.Common.{◌≡◌, ℕ, List, [], ◌∷◌, ◌++◌, inl, inr, length, refl, sym, ap, arith, subst, ◌∙◌, append-nil, Some, None, Result, Ok, Err, Vec, Global}
+use Rattle.std.specs.Prelude.{IfOk, OnOk}
+use Rattle.std.specs.declared.alloc.AllocError.{AllocError}
 use Rattle.std.proofs.lemmas.List.{length_push}
 use Rattle.ic_name.specs.Events.{Event, Pair, pair}
 use Rattle.ic_path.specs.Orders.{here, IsIn, Alike, more}
@@ -22,7 +24,8 @@ use Rattle.ic_trace.specs.declared.known.Known.{Known}
 use Rattle.ic_trace.specs.declared.known.EventTable.{EventTable}
 use Rattle.ic_trace.specs.declared.lists.Letter.TheVariants.{Fire}
 use Rattle.ic_trace.specs.declared.reading.Step.TheVariants as step
-use Rattle.ic_trace.specs.Known.{events_in, event_at, AreNumbered, IsNumberOf, AreNumbersOf, IsRankAbove, AreKnown}
+use Rattle.ic_trace.specs.Known.{events_in, event_at, AreNumbered, AreNumbersOf, IsNumberOf, IsRankAbove, AreKnown}
+use Rattle.ic_trace.specs.Noted.{IsNoted, AreCausesKnown, AreNumbersOfCauses}
 use Rattle.ic_trace.specs.Readings.{IsFollowed, IsAccepted, IsRefused}
 use Rattle.ic_trace.proofs.ByNumber.{event_in, event_at-last, events-append}
 use Rattle.ic_trace.proofs.KnownEvents.{led_once, lead_numbered, stands_or_active}
@@ -41,6 +44,18 @@ not_led s {all} {e} {x} a i l =
     let y = consumed_in i.1 in
     let same : consumed_times x.lead all ≡ consumed_times e.lead all = ap (λ n. consumed_times n all) l in
     absurd (omega arith)
+
+-- what an event is noted by
+pub noted_after : (p : PastView) (n : Pair) (ks : List Known) (k : Known) (t : EventTable) (r : Result ℕ AllocError) → AreNumbersOfCauses p n ks k.causes.items → IsRankAbove ks k.causes.items k.rank
+    → IfOk r (λ i. i ≡ length ks) → OnOk r (t.known.items ≡ ks ++ k ∷ []) → OnOk r (AreNumbered t) → IfOk r (λ i. IsNoted p n ks k.event i t)
+noted_after p n ks k t (Ok i) causes rank last grown numbered = record { noted = k; event = refl; causes = causes; rank = rank; grown = grown; numbered = numbered; last = last }
+noted_after p n ks k t (Err e) causes rank last grown numbered = tt
+
+-- the numbers of causes that were found by name
+pub numbers_after : (p : PastView) (n : Pair) (ks : List Known) (names : List Pair) → AreCausesNamed p n (Some names) → (r : Result (Vec ℕ Global) AllocError)
+    → IfOk r (λ v. AreNumbersOf ks names v.items) → IfOk r (λ v. AreNumbersOfCauses p n ks v.items)
+numbers_after p n ks names q (Ok v) h = record { names = names; causes = q; numbers_are = h }
+numbers_after p n ks names q (Err e) h = tt
 
 -- what stands after a firing is sound
 pub sound_more : (s : Start) → IsProper s → {es fs : List Event} {e : Event} → IsSound s es → IsActive s es e → Alike (e ∷ es) fs → IsSound s fs
@@ -96,7 +111,7 @@ module _ (old new : PastView) (t : EventTable) (f : IsFollowed old t) (ok : IsPr
     sound' : IsSound new.start new.events
     sound' = subst (λ s. IsSound s new.events) (sym w.start) (sound_more old.start ok sound a w.events)
 
-    pub there : IsIn e new.events
+    there : IsIn e new.events
     there = alike-in w.events (old.events, here)
 
     -- what stands is among the known ones and it
@@ -114,26 +129,29 @@ module _ (old new : PastView) (t : EventTable) (f : IsFollowed old t) (ok : IsPr
       each : HasEachOnce (IsCause new.start new.events e) q.3
       each = subst (λ x. HasEachOnce (IsCause new.start new.events x) q.3) same_event q.4
 
-      pub causes_known : (p : Pair) → IsIn p names → ¬ (IsNumberOf t.known.items p.lead None)
-      causes_known p i = names_known new.start ok' t.known.items known' e active' new.events sound' within there q.3 each p (rw q.5 i)
+    -- its causes are known
+    pub causes_known : AreCausesKnown new n t.known.items
+    causes_known names q p i = names_known new.start ok' t.known.items known' e active' new.events sound' within there q.3 (each names q) p (rw q.5 i)
 
-      -- a new event
-      pub accepted_new : (k : Known) (t' : EventTable) → k.event ≡ e → AreNumbersOf t.known.items names k.causes.items → IsRankAbove t.known.items k.causes.items k.rank → t'.known.items ≡ t.known.items ++ k ∷ [] → AreNumbered t'
-          → (i : ℕ) → i ≡ length t.known.items → IsAccepted old t.known.items (Fire n) (step.Fire i) new t'
-      accepted_new k t' event numbers above grown numbered i last =
-          let ks = t.known.items in
-          let longer : events_in (ks ++ k ∷ []) ≡ events_in ks ++ e ∷ [] = events-append ks (k ∷ []) ∙ ap (λ x. events_in ks ++ x ∷ []) event in
-          let at : event_at t'.known.items i ≡ e = rw (grown, last) (event_at-last ks k ∙ event) in
-          let known : AreKnown new.start (ks ++ k ∷ []) = known_more new.start ok' ks known' e active' new.events sound' within there q.3 each k event (rw (← q.5) at numbers) above in
-          record {
-            followed = record { known = rw grown known; numbered = numbered; part = rw (grown, longer) within };
-            more = k ∷ [];
-            one = omega arith;
-            grown = grown;
-            inside = rw (grown, last) (let l = length_push ks k in omega arith);
-            name = ap (λ x. Fire (pair x)) at ∙ ap Fire is;
-            start = w.start;
-            after = e ∷ old.events;
-            runs = rw at (theory.fires a theory.stops);
-            alike = w.events;
-          }
+    -- a new event
+    pub accepted_new : (t' : EventTable) (i : ℕ) → IsNoted new n t.known.items e i t' → IsAccepted old t.known.items (Fire n) (step.Fire i) new t'
+    accepted_new t' i h =
+        let ks = t.known.items in
+        let k = h.noted in
+        let names = h.causes.names in
+        let q = h.causes.causes in
+        let longer : events_in (ks ++ k ∷ []) ≡ events_in ks ++ e ∷ [] = events-append ks (k ∷ []) ∙ ap (λ x. events_in ks ++ x ∷ []) h.event in
+        let at : event_at t'.known.items i ≡ e = rw (h.grown, h.last) (event_at-last ks k ∙ h.event) in
+        let known : AreKnown new.start (ks ++ k ∷ []) = known_more new.start ok' ks known' e active' new.events sound' within there q.3 (each names q) k h.event (rw (← q.5) at h.causes.numbers_are) h.rank in
+        record {
+          followed = record { known = rw h.grown known; numbered = h.numbered; part = rw (h.grown, longer) within };
+          more = k ∷ [];
+          one = omega arith;
+          grown = h.grown;
+          inside = rw (h.grown, h.last) (let l = length_push ks k in omega arith);
+          name = ap (λ x. Fire (pair x)) at ∙ ap Fire is;
+          start = w.start;
+          after = e ∷ old.events;
+          runs = rw at (theory.fires a theory.stops);
+          alike = w.events;
+        }

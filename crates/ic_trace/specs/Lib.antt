@@ -10,3 +10,4 @@ pub mod Sortings
 pub mod Pasts
 pub mod DeepEvents
 pub mod Taken
+pub mod Noted

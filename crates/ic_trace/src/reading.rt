@@ -1,9 +1,13 @@
-ghost use Rattle.std.specs.Prelude.{◌≡◌, ◌≤◌, ◌<◌, ◌↔◌, length, option_map, IsTrue, IfOk};
+ghost use Rattle.std.specs.Prelude.{◌≡◌, ◌≤◌, ◌<◌, ◌↔◌, List, [], length, option_map, None, IsTrue, IfOk};
 ghost use Rattle.ic_name.specs.Events.{Event as AnEvent, pair};
 ghost use Rattle.ic_name.specs.declared.limits.TheConstants.{MAX_LINES};
+ghost use Rattle.ic_path.specs.Orders.{IsIn};
 ghost use Rattle.ic_theory.specs.Active.{IsActive};
+ghost use Rattle.ic_trace.specs.declared.known.Known.{Known as AKnown};
 ghost use Rattle.ic_trace.specs.declared.lists.Letter.TheVariants.{Fire, Undo};
 ghost use Rattle.ic_trace.specs.declared.reading.Step.TheVariants as step;
+ghost use Rattle.ic_trace.specs.Known.{AreNumbered, IsNumberOf};
+ghost use Rattle.ic_trace.specs.Noted.{AreCausesKnown, AreNumbersOfCauses, IsNoted};
 ghost use Rattle.ic_trace.specs.Readings.{IsFollowed, ReadsAs, IsReadingOf, IsOnlyActive, AreInverse, number_of};
 
 use crate::known::{EventTable, Known, rank_above};
@@ -61,12 +65,21 @@ pub(crate) fn read(alloc: Global, start: &Start, letters: &[Letter]) -> Result<R
     requires { length letters.now ≤ MAX_LINES }
     ensures { IfOk result (λ reading. IsReadingOf start.now letters.now reading) }
 {
-    start.lawful();
     let mut past = Past::over(alloc, start)?;
+    read_over(alloc, &mut past, letters)
+}
+
+/// Reads a list of letters, where no event stands yet.
+fn read_over(alloc: Global, past: &mut Past, letters: &[Letter]) -> Result<Reading, AllocError>
+    requires nothing { past.old.events ≡ [] }
+    requires few { length letters.now ≤ MAX_LINES }
+    ensures { IfOk result (λ reading. IsReadingOf past.old.start letters.now reading) }
+{
+    past.lawful();
     let mut table = EventTable::new(alloc);
     let mut steps = Vec::new(alloc);
     for (number, letter) in letters.iter().enumerate() {
-        match read_letter(alloc, &mut past, &mut table, letter)? {
+        match read_letter(alloc, past, &mut table, letter)? {
             Some(step) => steps.push(step)?,
             None => return Ok(Reading::Refused(number)),
         }
@@ -123,17 +136,52 @@ fn read_firing(
     if let Some(number) = table.number(name.lead()) {
         return Ok(Some(number));
     }
-    let Some(causes) = past.causes(name)? else {
-        unreachable!()
-    };
-    let causes = table.numbers_of(alloc, &causes)?;
+    let number = note(alloc, past, table, name, event)?;
+    Ok(Some(number))
+}
+
+/// Notes a standing event of this name, which isn't among the known ones yet, and gives its number.
+fn note(
+    alloc: Global,
+    past: &Past,
+    table: &mut EventTable,
+    name: &EventName,
+    event: Event,
+) -> Result<usize, AllocError>
+    requires numbered { AreNumbered table.old }
+    requires noted { length table.old.known.items < MAX_LINES }
+    requires low { (k : AKnown) → IsIn k table.old.known.items → k.rank < length table.old.known.items }
+    requires name { pair event ≡ name.now }
+    requires stands { IsIn event past.now.events }
+    requires fresh { IsNumberOf table.old.known.items event.lead None }
+    requires causes { AreCausesKnown past.now name.now table.old.known.items }
+    ensures { IfOk result (λ number. IsNoted past.now name.now table.old.known.items event number table.new) }
+{
+    let causes = numbers_of_causes(alloc, past, table, name)?;
     let rank = rank_above(&table.known, &causes);
-    let number = table.add(Known {
+    table.add(Known {
         event,
         causes,
         rank,
-    })?;
-    Ok(Some(number))
+    })
+}
+
+/// The numbers of the direct causes of the standing event of this name.
+fn numbers_of_causes(
+    alloc: Global,
+    past: &Past,
+    table: &EventTable,
+    name: &EventName,
+) -> Result<Vec<usize>, AllocError>
+    requires numbered { AreNumbered table.now }
+    requires stands { (e : AnEvent) × IsIn e past.now.events × (pair e ≡ name.now) }
+    requires causes { AreCausesKnown past.now name.now table.now.known.items }
+    ensures { IfOk result (λ numbers. AreNumbersOfCauses past.now name.now table.now.known.items numbers.items) }
+{
+    let Some(causes) = past.causes(name)? else {
+        unreachable!()
+    };
+    table.numbers_of(alloc, &causes)
 }
 
 /// Reads an undo.

@@ -1,4 +1,4 @@
-ghost use Rattle.std.specs.Prelude.{◌≤◌, ◌↔◌, IfOk, IsTrue, length};
+ghost use Rattle.std.specs.Prelude.{◌≡◌, ◌≤◌, ◌↔◌, [], IfOk, IsTrue, length};
 ghost use Rattle.ic_name.specs.declared.limits.TheConstants.{MAX_LINES};
 ghost use Rattle.ic_theory.specs.CausalOrders.{IsCausalOrder};
 
@@ -12,8 +12,17 @@ pub fn is_causal_order(alloc: Global, start: &Start, events: &[Event]) -> Result
     requires { length events.now ≤ MAX_LINES }
     ensures { IfOk result (λ yes. IsTrue yes ↔ IsCausalOrder start.now events.now) }
 {
-    start.lawful();
     let mut past = Past::over(alloc, start)?;
+    fire_in_order(&mut past, events)
+}
+
+/// Fires the events in turn, where no event stands yet; false at the first that isn't active.
+fn fire_in_order(past: &mut Past, events: &[Event]) -> Result<bool, AllocError>
+    requires nothing { past.old.events ≡ [] }
+    requires few { length events.now ≤ MAX_LINES }
+    ensures { IfOk result (λ yes. IsTrue yes ↔ IsCausalOrder past.old.start events.now) }
+{
+    past.lawful();
     for event in events {
         if !past.fire(event)? {
             return Ok(false);

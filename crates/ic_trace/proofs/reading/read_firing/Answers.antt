@@ -1,12 +1,14 @@
-use Rattle.std.proofs.Common.{arith, ◌≡◌, ℕ, List, Bool, Option, Some, None, true, option_map, refl, subst, Vec, Global}
+use Rattle.std.proofs.Common.{◌≡◌, ◌∙◌, ℕ, List, Bool, Option, Some, None, true, sym, ap, subst}
 use Rattle.ic_name.specs.Names.{Name}
 use Rattle.ic_name.specs.Events.{Event, Pair}
-use Rattle.ic_trace.specs.Pasts.{PastView, Fires, AreCausesNamed, IsWith}
+use Rattle.ic_path.specs.Orders.{here}
+use Rattle.ic_path.proofs.Alikes.{alike-in}
+use Rattle.ic_trace.specs.Pasts.{PastView, Fires, IsWith}
 use Rattle.ic_theory.specs.Active.{IsActive}
 use Rattle.ic_trace.specs.declared.known.Known.{Known}
 use Rattle.ic_trace.specs.Readings.{IsOnlyActive}
 use Rattle.ic_trace.specs.Known.{IsNumberOf}
-use Rattle.ic_trace.proofs.ReadFirings.{firing_refused, accepted_again, accepted_new, causes_known, there}
+use Rattle.ic_trace.proofs.ReadFirings.{firing_refused, accepted_again, accepted_new, causes_known}
 use Rattle.ic_trace.proofs.reading.read_firing.Goals as goal
 
 -- what was found of the event
@@ -41,37 +43,32 @@ returns-in-Some-number c =
     accepted_again c.args.past.now c.fire.new.self c.args.table.now c.requires.followed c.lawful.ensures.proper c.lawful.ensures.sound c.args.name.now c.in-Some.event o.0 f.0 f.1 c.in-Some-number.number
     (number_at c.args.table.now.known.items c.lead.result.now c.args.name.now.lead (Some c.in-Some-number.number) c.lead.ensures c.in-Some-number.ensures)
 
-pub unreachable-requires : goal.unreachable-requires
-unreachable-requires c =
+pub note-requires-clause-low : goal.note-requires-clause-low
+note-requires-clause-low c = λ k i. (c.requires.followed.known.each k i).low
+
+pub note-requires-clause-name : goal.note-requires-clause-name
+note-requires-clause-name c = (only c.args.past.now c.args.name.now c.in_ok-event.field-0 c.in-Some.event c.in-Some.is c.in_ok-event.ensures).0
+
+pub note-requires-clause-stands : goal.note-requires-clause-stands
+note-requires-clause-stands c =
+    let f = done c.args.past.now c.fire.new.self c.in-Some.event c.in_ok-fire.field-0 c.if-not-branch.false c.in_ok-fire.ensures.fired in
+    alike-in f.1.events (c.args.past.now.events, here)
+
+pub note-requires-clause-fresh : goal.note-requires-clause-fresh
+note-requires-clause-fresh c =
+    let o = only c.args.past.now c.args.name.now c.in_ok-event.field-0 c.in-Some.event c.in-Some.is c.in_ok-event.ensures in
+    number_at c.args.table.now.known.items c.lead.result.now c.in-Some.event.lead None (c.lead.ensures ∙ sym (ap (λ (p : Pair). p.lead) o.0)) c.in_default-number.ensures
+
+pub note-requires-clause-causes : goal.note-requires-clause-causes
+note-requires-clause-causes c =
     let o = only c.args.past.now c.args.name.now c.in_ok-event.field-0 c.in-Some.event c.in-Some.is c.in_ok-event.ensures in
     let f = done c.args.past.now c.fire.new.self c.in-Some.event c.in_ok-fire.field-0 c.if-not-branch.false c.in_ok-fire.ensures.fired in
     let fresh = number_at c.args.table.now.known.items c.lead.result.now c.args.name.now.lead None c.lead.ensures c.in_default-number.ensures in
-    let nothing = subst (λ (x : Option (Vec Pair Global)). AreCausesNamed c.fire.new.self c.args.name.now (option_map (λ (v : Vec Pair Global). v.items) x)) c.in_default-2.is c.in_ok-causes.ensures in
-    nothing c.in-Some.event (there c.args.past.now c.fire.new.self c.args.table.now c.requires.followed c.lawful.ensures.proper c.lawful.ensures.sound c.args.name.now c.in-Some.event o.0 f.0 f.1 fresh) o.0
-
-pub numbers_of-requires-clause-known : goal.numbers_of-requires-clause-known
-numbers_of-requires-clause-known c =
-    let o = only c.args.past.now c.args.name.now c.in_ok-event.field-0 c.in-Some.event c.in-Some.is c.in_ok-event.ensures in
-    let f = done c.args.past.now c.fire.new.self c.in-Some.event c.in_ok-fire.field-0 c.if-not-branch.false c.in_ok-fire.ensures.fired in
-    let fresh = number_at c.args.table.now.known.items c.lead.result.now c.args.name.now.lead None c.lead.ensures c.in_default-number.ensures in
-    let named = subst (λ (x : Option (Vec Pair Global)). AreCausesNamed c.fire.new.self c.args.name.now (option_map (λ (v : Vec Pair Global). v.items) x)) c.in-Some-2.is c.in_ok-causes.ensures in
-    rw c.deref.ensures.value (causes_known c.args.past.now c.fire.new.self c.args.table.now c.requires.followed c.lawful.ensures.proper c.lawful.ensures.sound c.args.name.now c.in-Some.event o.0 f.0 f.1 fresh c.in-Some-2.causes.items named)
-
-pub rank_above-rank-requires-clause-inside : goal.rank_above-rank-requires-clause-inside
-rank_above-rank-requires-clause-inside c = rw (c.deref-3.ensures.value, c.deref-2.ensures.value) c.in_ok-causes-2.ensures.inside
-
-pub rank_above-rank-requires-clause-low : goal.rank_above-rank-requires-clause-low
-rank_above-rank-requires-clause-low c = rw c.deref-2.ensures.value (λ k i. (c.requires.followed.known.each k i).low)
-
-pub rank_above-rank-requires-clause-few : goal.rank_above-rank-requires-clause-few
-rank_above-rank-requires-clause-few c = let noted = c.requires.noted in rw c.deref-2.ensures.value (omega (arith, noted))
+    causes_known c.args.past.now c.fire.new.self c.args.table.now c.requires.followed c.lawful.ensures.proper c.lawful.ensures.sound c.args.name.now c.in-Some.event o.0 f.0 f.1 fresh
 
 pub returns : goal.returns
 returns c =
     let o = only c.args.past.now c.args.name.now c.in_ok-event.field-0 c.in-Some.event c.in-Some.is c.in_ok-event.ensures in
     let f = done c.args.past.now c.fire.new.self c.in-Some.event c.in_ok-fire.field-0 c.if-not-branch.false c.in_ok-fire.ensures.fired in
     let fresh = number_at c.args.table.now.known.items c.lead.result.now c.args.name.now.lead None c.lead.ensures c.in_default-number.ensures in
-    let named = subst (λ (x : Option (Vec Pair Global)). AreCausesNamed c.fire.new.self c.args.name.now (option_map (λ (v : Vec Pair Global). v.items) x)) c.in-Some-2.is c.in_ok-causes.ensures in
-    accepted_new c.args.past.now c.fire.new.self c.args.table.now c.requires.followed c.lawful.ensures.proper c.lawful.ensures.sound c.args.name.now c.in-Some.event o.0 f.0 f.1 fresh c.in-Some-2.causes.items named
-    (record { event = c.in-Some.event; causes = c.in_ok-causes-2.causes; rank = c.rank_above-rank.result }) c.add.new.self refl
-    (rw c.deref.ensures.value at c.in_ok-causes-2.ensures) (rw (c.deref-2.ensures.value, c.deref-3.ensures.value) at c.rank_above-rank.ensures) c.in_ok-number.ensures.added c.in_ok-number.ensures.renumbered c.in_ok-number.number c.in_ok-number.ensures.number
+    accepted_new c.args.past.now c.fire.new.self c.args.table.now c.requires.followed c.lawful.ensures.proper c.lawful.ensures.sound c.args.name.now c.in-Some.event o.0 f.0 f.1 fresh c.note.new.table c.in_ok-number.number c.in_ok-number.ensures
