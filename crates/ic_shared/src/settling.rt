@@ -1,7 +1,9 @@
 // What is compared once all threads are done.
-ghost use Rattle.std.specs.Prelude.{◌≡◌, ◌+◌, ◌<◌, length, IfOk, IfErr};
+ghost use Rattle.std.specs.Prelude.{◌≡◌, ◌+◌, ◌<◌, ◌≤◌, length, IfOk, IfErr};
+ghost use Rattle.ic_shared.specs.declared.limits.TheConstants.{MAX_PASSES};
 ghost use Rattle.ic_shared.specs.Passes.{added_by_all};
-ghost use Rattle.ic_shared.specs.Agrees.{Agrees};
+ghost use Rattle.ic_shared.specs.Openings.{opened};
+ghost use Rattle.ic_shared.specs.Agrees.{Agrees, IsFalseAt};
 ghost use Rattle.ic_shared.specs.Faults.{FaultIs};
 
 use crate::faults::{SettleFault, Settled};
@@ -10,6 +12,8 @@ use crate::merging::merge;
 use crate::opening::Opening;
 use crate::passes::Pass;
 use crate::shared::Shared;
+use ic_journal::{Bench, EarlierLines, Store};
+use ic_start::Start;
 use std::sync::ledger::{Book, Ledger, Share};
 
 /// Lends the part of each pass to `all` in turn, and reads the book once every part is there. It shows that the callers
@@ -69,22 +73,39 @@ pub fn settle<B: Ledger>(
         return Err(SettleFault::Missing(bench));
     }
     audit(&mut book, &mut share, passes.as_mut_slice());
+    match compare(&bench, base, &start, &lines, passes.as_slice()) {
+        Ok(lines) => Ok(Settled { bench, lines }),
+        Err(wrong) => Err(SettleFault::Mismatch(wrong, bench)),
+    }
+}
+
+/// Compares the start and the lines of an opening, and what its passes say, with a bench, and counts the lines that were
+/// added. The error is a number at which what they say of the history is false.
+fn compare<B: Ledger>(
+    bench: &Bench<Store>,
+    base: u32,
+    start: &Start,
+    lines: &EarlierLines,
+    passes: &[Pass<B>],
+) -> Result<u32, u32>
+    requires few { length passes.now ≤ MAX_PASSES }
+    requires counted { length bench.now.lines ≡ base + added_by_all passes.now }
+    ensures ok { IfOk result (λ added. Agrees (opened start.now lines.now (length passes.now)) passes.now bench.now added) }
+    ensures err { IfErr result (λ number. IsFalseAt (opened start.now lines.now (length passes.now)) passes.now bench.now number) }
+{
     let number = bench.lines();
-    if !bench.start().same(&start) {
-        return Err(SettleFault::Mismatch(number, bench));
+    if !bench.start().same(start) {
+        return Err(number);
     }
     if base as usize != lines.len() {
-        return Err(SettleFault::Mismatch(number, bench));
+        return Err(number);
     }
-    match bench.first_other(&lines) {
-        Some(other) => return Err(SettleFault::Mismatch(other, bench)),
+    match bench.first_other(lines) {
+        Some(other) => return Err(other),
         None => {}
     }
-    match merge(&bench, base, passes.as_slice()) {
-        Ok(()) => Ok(Settled {
-            bench,
-            lines: number - base,
-        }),
-        Err(wrong) => Err(SettleFault::Mismatch(wrong, bench)),
+    match merge(bench, base, passes) {
+        Ok(()) => Ok(number - base),
+        Err(wrong) => Err(wrong),
     }
 }
