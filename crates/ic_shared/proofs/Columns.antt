@@ -1,6 +1,7 @@
 -- The columns of passes, and what their receipts tell.
-use Rattle.std.proofs.Common.{◌≡◌, ◌≢◌, ◌↔◌, ℕ, zero, suc, ◌+◌, ◌*◌, List, [], ◌∷◌, length, map, option_map, get_or, ltb, ltb-true, ltb-false, true, false, Some, None, refl, sym, ap, ◌∙◌, subst, arith}
-use Rattle.std.specs.Prelude.{slice_get}
+use Rattle.std.proofs.Common.{◌≡◌, ◌≢◌, ◌↔◌, IsTrue, ℕ, zero, suc, ◌+◌, ◌*◌, List, [], ◌∷◌, length, map, option_map, get_or, ltb, ltb-true, ltb-false, true, false, Some, None, refl, sym, ap, ◌∙◌, subst, arith}
+use Rattle.std.specs.Prelude.{◌==◌, slice_get}
+use Rattle.std.proofs.lemmas.Bool.Decides.{nat_tests}
 use Rattle.std.proofs.lemmas.Option.{slice_get-map, slice_get_read, slice_get_past}
 use Rattle.ic_name.specs.Names.{Name}
 use Rattle.ic_name.specs.declared.lines.Line.{Line}
@@ -72,11 +73,18 @@ run_confirmed ns lines rs i number r B at its is = confirmed lines (map (told_in
 )
 
 -- where there's no receipt none is for the line
-pub none_confirmed : {A : Type 0} (tell : A → Told) (lines : List Line) (xs : List A) (i number : ℕ) → slice_get xs i ≡ None → ¬ Confirms lines (map tell xs) i number
-none_confirmed tell lines xs i number at h = let e : None ≡ Some h.1 = sym (slice_get-map tell xs i ∙ ap (option_map tell) at) ∙ h.3 in cc
+pub none_confirmed : {A : Type 0} (tell : A → Told) (lines : List Line) (xs : List A) (i number : ℕ) → slice_get xs i ≡ None → IsTrue false ↔ Confirms lines (map tell xs) i number
+none_confirmed tell lines xs i number at = (λ t. absurd cc, λ h. let e : None ≡ Some h.1 = sym (slice_get-map tell xs i ∙ ap (option_map tell) at) ∙ h.3 in absurd cc)
+
+-- two numbers are the same where a test says so
+same_number : (m n : ℕ) → IsTrue (m == n) → m ≡ n
+same_number m n t = grind (arith, nat_tests)
 
 -- a receipt with another number isn't for the line
-pub other_number : (lines : List Line) (xs : List Told) (i number : ℕ) (x : Told) → slice_get xs i ≡ Some x → x.number ≢ number → ¬ Confirms lines xs i number
-other_number lines xs i number x at other h =
-    let same : h.1 ≡ x = (let e : Some h.1 ≡ Some x = sym h.3 ∙ at in cc) in
-    other (ap (λ (z : Told). z.number) (sym same) ∙ number_for number h.0 h.1 h.4)
+pub other_number : (lines : List Line) (xs : List Told) (i number : ℕ) (x : Told) → slice_get xs i ≡ Some x → x.number ≢ number → IsTrue (x.number == number) ↔ Confirms lines xs i number
+other_number lines xs i number x at other = (
+  λ t. absurd (other (same_number x.number number t)),
+  λ h.
+      let same : h.1 ≡ x = (let e : Some h.1 ≡ Some x = sym h.3 ∙ at in cc) in
+      absurd (other (ap (λ (z : Told). z.number) (sym same) ∙ number_for number h.0 h.1 h.4)),
+)

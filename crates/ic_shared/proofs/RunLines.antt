@@ -1,11 +1,12 @@
 -- The receipts of runs.
-use Rattle.std.proofs.Common.{◌≡◌, ℕ, List, [], ◌∷◌, true, false, Option, Some, None, Result, Ok, Err, length, map, refl, ap, ◌∙◌}
+use Rattle.std.proofs.Common.{◌≡◌, ℕ, ◌+◌, List, [], ◌∷◌, true, false, Option, Some, None, Result, Ok, Err, length, map, refl, ap, ◌∙◌, length-append}
 use Rattle.std.specs.Prelude.{is_some, slice_get}
 use Rattle.ic_name.specs.Names.{Name}
 use Rattle.ic_name.specs.Events.{Event}
 use Rattle.ic_name.specs.declared.lines.Call.{Call}
 use Rattle.ic_name.specs.declared.lines.Call.TheVariants.{Fire}
 use Rattle.ic_name.specs.declared.lines.Reply.{Reply}
+use Rattle.ic_name.specs.declared.lines.Reply.TheVariants as reply
 use Rattle.ic_set.specs.declared.pairs.Fired.{Fired}
 use Rattle.ic_journal.specs.Calls.{FiresPair}
 use Rattle.ic_journal.specs.Views.{BenchView}
@@ -41,3 +42,28 @@ pair_line old new e (Err pair.Deep) answer f is = ap (λ ls. slice_get ls (lengt
 pair_line old new e (Err pair.Full) answer f is = ap (λ ls. slice_get ls (length old.lines)) f.0.lines ∙ first_behind old.lines _ [] ∙ (λ u. Some (record { call = Fire e; reply = replied is u }))
 pair_line old new e (Err pair.HistoryFull) answer f is = absurd (cc (is))
 pair_line old new e (Err pair.Memory) answer f is = absurd (cc (is))
+
+-- where it has a reply the history is longer by that line
+pub one_more : (old new : BenchView) (e : Event) (r : Result Fired PairFault) → FiresPair old e r new → true ≡ is_some (pair_reply r) → length new.lines ≡ length old.lines + 1
+one_more old new e (Ok fired) f replied = ap length f.0.0.lines ∙ length-append old.lines _
+one_more old new e (Err pair.Deep) f replied = ap length f.0.lines ∙ length-append old.lines _
+one_more old new e (Err pair.Full) f replied = ap length f.0.lines ∙ length-append old.lines _
+one_more old new e (Err pair.HistoryFull) f replied = absurd (cc (replied))
+one_more old new e (Err pair.Memory) f replied = absurd (cc (replied))
+
+-- and that line isn't one of an event that wasn't active
+pub no_refusal : (old new : BenchView) (e : Event) (r : Result Fired PairFault) → FiresPair old e r new → true ≡ is_some (pair_reply r)
+    → ((answer : Reply) → slice_get new.lines (length old.lines) ≡ Some (record { call = Fire e; reply = answer }) → answer ≡ reply.NotActive) → ⊥
+no_refusal old new e (Ok fired) f replied none = absurd (let n = none reply.Fired (pair_line old new e (Ok fired) reply.Fired f refl) in cc)
+no_refusal old new e (Err pair.Deep) f replied none = absurd (let n = none reply.Deep (pair_line old new e (Err pair.Deep) reply.Deep f refl) in cc)
+no_refusal old new e (Err pair.Full) f replied none = absurd (let n = none reply.Full (pair_line old new e (Err pair.Full) reply.Full f refl) in cc)
+no_refusal old new e (Err pair.HistoryFull) f replied none = absurd (cc (replied))
+no_refusal old new e (Err pair.Memory) f replied none = absurd (cc (replied))
+
+-- where it has none the history is as long as it was
+pub none_more : (old new : BenchView) (e : Event) (r : Result Fired PairFault) → FiresPair old e r new → false ≡ is_some (pair_reply r) → length new.lines ≡ length old.lines
+none_more old new e (Ok fired) f silent = absurd (cc (silent))
+none_more old new e (Err pair.Deep) f silent = absurd (cc (silent))
+none_more old new e (Err pair.Full) f silent = absurd (cc (silent))
+none_more old new e (Err pair.HistoryFull) f silent = ap (λ (v : BenchView). length v.lines) f.1
+none_more old new e (Err pair.Memory) f silent = ap length f.1.lines
