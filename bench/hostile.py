@@ -7,14 +7,14 @@ Each case says what is met, and what has to come of it: the exit status, what st
 begins. The last line counts the cases that passed and failed.
 """
 import os
-import pathlib
 import random
 import resource
 import subprocess
 import sys
 import tempfile
 
-PROGRAM = pathlib.Path(__file__).resolve().parent.parent / "crates/ic_bench/out/ic_bench"
+from program import program_named
+
 NET = b"G(x,a) = D(x,b);\n---\n"
 READ_FAILED = b"icbench: read failed\n"
 WRITE_FAILED = b"icbench: write failed\n"
@@ -154,11 +154,19 @@ CASES = [
 ]
 
 
+def passes(is_right, program):
+    """Whether all is as it should be, within the time that a run may take."""
+    try:
+        return is_right(program)
+    except subprocess.TimeoutExpired:
+        return False
+
+
 def main():
-    program = str(pathlib.Path(sys.argv[1]).resolve() if len(sys.argv) > 1 else PROGRAM)
+    program = program_named(sys.argv[1:])
     failed = 0
     for name, is_right in CASES:
-        right = is_right(program)
+        right = passes(is_right, program)
         failed += not right
         print(f"{name}: {'ok' if right else 'FAILED'}")
     print(f"{len(CASES) - failed} passed, {failed} failed")

@@ -16,15 +16,14 @@ back: erasures are fired and marked, undone, and fired again by going back
 
 import itertools
 import os
-import pathlib
 import random
 import subprocess
 import sys
 import tempfile
 import time
 
-ROOT = pathlib.Path(__file__).resolve().parent.parent
-PROGRAM = ROOT / "crates/ic_bench/out/ic_bench"
+from program import program_named
+
 RUNS = 3
 TURNS = 500
 LETTERS = "abcdefghijklmnopqrstuvwxyz"
@@ -155,7 +154,7 @@ def run(program, text):
 
 
 def main():
-    program = sys.argv[1] if len(sys.argv) > 1 else str(PROGRAM)
+    program = program_named(sys.argv[1:])
     chosen = sys.argv[2:] or list(KINDS)
     print(f"{'session':<14}{'calls':>8}{'seconds':>10}{'longer':>8}{'larger':>8}{'MiB':>8}", flush=True)
     for kind in chosen:

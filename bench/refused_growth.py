@@ -27,9 +27,10 @@ import sys
 import tempfile
 import time
 
+from program import PROGRAM, need
+
 CRATES = pathlib.Path(__file__).resolve().parent.parent / "crates"
 ROWS = CRATES / "ic_rows" / "data"
-PROGRAM = CRATES / "ic_bench" / "out" / "ic_bench"
 
 # The tests that pass whichever allocation is refused, by crate: links of the fast store; calls of desks over both stores,
 # sessions of one and two workers, and undos with room; firings and sweeps of a shared bench.
@@ -218,13 +219,14 @@ def is_begun(session, status, written):
 
 
 def main():
+    need(PROGRAM)
     words = sys.argv[1:]
     wanted = lambda name: not words or any(word in name for word in words)
     bad, met = [], 0
     with tempfile.TemporaryDirectory() as folder:
         refuser = Refuser(pathlib.Path(folder))
         for crate, modules in TESTS.items():
-            program = CRATES / crate / "out" / f"{crate}_tests"
+            program = need(CRATES / crate / "out" / f"{crate}_tests")
             listed = subprocess.run([program, "--list"], capture_output=True, text=True, check=True).stdout
             for name in re.findall(r"^(\S+): test$", listed, re.M):
                 if name.rpartition("::")[0] in modules and wanted(name):

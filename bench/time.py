@@ -6,13 +6,12 @@ least of five runs in seconds, and how much longer that took than the size befor
 What an empty session takes is in each of the times and is printed first.
 """
 
-import pathlib
 import subprocess
 import sys
 import time
 
-ROOT = pathlib.Path(__file__).resolve().parent.parent
-PROGRAM = ROOT / "crates/ic_bench/out/ic_bench"
+from program import program_named
+
 SIZES = (4_095, 8_190, 16_380, 32_760, 65_520)
 MOST_BYTES = 1_048_576
 RUNS = 5
@@ -63,7 +62,7 @@ def seconds(program, text):
 
 
 def main():
-    program = sys.argv[1] if len(sys.argv) > 1 else str(PROGRAM)
+    program = program_named(sys.argv[1:])
     print(f"{'text':<14}{'agents':>8}{'bytes':>10}{'answer':>10}{'seconds':>10}{'longer':>8}{'larger':>8}")
     empty, answer = seconds(program, b"")
     print(f"{'empty':<14}{0:>8}{0:>10}{answer:>10}{empty:>10.4f}")

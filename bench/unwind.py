@@ -12,7 +12,8 @@ import subprocess
 import sys
 import tempfile
 
-from reduce import COPY, COPY_EVENTS, PROGRAM
+from program import program_named
+from reduce import COPY, COPY_EVENTS
 
 DEPTH = 6
 EVENTS = 2 ** (DEPTH + 1) - 1
@@ -43,7 +44,7 @@ def instructions(program, text):
 
 
 def main():
-    program = sys.argv[1] if len(sys.argv) > 1 else str(PROGRAM)
+    program = program_named(sys.argv[1:])
     print(f"{'stand':>8}{'instructions':>14}")
     for copies in COPIES:
         stand = EVENTS + len(COPY_EVENTS) * copies

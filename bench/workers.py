@@ -26,7 +26,8 @@ import sys
 import tempfile
 import time
 
-from reduce import COPY, COPY_EVENTS, PROGRAM, erasers, self_wired
+from program import program_named
+from reduce import COPY, COPY_EVENTS, erasers, self_wired
 
 ROUNDS = 40
 GROUP = 5
@@ -113,7 +114,7 @@ def under_lock(program, net, events):
 
 
 def main():
-    program = sys.argv[1] if len(sys.argv) > 1 else str(PROGRAM)
+    program = program_named(sys.argv[1:])
     ways = f"{'by least':>10}{'by fives':>10}{'by mean':>9}"
     print(f"{'net':<14}{'events':>8}{'workers':>9}{'seconds':>9}{ways}{'under lock':>12}", flush=True)
     for kind in sys.argv[2:] or KINDS:

@@ -11,7 +11,11 @@ import subprocess
 import sys
 
 HERE = pathlib.Path(__file__).resolve().parent
-PROGRAM = HERE.parent / "crates/ic_bench/out/ic_bench"
+sys.path.insert(0, str(HERE.parent / "bench"))
+
+from program import program_named
+
+SECONDS = 60
 ROWS = HERE.parent / "crates/ic_rows/data"
 
 
@@ -21,17 +25,27 @@ def is_row(session, answer):
     return row.read_bytes() == session.read_bytes() and row.with_suffix(".out").read_bytes() == answer
 
 
+def difference(command, session, answer, said):
+    """What differs when the command runs the session; None if it answers this, and says this on standard error."""
+    try:
+        done = subprocess.run(command, input=session.read_bytes(), capture_output=True, check=False, timeout=SECONDS)
+    except subprocess.TimeoutExpired:
+        return f"not ended after {SECONDS} seconds"
+    if done.returncode != 0 or done.stdout != answer or done.stderr != said:
+        return f"answered otherwise, status {done.returncode}"
+    return None
+
+
 def main():
-    program = sys.argv[1] if len(sys.argv) > 1 else str(PROGRAM)
+    program = program_named(sys.argv[1:])
     sessions, wrong = sorted(HERE.glob("*.session")), 0
     for session in sessions:
         answer, errors = session.with_suffix(".answer").read_bytes(), session.with_suffix(".errors")
         explains = errors.exists()
-        command = [program, "--explain"] if explains else [program]
-        done = subprocess.run(command, input=session.read_bytes(), capture_output=True, check=False)
         said = errors.read_bytes() if explains else b""
-        if done.returncode != 0 or done.stdout != answer or done.stderr != said:
-            print(f"{session.name}: answered otherwise, status {done.returncode}")
+        found = difference([program, "--explain"] if explains else [program], session, answer, said)
+        if found:
+            print(f"{session.name}: {found}")
             wrong += 1
         if not explains and not is_row(session, answer):
             print(f"{session.name}: differs from crates/ic_rows/data")
