@@ -7,8 +7,7 @@ use Rattle.ic_session.specs.Sessions.{IsBegun, Writes}
 use Rattle.ic_session.specs.declared.fault.Fault.{Fault}
 use Rattle.ic_session.specs.declared.mode.Mode.{Mode}
 use Rattle.ic_session.specs.declared.session.Status.{Status}
-use Rattle.ic_bench.specs.Runs.{Held, mode_of}
-use Rattle.ic_bench.specs.declared.options.Options.{Options}
+use Rattle.ic_bench.specs.Runs.{Held}
 
 -- its text, where it ended
 abbrev pub Wrote : Mode → Option (List ℕ) → Held → Result Status Fault → Type 0
@@ -18,9 +17,9 @@ Wrote m input output ran = IfOk ran (λ status. IfSome input (λ bytes. Writes m
 abbrev pub Began : Mode → Option (List ℕ) → Held → Result Status Fault → Type 0
 Began m input output ran = OnErr ran (IfSome input (λ bytes. (text : List ℕ) × IsBegun m bytes text × Appends output.before output.after text))
 
-abbrev flagged : Options → Bool → Mode
-flagged options on = record { workers = options.workers; budget = options.budget; explains = on }
+abbrev flagged : Mode → Bool → Mode
+flagged m on = record { workers = m.workers; budget = m.budget; explains = on }
 
--- without the flag, a session only answers
-pub mode_plain : (options : Options) → options.explains ≡ false → mode_of options ≡ plain options.workers options.budget
-mode_plain options off = ap (flagged options) off
+-- one that doesn't explain itself only answers
+pub mode_plain : (m : Mode) → m.explains ≡ false → m ≡ plain m.workers m.budget
+mode_plain m off = ap (flagged m) off

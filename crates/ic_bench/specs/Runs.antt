@@ -1,5 +1,5 @@
 -- What a run of the program does.
-use Rattle.std.specs.Prelude.{◌≡◌, ◌≢◌, ℕ, false, List, Option, IfSome}
+use Rattle.std.specs.Prelude.{◌≡◌, ◌≢◌, ◌||◌, ℕ, false, List, Option, IfSome}
 use Rattle.std.specs.Io.KnownBytes.{Appends}
 use Rattle.clap.specs.Words.{Text}
 use Rattle.clap.specs.declared.error.kind.ErrorKind.{ErrorKind}
@@ -19,17 +19,17 @@ pub record Held : Type 0 where
   pub before : Option (List ℕ)
   pub after : Option (List ℕ)
 
--- the mode of a session that is run with these options
+-- the mode of a session that is run with these options: one at a terminal explains itself, too
 abbrev pub mode_of : Options → Mode
-mode_of options = record { workers = options.workers; budget = options.budget; explains = options.explains }
+mode_of options = record { workers = options.workers; budget = options.budget; explains = options.explains || options.interactive }
 
 -- A session with these options over this input ends in a status: it wrote its text, or it broke off in a fault and said so. A writer that
 -- fails holds a front of what it was given. One that explains itself says more.
 pub data RunsSession (options : Options) (input : Option (List ℕ)) (output errors : Held) : ℕ → Type 0 where
   ended : (status : Status) → IfSome input (λ bytes. Writes (mode_of options) bytes status output.before output.after)
-      → (options.explains ≡ false → errors.after ≡ errors.before) → RunsSession options input output errors (session_status status)
+      → ((mode_of options).explains ≡ false → errors.after ≡ errors.before) → RunsSession options input output errors (session_status status)
   broken : (fault : Fault) → IfSome input (λ bytes. (text : List ℕ) × IsBegun (mode_of options) bytes text × Appends output.before output.after text)
-      → (options.explains ≡ false → AppendsFront errors.before errors.after (fault_line fault)) → RunsSession options input output errors (fault_status fault)
+      → ((mode_of options).explains ≡ false → AppendsFront errors.before errors.after (fault_line fault)) → RunsSession options input output errors (fault_status fault)
 
 -- the command line is wrong, and doesn't ask for a text
 abbrev pub IsMistake : ErrorKind → Type 0

@@ -2,7 +2,7 @@
 pub const VERSION: &str = "0.1.0";
 
 /// How the program is called.
-pub const USE: &str = "icbench [--workers 1..64] [--budget 0..1048576] [--explain] < FILE";
+pub const USE: &str = "icbench [--workers 1..64] [--budget 0..1048576] [--explain] [-i] < FILE";
 
 /// What stands in the help above the usage.
 pub const ABOUT: &str =
@@ -32,7 +32,7 @@ Commands:
   undo-all     undo all events
 
 With --explain also:
-  agents, history, marks, dependents A B, step, rules, help: help tells what they do; each refusal is explained
+  agents, causes, history, marks, dependents A B, step, rules, help, quit: help tells what they do; each refusal is explained
 
 Example:
   G(x,a) = D(x,b);

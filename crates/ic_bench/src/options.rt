@@ -1,11 +1,12 @@
 ghost use Rattle.std.specs.Prelude.{◌≡◌, IfErr, IfOk, map, false};
 ghost use Rattle.clap.specs.Words.{IsPlain, IsPlainArg, app_of, kind_of, rule_of};
 ghost use Rattle.clap.specs.declared.builder.command.Command.TheViews.{out-Command};
-ghost use Rattle.ic_bench.specs.CommandLine.{Choose, IsFaultOf, budget_rule, explain_rule, icbench, workers_rule};
+ghost use Rattle.ic_bench.specs.CommandLine.{Choose, IsFaultOf, budget_rule, explain_rule, icbench, interactive_rule, scripted, workers_rule};
+ghost use Rattle.ic_bench.specs.Runs.{mode_of};
 
 use crate::help::{ABOUT, LESSON, USE, VERSION};
 use clap::{Arg, ArgAction, Command, Error, value_parser};
-use ic_session::{MAX_BUDGET, MAX_WORKERS};
+use ic_session::{MAX_BUDGET, MAX_WORKERS, Mode, Prompts};
 use std::alloc::{AllocError, Global};
 use std::convert::AsStr;
 
@@ -18,6 +19,30 @@ pub struct Options {
     pub budget: u32,
     /// Whether the session explains itself.
     pub explains: bool,
+    /// Whether it does so at a terminal, and asks for each line.
+    pub interactive: bool,
+}
+
+impl Options {
+    /// How the session is run. One at a terminal explains itself, too.
+    pub fn mode(self) -> Mode
+        ensures { result ≡ mode_of self }
+    {
+        Mode {
+            workers: self.workers,
+            budget: self.budget,
+            explains: self.explains || self.interactive,
+        }
+    }
+
+    /// What the session asks for by prompts.
+    pub fn prompts(self) -> Prompts {
+        if self.interactive {
+            Prompts::Lines
+        } else {
+            Prompts::Silent
+        }
+    }
 }
 
 /// Reads the words of a command line, the first of which names the program.
@@ -32,12 +57,22 @@ pub fn read_options<S: AsStr>(alloc: Global, words: &[S]) -> Result<Options, Err
         workers: workers.unwrap_or(1),
         budget: budget.unwrap_or(MAX_BUDGET),
         explains: matches.get_flag("explain"),
+        interactive: matches.get_flag("interactive"),
     })
 }
 
 /// The command line.
 fn command<'a>(alloc: Global) -> Result<Command<'a>, AllocError>
     ensures shape { IfOk result (λ command. app_of command ≡ icbench) }
+    ensures plain { IfOk result (λ command. IsPlain command) }
+    ensures local { IfOk result (λ command. (out-Command command).has_globals ≡ false) }
+{
+    scripted_command(alloc)?.arg(interactive_argument(alloc))
+}
+
+/// The command line of a session that isn't one at a terminal.
+fn scripted_command<'a>(alloc: Global) -> Result<Command<'a>, AllocError>
+    ensures shape { IfOk result (λ command. app_of command ≡ scripted) }
     ensures plain { IfOk result (λ command. IsPlain command) }
     ensures local { IfOk result (λ command. (out-Command command).has_globals ≡ false) }
 {
@@ -88,4 +123,16 @@ fn explain_argument<'a>(alloc: Global) -> Arg<'a>
         .help(
             "answers questions, too, and says on standard error what is wrong with what is refused",
         )
+}
+
+/// The option that says that the session is one at a terminal.
+fn interactive_argument<'a>(alloc: Global) -> Arg<'a>
+    ensures rule { rule_of result ≡ interactive_rule }
+    ensures plain { IsPlainArg result × (result.global ≡ false) }
+{
+    Arg::new(alloc, "interactive")
+        .short('i')
+        .long("interactive")
+        .action(ArgAction::SetTrue)
+        .help("explains, too, and asks for each line on standard error, as at a terminal")
 }

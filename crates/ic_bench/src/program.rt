@@ -15,7 +15,7 @@ use crate::statuses::{
 use clap::Error;
 use clap::error::ErrorKind;
 use ic_command::write_reply;
-use ic_session::{Fault, Gate, MAX_WORKERS, Mode, Setting, run_in, run_session};
+use ic_session::{Fault, Gate, MAX_WORKERS, Setting, run_in, run_session};
 use std::alloc::Global;
 use std::convert::AsStr;
 use std::io;
@@ -57,25 +57,18 @@ fn run<R: Read, W: Write, E: Write, T: Threads + Wait + Sync, G: Gate>(
     requires { (0 < options.workers) × (options.workers ≤ MAX_WORKERS) }
     ensures { RunsSession options (R.remaining reader.old) (record { before = W.contents writer.old; after = W.contents writer.new }) (record { before = E.contents errors.old; after = E.contents errors.new }) result }
 {
-    let Options {
-        workers,
-        budget,
-        explains,
-    } = options;
-    let ran = if explains {
+    let mode = options.mode();
+    let ran = if mode.explains {
         let setting = Setting {
             threads,
             alloc,
             gate,
-            mode: Mode {
-                workers,
-                budget,
-                explains,
-            },
+            mode,
+            prompts: options.prompts(),
         };
         run_in(&setting, reader, writer, errors)
     } else {
-        run_session(threads, alloc, reader, writer, workers, budget)
+        run_session(threads, alloc, reader, writer, mode.workers, mode.budget)
     };
     match ran {
         Ok(status) => session_status(status),

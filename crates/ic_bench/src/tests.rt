@@ -117,7 +117,7 @@ fn a_session_that_explains_itself(rt: HostRuntime) {
     let output =
         b"agents 2\n0 G(_0,a) = _1;\n1 D(_0,b) = _1;\nfired 0 1\ndependents 0 1 events 1\n0 1\nhistory 1\n0 fire 0 1: fired\nrefused 21 not active\nmarked m 1\nmarks 1\nm 1\nrefused 40 command\nrefused 40 command\n";
     let errors =
-        b"line 7: the two agents aren't both there with their principal ports joined; active lists the pairs that can fire\nline 10: no command begins so; help lists those that there are, in small letters\nline 11: expected behind the first word are the names of two different agents, such as 0 and 0.2\n";
+        b"line 7: the two agents aren't both there with their principal ports joined; active lists the pairs that can fire\nline 10: no command begins with NET; help lists all\nline 11: the two agents must be different; both are 0\n";
     let words = ["icbench", "--explain"];
     assert!(rt; runs(&rt, rt.alloc(), &words, input, 0, output, errors));
     let question = b"---\nagents\n";
@@ -132,6 +132,17 @@ fn a_session_that_explains_itself(rt: HostRuntime) {
             b""
         )
     );
+}
+
+#[test]
+fn a_session_at_a_terminal_asks_for_lines(rt: HostRuntime) {
+    let input = b"G(x,a) = D(x,b);\n---\nfire 0 1\nquit\nundo 0 1\n";
+    let said =
+        b"net> net> net read: 2 agents, 1 active pair; help lists the commands\nicbench> icbench> ";
+    for word in ["-i", "--interactive"] {
+        let words = ["icbench", word];
+        assert!(rt; runs(&rt, rt.alloc(), &words, input, 0, b"fired 0 1\n", said));
+    }
 }
 
 #[test]
@@ -194,7 +205,7 @@ fn command_lines_that_are_refused(rt: HostRuntime) {
         b"error: invalid value '1048577' for '--budget <0..1048576>': 1048577 is not in 0..=1048576\n\nFor more information, try '--help'.\n";
     assert!(rt; refuses(&rt, rt.alloc(), &["icbench", "--budget", "1048577"], much));
     let word =
-        b"error: unexpected argument 'net' found\n\nUsage: icbench [--workers 1..64] [--budget 0..1048576] [--explain] < FILE\n\nFor more information, try '--help'.\n";
+        b"error: unexpected argument 'net' found\n\nUsage: icbench [--workers 1..64] [--budget 0..1048576] [--explain] [-i] < FILE\n\nFor more information, try '--help'.\n";
     assert!(rt; refuses(&rt, rt.alloc(), &["icbench", "net"], word));
 }
 
@@ -231,6 +242,7 @@ fn the_help_names_each_command(rt: HostRuntime) -> Result<(), Fail> {
         "--workers <1..64>",
         "--budget <0..1048576>",
         "--explain",
+        "-i, --interactive",
     ];
     for name in names {
         assert!(rt; text.contains(name), "no {name}");

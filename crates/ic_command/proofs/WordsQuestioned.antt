@@ -6,11 +6,11 @@ use Rattle.ic_name.specs.Events.{Pair}
 use Rattle.ic_command.specs.declared.question.Question.{Question}
 use Rattle.ic_command.specs.declared.question.Question.TheVariants.{Dependents}
 use Rattle.ic_command.specs.Commands.{AreAgents, IsEventIn}
-use Rattle.ic_command.specs.Questions.{AreQuestionWords, AsksQuestion, agents, history, marks, rules, help, step, dependents}
+use Rattle.ic_command.specs.Questions.{AreQuestionWords, AsksQuestion, agents, causes, history, marks, rules, help, step, dependents}
 
 -- a word that asks a question by itself
 abbrev pub is_plain_question : List ℕ → Bool
-is_plain_question w = (bytes_eq w (codes "agents") || bytes_eq w (codes "history")) || ((bytes_eq w (codes "marks") || bytes_eq w (codes "rules")) || (bytes_eq w (codes "help") || bytes_eq w (codes "step")))
+is_plain_question w = (bytes_eq w (codes "agents") || bytes_eq w (codes "history")) || ((bytes_eq w (codes "marks") || bytes_eq w (codes "rules")) || (bytes_eq w (codes "help") || (bytes_eq w (codes "step") || bytes_eq w (codes "causes"))))
 
 -- a word that begins a question, with what may stand behind it
 data Begins (w : List ℕ) (rest : List (List ℕ)) (q : Question) : Type 0 where
@@ -20,6 +20,7 @@ data Begins (w : List ℕ) (rest : List (List ℕ)) (q : Question) : Type 0 wher
 -- words that ask a question begin with such a word
 begins : (w : List ℕ) (rest ws : List (List ℕ)) (q : Question) → AsksQuestion ws q → ws ≡ w ∷ rest → Begins w rest q
 begins w rest ws q agents e = let same : codes "agents" ≡ w = cc in plain (sym (ap is_plain_question same)) cc
+begins w rest ws q causes e = let same : codes "causes" ≡ w = cc in plain (sym (ap is_plain_question same)) cc
 begins w rest ws q history e = let same : codes "history" ≡ w = cc in plain (sym (ap is_plain_question same)) cc
 begins w rest ws q marks e = let same : codes "marks" ≡ w = cc in plain (sym (ap is_plain_question same)) cc
 begins w rest ws q rules e = let same : codes "rules" ≡ w = cc in plain (sym (ap is_plain_question same)) cc

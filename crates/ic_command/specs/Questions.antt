@@ -3,13 +3,14 @@ use Rattle.std.specs.Prelude.{◌≡◌, ℕ, true, List, [], ◌∷◌, codes, 
 use Rattle.std.specs.Io.BufRead.{strip_last}
 use Rattle.ic_name.specs.Events.{Pair}
 use Rattle.ic_command.specs.declared.question.Question.{Question}
-use Rattle.ic_command.specs.declared.question.Question.TheVariants.{Agents, Dependents, History, Marks, Rules, Help, Step}
+use Rattle.ic_command.specs.declared.question.Question.TheVariants.{Agents, Causes, Dependents, History, Marks, Rules, Help, Step}
 use Rattle.ic_command.specs.Commands.{AreAgents, is_well_formed}
 use Rattle.ic_command.specs.Words.{words}
 
 -- words that ask a question
 pub data AsksQuestion : List (List ℕ) → Question → Type 0 where
   agents : AsksQuestion (codes "agents" ∷ []) Agents
+  causes : AsksQuestion (codes "causes" ∷ []) Causes
   history : AsksQuestion (codes "history" ∷ []) History
   marks : AsksQuestion (codes "marks" ∷ []) Marks
   rules : AsksQuestion (codes "rules" ∷ []) Rules
@@ -30,3 +31,7 @@ IsQuestion line q = (is_well_formed (strip_last 13 line) ≡ true) × AsksQuesti
 abbrev pub IsQuestionIn : List ℕ → Option Question → Type 0
 IsQuestionIn line (Some q) = IsQuestion line q
 IsQuestionIn line None = (q : Question) → ¬ (IsQuestion line q)
+
+-- the line is the word `quit` alone; a carriage return at its end goes first
+abbrev pub IsQuit : List ℕ → Type 0
+IsQuit line = (is_well_formed (strip_last 13 line) ≡ true) × (words (strip_last 13 line) ≡ codes "quit" ∷ [])

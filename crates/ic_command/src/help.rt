@@ -9,6 +9,7 @@ undo A B: undo the event of A and B, if no other rests on it
 unwind A B: undo the event of A and B and all that rests on it
 undo-all: undo all events
 why A B: tell the rank and the direct causes of an event
+causes: list the events that stand, each with its rank and its direct causes
 dependents A B: list what unwind would undo
 journal: list the events that stand
 history: list all calls so far, with what was answered
@@ -17,4 +18,5 @@ marks: list the marks
 back NAME: go back to the events that were noted
 absorb K: fire the events that the next K lines list
 rules: tell what a firing does
+quit: end the session
 ";

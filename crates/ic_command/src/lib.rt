@@ -9,6 +9,7 @@ pub mod lines;
 pub mod listed;
 pub mod mark_name;
 pub mod question;
+pub mod quit;
 pub mod request;
 pub mod words;
 
@@ -19,4 +20,5 @@ pub use lines::{Input, IoFault, Output, Piece, write_reply};
 pub use listed::listed_of;
 pub use mark_name::MarkName;
 pub use question::{Question, question_of};
+pub use quit::is_quit;
 pub use request::Request;

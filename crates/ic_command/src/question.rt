@@ -13,6 +13,8 @@ use std::alloc::{AllocError, Global};
 pub enum Question {
     /// Which line of the printed net is which agent's.
     Agents,
+    /// All standing events with their ranks and direct causes.
+    Causes,
     /// What rests on an event.
     Dependents(EventName),
     /// All calls so far, with what was answered.
@@ -75,6 +77,8 @@ fn plain_question(word: &[u8]) -> Option<Question>
         Some(Question::Help)
     } else if word == b"step".as_slice() {
         Some(Question::Step)
+    } else if word == b"causes".as_slice() {
+        Some(Question::Causes)
     } else {
         None
     }

@@ -27,6 +27,7 @@ pub mod UnwindingReplies
 pub mod ReducingReplies
 pub mod NumberedLines
 pub mod RestingEvents
+pub mod CausedEvents
 pub mod HistoryLines
 pub mod UntoldTurns
 pub use Rattle.ic_undo.proofs.Backs

@@ -41,7 +41,7 @@ none_named v p at none x n =
     none m.0 m.1 (ap (λ (y : Standing). pair y.event) m.2 ∙ n.name)
 
 -- the rank of an event that stands
-rank_at : (v : BenchView) {st : State} → IsAt v st → (x : Stander) (r : ℕ) → ((rank : Event → ℕ) → IsRank v.start (standing (set_of v)) rank → r ≡ rank x.event) → HasRank v.start (events st) x.event r
+pub rank_at : (v : BenchView) {st : State} → IsAt v st → (x : Stander) (r : ℕ) → ((rank : Event → ℕ) → IsRank v.start (standing (set_of v)) rank → r ≡ rank x.event) → HasRank v.start (events st) x.event r
 rank_at v at x r f rank is = f rank (rank-alike v.start rank (alike_back (events_at v at)) is)
 
 -- a direct cause of an event that stands stands
@@ -58,7 +58,7 @@ cause_by_id v b x i y k =
     subst (λ (z : Stander). IsCause v.start (standing (set_of v)) z.event y.event) same k.1.3
 
 -- the direct causes of an event that stands
-causes_at : (v : BenchView) {st : State} → IsBench v → IsAt v st → (x : Stander) (ids : List EventId) → IsIn x v.events → (a : AreInOrder (set_of v) (IsCauseOf (set_of v) x.id) ids)
+pub causes_at : (v : BenchView) {st : State} → IsBench v → IsAt v st → (x : Stander) (ids : List EventId) → IsIn x v.events → (a : AreInOrder (set_of v) (IsCauseOf (set_of v) x.id) ids)
     → AreCauses v.start (events st) x.event (events_of a.order)
 causes_at v {st} b at x ids i a = record {
   each = each_image (λ (y : Stander). y.event) (λ y. IsIn y v.events × IsCauseOf (set_of v) x.id y) (λ c. IsCause v.start (events st) x.event c) a.order a.each

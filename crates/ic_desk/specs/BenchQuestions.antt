@@ -15,9 +15,10 @@ use Rattle.ic_text.specs.AgentsText.{agents_text}
 use Rattle.ic_journal.specs.Views.{BenchView}
 use Rattle.ic_journal.specs.Benches.{IsAt}
 use Rattle.ic_command.specs.declared.question.Question.{Question}
-use Rattle.ic_command.specs.declared.question.Question.TheVariants.{Agents, Dependents, History, Rules}
+use Rattle.ic_command.specs.declared.question.Question.TheVariants.{Agents, Causes, Dependents, History, Rules}
 use Rattle.ic_desk.specs.declared.answer.refused.Refused.TheVariants.{NotStanding}
 use Rattle.ic_desk.specs.declared.answer.rules.TheConstants.{RULES}
+use Rattle.ic_desk.specs.Caused.{Caused, AreCaused, causes_text}
 use Rattle.ic_desk.specs.Histories.{history_text}
 use Rattle.ic_desk.specs.CommandReplies.{IsNamed, NoneIsNamed}
 use Rattle.ic_name.specs.NameTexts.{pair_text}
@@ -36,6 +37,7 @@ dependents_text p es = codes "dependents " ++ pair_text p ++ codes " events " ++
 -- what is told in answer to a question
 pub data Informs (s : Start) (st : State) : Question → List ℕ → Type 0 where
   agents : {l : ListedNet} → IsListing l → IsSameNet (shown l) (net_of s (events st)) → Informs s st Agents (agents_text s.names l)
+  causes : {xs : List Caused} → AreCaused s (events st) xs → Informs s st Causes (causes_text xs)
   dependents : {p : Pair} {x : Standing} {es : List Event} → IsNamed st p x → AreResting s (events st) x.event es → Informs s st (Dependents p) (dependents_text p es)
   not_standing : {p : Pair} → NoneIsNamed st p → Informs s st (Dependents p) (refusal_text NotStanding)
   history : {xs : List Line} → IsHistory s xs st → Informs s st History (history_text xs)

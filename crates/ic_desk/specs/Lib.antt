@@ -7,6 +7,7 @@ pub mod ManyWorkers
 pub mod Absorbs
 pub mod Questions
 pub mod Histories
+pub mod Caused
 pub mod BenchQuestions
 pub mod Texts
 pub mod Standing

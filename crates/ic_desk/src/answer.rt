@@ -6,6 +6,7 @@ ghost use Rattle.ic_desk.specs.Longer.{HasGrown, IsLonger};
 ghost use Rattle.ic_desk.specs.Turns.{TurnsByCommand};
 
 pub mod agents;
+pub mod causes;
 mod changing;
 pub mod dependents;
 pub mod histories;
@@ -24,6 +25,7 @@ use crate::answer::reducing::reduce;
 use crate::answer::unwinding::{undo_everything, undo_with_dependents};
 use crate::answer::why::why;
 pub use agents::tell_agents;
+pub use causes::tell_causes;
 pub use dependents::tell_dependents;
 pub use histories::tell_history;
 use ic_command::command::Command;

@@ -1,4 +1,7 @@
-ghost use Rattle.std.specs.Prelude.{◌≡◌, ◌<◌, ◌≤◌, IfErr, IfOk, MatchResult, OnErr};
+ghost use Rattle.std.specs.Prelude.{◌≡◌, ◌<◌, ◌≤◌, List, length, IfErr, IfOk, MatchResult, OnErr};
+ghost use Rattle.ic_set.specs.Pairs.{AreActivePairs};
+ghost use Rattle.ic_set.specs.declared.pairs.ActivePair.{ActivePair as APair};
+ghost use Rattle.ic_journal.specs.Views.{set_of};
 ghost use Rattle.ic_desk.specs.Longer.{HasGrown, IsLonger};
 ghost use Rattle.ic_desk.specs.Texts.{answer_text};
 ghost use Rattle.ic_command.specs.declared.command.Command.TheVariants.{Reduce};
@@ -53,6 +56,14 @@ impl<L: LinkStore> Desk<L> {
             bench,
             marks: Vec::new(alloc),
         })
+    }
+
+    /// How many pairs are active.
+    pub fn active_pairs(&self) -> Result<usize, AllocError>
+        ensures { IfOk result (λ count. (pairs : List APair) × AreActivePairs (set_of self.now.bench) pairs × (count ≡ length pairs)) }
+    {
+        let pairs = self.bench.active()?;
+        Ok(pairs.len())
     }
 
     /// Answers a request. Where there is no memory for it, the answer is a refusal, and then neither net, standing set nor

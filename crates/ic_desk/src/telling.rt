@@ -5,7 +5,9 @@ ghost use Rattle.ic_command.specs.declared.question.Question.TheVariants.{Step};
 ghost use Rattle.ic_desk.specs.Questions.{Told, mark_line, marks_text};
 ghost use Rattle.ic_desk.specs.Views.{note_of};
 
-use crate::answer::{Answer, RULES, Refused, tell_agents, tell_dependents, tell_history};
+use crate::answer::{
+    Answer, RULES, Refused, tell_agents, tell_causes, tell_dependents, tell_history,
+};
 use crate::desk::Desk;
 use crate::named_mark::NamedMark;
 use ic_command::{Command, HELP, Question, Request};
@@ -22,6 +24,7 @@ impl<L: LinkStore> Desk<L> {
     {
         match question {
             Question::Agents => Ok(Answer::text_or_memory(tell_agents(alloc, &self.bench))),
+            Question::Causes => Ok(Answer::text_or_memory(tell_causes(alloc, &self.bench))),
             Question::Dependents(event) => Ok(Answer::answer_or_memory(tell_dependents(
                 alloc,
                 &self.bench,

@@ -2,7 +2,7 @@ use crate::compare::{Difference, different_line, first_difference};
 use crate::plain::run_plain_session;
 use crate::row::{Row, Stores};
 use anyhow::{Context, Result};
-use ic_session::{Mode, NoGate, Setting, run_in, run_session};
+use ic_session::{Mode, NoGate, Prompts, Setting, run_in, run_session};
 use std::alloc::Global;
 use std::fs;
 use std::rt::Files;
@@ -99,6 +99,7 @@ fn on_explained<T: Threads + Wait + Sync>(
             budget: row.budget,
             explains: true,
         },
+        prompts: Prompts::Silent,
     };
     let ended = run_in(&setting, &mut reader, &mut written, &mut errors);
     match first_difference(ended, row.status, &written, wanted) {

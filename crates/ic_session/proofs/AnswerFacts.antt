@@ -52,8 +52,7 @@ pub answered_all : (s : Start) (m : Mode) (st : State) (v : DeskView) (old now n
 answered_all s m st v None now next before after o h e t = tt
 answered_all s m st v (Some xs) None next before after o h e t = absurd h
 answered_all s m st v (Some xs) (Some ys) next before after o h e t =
-    let ended : ys ≡ [] = subst (λ p. TakesNext m p ys next) e t in
-    (h.2, (h.0, subst (λ zs. AreAnswered s m st (lines xs) h.2 h.0 (lines zs)) ended h.4), h.3)
+    (h.2, (h.0, lines ys, h.4, subst (λ p. TakesNext m p ys next) e t), h.3)
 
 -- the lines that are left could not be read: no more was written
 pub answered_begun : (s : Start) (m : Mode) (st : State) (v : DeskView) (old now before after : Option (List ℕ))

@@ -9,7 +9,7 @@ use Rattle.ic_desk.specs.Desks.{State, initial}
 use Rattle.ic_desk.specs.ManyWorkers.{RepliesWith, as_one, swept}
 use Rattle.ic_desk.specs.Replies.{RepliesToRequest}
 use Rattle.ic_session.specs.InputLines.{TextLine, lines, net_part, command_lines}
-use Rattle.ic_session.specs.Modes.{TakesDemand, Gives, asks, requests, replied, told, plain}
+use Rattle.ic_session.specs.Modes.{IsDone, TakesDemand, Gives, asks, no_line, quits, requests, replied, told, plain}
 use Rattle.ic_session.specs.declared.demand.Demand.{Demand}
 use Rattle.ic_session.specs.declared.demand.Demand.TheVariants.{Requests}
 use Rattle.ic_session.specs.Refusals.{refusal_line}
@@ -39,7 +39,12 @@ nothing_taken same (wanting h few) = cc
 -- a session that only answers takes requests alone
 plain_taken : {budget : ℕ} {ls left : List TextLine} {d : Demand} → TakesDemand (plain 1 budget) ls d left → (r : Request) × (d ≡ Requests r) × Takes ls r left
 plain_taken (asks on a) = absurd cc
-plain_taken (requests {r = r} unasked t) = (r, refl, t)
+plain_taken (requests {r = r} unasked on t) = (r, refl, t)
+
+-- and ends with its lines
+plain_done : {budget : ℕ} {ls : List TextLine} → IsDone (plain 1 budget) ls → ls ≡ []
+plain_done no_line = refl
+plain_done (quits on) = absurd cc
 
 -- and gives the answers of one worker
 plain_reply : {s : Start} {budget : ℕ} {st next : State} {d : Demand} {r : Request} {text : List ℕ} → d ≡ Requests r → Gives (plain 1 budget) s st d text next → RepliesToRequest s st (within budget r) text next
@@ -77,7 +82,7 @@ one_ended budget input a b h k n m =
     let one = one_start (net_part (lines input)) k.start h.start k.denoted h.denoted in
     let answers = subst (λ (s : Start). AreAnswers s (plain 1 budget) initial (command_lines (lines input)) b) one k.answers in
     let used = first_in_use h.start in
-    one_answers ok budget refl refl refl used used first_same h.answers.1 answers.1 n m
+    one_answers ok budget refl (plain_done h.answers.3) (plain_done answers.3) used used first_same h.answers.2 answers.2 n m
 
 -- a session that names a fault
 one_named : (input a b : List ℕ) → NamesFault input a → NamesFault input b → a ≡ b

@@ -3,7 +3,7 @@ use Rattle.std.specs.Prelude.{◌≡◌, ℕ, true, false, List, ◌∷◌, Opti
 use Rattle.ic_theory.specs.Starts.{Start}
 use Rattle.ic_command.specs.declared.question.Question.{Question}
 use Rattle.ic_command.specs.declared.request.Request.{Request}
-use Rattle.ic_command.specs.Questions.{IsQuestion}
+use Rattle.ic_command.specs.Questions.{IsQuestion, IsQuit}
 use Rattle.ic_command.specs.Requests.{within}
 use Rattle.ic_desk.specs.Desks.{State}
 use Rattle.ic_desk.specs.ManyWorkers.{RepliesWith}
@@ -19,11 +19,20 @@ use Rattle.ic_session.specs.NextRequest.{Takes}
 abbrev pub plain : ℕ → ℕ → Mode
 plain workers budget = record { workers = workers; budget = budget; explains = false }
 
+-- the line ends the session
+abbrev pub Quits : Mode → List ℕ → Type 0
+Quits m line = (m.explains ≡ true) × IsQuit line
+
+-- nothing more is answered: no line is left, or the first of them ends the session
+pub data IsDone (m : Mode) : List TextLine → Type 0 where
+  no_line : IsDone m []
+  quits : {line : TextLine} {ls : List TextLine} → Quits m line.bytes → IsDone m (line ∷ ls)
+
 -- What the first of these lines asks for, with the lines that it takes behind it, and the lines that are left: a question
--- where the session explains itself and the line asks one, and else a request.
+-- where the session explains itself and the line asks one, and else a request, if the line doesn't end the session.
 pub data TakesDemand (m : Mode) : List TextLine → Demand → List TextLine → Type 0 where
   asks : {line : TextLine} {ls : List TextLine} {q : Question} → m.explains ≡ true → IsQuestion line.bytes q → TakesDemand m (line ∷ ls) (demand.Asks q) ls
-  requests : {line : TextLine} {ls left : List TextLine} {r : Request} → (m.explains ≡ true → (q : Question) → ¬ (IsQuestion line.bytes q)) → Takes (line ∷ ls) r left
+  requests : {line : TextLine} {ls left : List TextLine} {r : Request} → (m.explains ≡ true → (q : Question) → ¬ (IsQuestion line.bytes q)) → ¬ (Quits m line.bytes) → Takes (line ∷ ls) r left
       → TakesDemand m (line ∷ ls) (demand.Requests r) left
 
 -- the question of a line in such a session, if it asks one
@@ -31,10 +40,10 @@ abbrev pub IsQuestionAt : Mode → List ℕ → Option Question → Type 0
 IsQuestionAt m line (Some q) = (m.explains ≡ true) × IsQuestion line q
 IsQuestionAt m line None = m.explains ≡ true → (q : Question) → ¬ (IsQuestion line q)
 
--- the next demand was taken, and the lines behind it are left; or nothing was left
+-- the next demand was taken, and the lines behind it are left; or nothing more is answered
 abbrev pub TakesNext : Mode → Option Demand → List ℕ → Option (List ℕ) → Type 0
 TakesNext m (Some d) old new = IsSomeAnd new (λ left. TakesDemand m (lines old) d (lines left))
-TakesNext m None old new = old ≡ []
+TakesNext m None old new = IsDone m (lines old)
 
 -- the answer to a demand, and the state after it
 pub data Gives (m : Mode) (s : Start) (st : State) : Demand → List ℕ → State → Type 0 where

@@ -9,7 +9,7 @@ use Rattle.ic_session.specs.InputLines.{TextLine, lines, net_part, command_lines
 use Rattle.ic_desk.specs.Desks.{State, initial}
 use Rattle.ic_desk.specs.Views.{DeskView}
 use Rattle.ic_command.specs.Faults.{AppendsFront}
-use Rattle.ic_session.specs.Modes.{TakesDemand, Gives, TurnsIn}
+use Rattle.ic_session.specs.Modes.{IsDone, TakesDemand, Gives, TurnsIn}
 use Rattle.ic_session.specs.declared.demand.Demand.{Demand}
 use Rattle.ic_session.specs.declared.mode.Mode.{Mode}
 use Rattle.ic_session.specs.Refusals.{refusal_line}
@@ -24,9 +24,9 @@ pub data AreAnswered (s : Start) (m : Mode) : State → List TextLine → List �
       → TakesDemand m ls d mid → Gives m s st d reply next → AreAnswered s m next mid behind last left
       → AreAnswered s m st ls (reply ++ behind) last left
 
--- the answers to all of them
+-- the answers to all of them, or to all before the one that ends the session
 abbrev pub AreAnswers : Start → Mode → State → List TextLine → List ℕ → Type 0
-AreAnswers s m st ls text = (last : State) × AreAnswered s m st ls text last []
+AreAnswers s m st ls text = (last : State) × (left : List TextLine) × AreAnswered s m st ls text last left × IsDone m left
 
 -- a demand was met, and the answer to it was written
 pub record IsAnswered (m : Mode) (old : DeskView) (d : Demand) (new : DeskView) (before after : Option (List ℕ)) : Type 0 where

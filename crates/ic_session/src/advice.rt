@@ -2,9 +2,11 @@ ghost use Rattle.std.specs.Prelude.{◌≤◌, IfSome};
 
 use crate::topics::Topic;
 
-/// What was wrong with a request that was answered so, and what would be right; `None` where it wasn't refused.
-pub(crate) fn advice(topic: Topic, answer: &[u8]) -> Option<&'static str> {
-    match number_of(answer)? {
+/// What was wrong with a request that was refused by this number, and what would be right; `None` for a number that no request is
+/// refused by.
+pub(crate) fn advice(topic: Topic, number: u8) -> Option<&'static str> {
+    match number {
+        21 if topic == Topic::Alone => Some("no pair is active, so there is nothing to fire"),
         21 => Some(
             "the two agents aren't both there with their principal ports joined; active lists the pairs that can fire",
         ),
@@ -35,21 +37,22 @@ pub(crate) fn advice(topic: Topic, answer: &[u8]) -> Option<&'static str> {
 /// What is expected of a line about this.
 fn expected(topic: Topic) -> &'static str {
     match topic {
-        Topic::Alone => "nothing may stand behind the first word",
+        Topic::Alone => "nothing may stand after the first word",
         Topic::Pair =>
-            "expected behind the first word are the names of two different agents, such as 0 and 0.2",
+            "expected after the first word: the names of two different agents, such as 0 and 0.2",
         Topic::Number =>
-            "expected behind reduce is a number from 0 to 1048576, without leading zeros",
+            "expected after reduce: one number from 0 to 1048576, without leading zeros",
         Topic::Mark =>
-            "expected behind the first word is a name: a small letter or _, then small letters, digits and _, at most 32 bytes",
+            "expected after the first word: a name of a small letter or _, then small letters, digits and _, at most 32 bytes",
         Topic::List =>
-            "expected behind absorb is a number from 0 to 131072, and then as many lines, each with the names of two agents",
-        Topic::Unknown => "no command begins so; help lists those that there are, in small letters",
+            "expected after absorb: a number from 0 to 131072, and then as many lines, each with the names of two agents",
+        Topic::Unknown => "no command begins so; help lists all, in small letters",
+        Topic::TooLong => "a line has at most 131072 bytes",
     }
 }
 
-/// The number of a refusal; `None` where the answer is none.
-fn number_of(answer: &[u8]) -> Option<u8> {
+/// The number of a refusal; `None` if the answer is none.
+pub(crate) fn number_of(answer: &[u8]) -> Option<u8> {
     let rest = answer.strip_prefix(b"refused ")?;
     let tens = digit_of(*rest.first()?)?;
     let ones = digit_of(*rest.get(1)?)?;

@@ -9,6 +9,7 @@ use crate::fault::Fault;
 use crate::mode::Mode;
 use crate::notes::explain_fault;
 use crate::place::Place;
+use crate::prompts::Prompts;
 use crate::session::{Status, run_over};
 use crate::setting::Setting;
 use ic_command::{Input, Output};
@@ -69,6 +70,7 @@ pub fn run_bounded<R: Read, W: Write, T: Threads + Wait + Sync>(
             budget,
             explains: false,
         },
+        prompts: Prompts::Silent,
     };
     let mut unheard: Vec<u8> = Vec::new(alloc);
     run(&setting, reader, writer, &mut unheard, reads)

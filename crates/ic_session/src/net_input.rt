@@ -4,10 +4,11 @@ ghost use Rattle.ic_command.specs.Faults.{IsReadFault};
 ghost use Rattle.ic_session.specs.InputLines.{is_bar, whole_line};
 ghost use Rattle.ic_session.specs.NetInput.{ReadsNet};
 
+use crate::prompts::{Prompts, ask_for_net};
 use ic_command::{Input, IoFault, Piece};
 use ic_text::grammar::limits::MAX_TEXT;
 use std::alloc::{AllocError, Global};
-use std::io::Read;
+use std::io::{Read, Write};
 
 /// The net text of a session: all in front of the bar.
 #[derive(Drop)]
@@ -24,12 +25,14 @@ fn is_bar(line: &[u8]) -> bool
     matches!(line, b"---" | b"---\r")
 }
 
-/// Reads the net text of a session, and the bar behind it. `IoFault::Read` where the reader fails or no call of it is
+/// Reads the net text of a session, and the bar behind it. It asks for each line if the session does. `IoFault::Read` where the reader fails or no call of it is
 /// left, `IoFault::Memory` where there is no memory.
-pub fn read_net_text<R: Read>(
+pub fn read_net_text<R: Read, E: Write>(
     alloc: Global,
     input: &mut Input,
     reader: &mut R,
+    errors: &mut E,
+    prompts: Prompts,
 ) -> Result<NetInput, IoFault>
     ensures read { IfOk result (λ net. IfSome (left input.old (R.remaining reader.old)) (λ bytes. ReadsNet net bytes (left input.new (R.remaining reader.new)))) }
     ensures fewer { input.new.reads ≤ input.old.reads }
@@ -38,6 +41,7 @@ pub fn read_net_text<R: Read>(
     let mut text = Vec::new(alloc);
     let mut line = Vec::new(alloc);
     loop {
+        ask_for_net(errors, prompts);
         match input.next_line(reader, &mut line, MAX_TEXT)? {
             Piece::End => return Ok(NetInput::Whole(text)),
             Piece::TooLong => return Ok(NetInput::TooLong),

@@ -1,8 +1,8 @@
-ghost use Rattle.std.specs.Prelude.{◌<◌, ◌≤◌, Bool, IfErr, IfOk, IfSome, IsSome, IsSomeAnd, OnOk, ◌∷◌};
+ghost use Rattle.std.specs.Prelude.{◌<◌, ◌≤◌, ◌↔◌, Bool, IfErr, IfOk, IfSome, IsSome, IsSomeAnd, IsTrue, OnOk, ◌∷◌};
 ghost use Rattle.ic_command.specs.Left.{left, work};
 ghost use Rattle.ic_command.specs.Faults.{IsReadFault};
 ghost use Rattle.ic_session.specs.InputLines.{lines};
-ghost use Rattle.ic_session.specs.Modes.{IsQuestionAt, TakesNext};
+ghost use Rattle.ic_session.specs.Modes.{IsQuestionAt, Quits, TakesNext};
 ghost use Rattle.ic_session.specs.NextRequest.{Takes};
 
 use crate::demand::Demand;
@@ -10,12 +10,14 @@ use crate::listed_events::listed_events;
 use crate::mode::Mode;
 use crate::place::Place;
 use crate::taken_line::take_line;
-use ic_command::{Asked, Command, Input, IoFault, Piece, Question, Request, asked_of, question_of};
+use ic_command::{
+    Asked, Command, Input, IoFault, Piece, Question, Request, asked_of, is_quit, question_of,
+};
 use std::alloc::{AllocError, Global};
 use std::io::Read;
 
-/// What the next line asks for, with the lines behind it that it takes; `None` where the input has ended. `line` is room
-/// for a line, and `place` goes along.
+/// What the next line asks for, with the lines behind it that it takes; `None` if the input has ended, or if the line ends the
+/// session. `line` is room for a line, and `place` goes along.
 pub(crate) fn next_demand<R: Read>(
     alloc: Global,
     input: &mut Input,
@@ -33,6 +35,9 @@ pub(crate) fn next_demand<R: Read>(
     match take_line(input, reader, line)? {
         Piece::Line(_) => {
             place.enter(line, mode);
+            if quits(line, mode) {
+                return Ok(None);
+            }
             match question_at(alloc, line, mode)? {
                 Some(question) => Ok(Some(Demand::Asks(question))),
                 None => {
@@ -42,11 +47,18 @@ pub(crate) fn next_demand<R: Read>(
             }
         }
         Piece::TooLong => {
-            place.enter(&[], mode);
+            place.enter_long();
             Ok(Some(Demand::Requests(Request::Bench(Command::Malformed))))
         }
         Piece::End => Ok(None),
     }
+}
+
+/// Whether a line ends a session of this mode.
+fn quits(line: &[u8], mode: Mode) -> bool
+    ensures { IsTrue result ↔ Quits mode line.now }
+{
+    mode.explains && is_quit(line)
 }
 
 /// The question of a line, if it asks one in a session of this mode.

@@ -1,15 +1,32 @@
-use crate::advice::advice;
+use crate::advice::{advice, number_of};
 use crate::fault::Fault;
+use crate::net_notes::net_note;
 use crate::place::Place;
+use crate::wrong_words::wrong_in;
 use ic_command::write_reply;
+use ic_name::numbers::COMMAND;
 use ic_text::Refusal;
 use std::alloc::{AllocError, Global};
 use std::io::Write;
 
-/// Says what is wrong with a request that was answered so, if it was refused, and what would be right. Where there is no
-/// memory, or the writer fails, nothing is said.
-pub(crate) fn explain_answer<E: Write>(alloc: Global, errors: &mut E, place: Place, answer: &[u8]) {
-    if let Some(said) = advice(place.topic, answer) {
+/// Says what is wrong with a request that was answered so, if it was refused, and what would be right. The line is the one that
+/// asked, unless it listed events on further lines. If memory runs out or the writer fails, nothing is said.
+pub(crate) fn explain_answer<E: Write>(
+    alloc: Global,
+    errors: &mut E,
+    place: Place,
+    line: &[u8],
+    answer: &[u8],
+) {
+    let Some(number) = number_of(answer) else {
+        return;
+    };
+    if number == COMMAND {
+        if let Ok(Some(said)) = wrong_in(alloc, place.topic, line) {
+            return say(errors, line_note(alloc, place.line, &said));
+        }
+    }
+    if let Some(said) = advice(place.topic, number) {
         say(errors, line_note(alloc, place.line, said));
     }
 }
@@ -41,25 +58,4 @@ fn say<E: Write>(errors: &mut E, note: Result<Vec<u8>, AllocError>) {
 /// What is said of a line.
 fn line_note(alloc: Global, line: u64, said: &str) -> Result<Vec<u8>, AllocError> {
     Ok(format!(in alloc; "line {}: {}\n", line, said)?.into_bytes())
-}
-
-/// What is said of a net text: the line and the column of the byte at which its fault stands, if it stands at one.
-fn net_note(alloc: Global, text: &[u8], refusal: Refusal) -> Result<Vec<u8>, AllocError> {
-    let Some(offset) = refusal.offset() else {
-        return Ok(format!(in alloc; "net: {}\n", refusal)?.into_bytes());
-    };
-    let front = &text[..text.len().min(offset)];
-    let feeds = front.iter().filter(|byte| **byte == b'\n').count() as u64;
-    let column = front
-        .iter()
-        .rev()
-        .take_while(|byte| **byte != b'\n')
-        .count() as u64;
-    Ok(format!(in alloc;
-        "line {} column {}: {}\n",
-        feeds.saturating_add(1),
-        column.saturating_add(1),
-        refusal
-    )?
-    .into_bytes())
 }

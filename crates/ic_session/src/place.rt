@@ -36,6 +36,13 @@ impl Place {
         }
     }
 
+    /// At a line that is longer than a line may be.
+    pub(crate) fn enter_long(&mut self) {
+        self.taken = self.taken.saturating_add(1);
+        self.line = self.taken;
+        self.topic = Topic::TooLong;
+    }
+
     /// Behind so many lines that belong to the one before them.
     pub(crate) fn pass(&mut self, count: u32) {
         self.taken = self.taken.saturating_add(u64::from(count));

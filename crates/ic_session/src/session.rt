@@ -21,6 +21,7 @@ use crate::net_input::{NetInput, read_net_text};
 use crate::next_demand::next_demand;
 use crate::notes::{explain_answer, explain_net};
 use crate::place::Place;
+use crate::prompts::{ask_for_command, greet};
 use crate::refusal::refusal_line;
 use crate::setting::Setting;
 use ic_command::{Input, Output, Question};
@@ -35,7 +36,7 @@ use std::thread::Threads;
 /// How a session ended.
 #[derive(Clone, Copy, Debug, PartialEq, Eq)]
 pub enum Status {
-    /// The input ended, and each command was answered.
+    /// The input ended, or `quit` was read, and each command before was answered.
     Ended,
     /// The net text was refused, and its first fault was named.
     NetRefused,
@@ -64,7 +65,7 @@ pub(crate) fn run_over<R: Read, W: Write, E: Write, T: Threads + Wait + Sync, G:
     ensures settle { IfErr result (λ fault. fault ≡ Settle → 1 < setting.now.mode.workers) }
 {
     let alloc = setting.alloc;
-    let text = match read_net_text(alloc, input, reader)? {
+    let text = match read_net_text(alloc, input, reader, errors, setting.prompts)? {
         NetInput::TooLong => {
             return refuse(
                 alloc,
@@ -87,7 +88,9 @@ pub(crate) fn run_over<R: Read, W: Write, E: Write, T: Threads + Wait + Sync, G:
     };
     place.pass_net(&text);
     drop(text);
+    let agents = start.agents();
     let desk: Desk<Store> = Desk::over(alloc, start)?;
+    greet(alloc, errors, agents, &desk, setting.prompts);
     answer_all(setting, desk, input, reader, output, writer, errors, place)?;
     Ok(Status::Ended)
 }
@@ -139,9 +142,10 @@ fn answer_all<R: Read, W: Write, E: Write, T: Threads + Wait + Sync, G: Gate>(
     let alloc = setting.alloc;
     let mut line = Vec::new(alloc);
     loop {
+        ask_for_command(errors, setting.prompts);
         match next_demand(alloc, input, reader, &mut line, place, setting.mode)? {
             Some(demand) => {
-                desk = answer(setting, desk, demand, output, writer, errors, *place)?;
+                desk = answer(setting, desk, demand, &line, output, writer, errors, *place)?;
             }
             None => return Ok(()),
         }
@@ -154,6 +158,7 @@ fn answer<W: Write, E: Write, T: Threads + Wait + Sync, G: Gate>(
     setting: &Setting<'_, T, G>,
     desk: Desk<Store>,
     demand: Demand,
+    line: &[u8],
     output: &mut Output,
     writer: &mut W,
     errors: &mut E,
@@ -169,7 +174,7 @@ fn answer<W: Write, E: Write, T: Threads + Wait + Sync, G: Gate>(
     let (after, answer) = meet(setting, desk, demand)?;
     output.reply(writer, answer.bytes())?;
     if setting.mode.explains {
-        explain_answer(setting.alloc, errors, place, answer.bytes());
+        explain_answer(setting.alloc, errors, place, line, answer.bytes());
     }
     Ok(after)
 }

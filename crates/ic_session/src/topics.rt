@@ -15,11 +15,14 @@ pub(crate) enum Topic {
     List,
     /// No word that anything begins with.
     Unknown,
+    /// More bytes than a line may have.
+    TooLong,
 }
 
 /// The words that stand alone.
-const ALONE: [&str; 10] = [
-    "net", "active", "journal", "undo-all", "agents", "history", "marks", "rules", "help", "step",
+const ALONE: [&str; 12] = [
+    "net", "active", "journal", "undo-all", "agents", "causes", "history", "marks", "rules",
+    "help", "step", "quit",
 ];
 
 /// The words that have the names of two agents behind them.

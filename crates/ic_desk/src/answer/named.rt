@@ -13,11 +13,18 @@ pub(crate) fn push_name(text: &mut Vec<u8>, event: &EventName) -> Result<(), All
     write_pair(event.lead(), event.other(), text)
 }
 
+/// Puts the names of an event of the bench at the end.
+pub(crate) fn push_event_name(text: &mut Vec<u8>, event: &Event) -> Result<(), AllocError>
+    ensures { OnOk result (text.new.items ≡ text.old.items ++ pair_text (pair event.now)) }
+{
+    write_pair(event.lead(), event.other(), text)
+}
+
 /// Puts a line with the names of an event at the end.
 pub(crate) fn push_event(text: &mut Vec<u8>, event: &Event) -> Result<(), AllocError>
     ensures { OnOk result (text.new.items ≡ text.old.items ++ event_line event.now) }
 {
-    write_pair(event.lead(), event.other(), text)?;
+    push_event_name(text, event)?;
     text.push(b'\n')?;
     Ok(())
 }

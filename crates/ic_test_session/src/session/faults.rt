@@ -1,7 +1,7 @@
 use ic_command::Input;
 use ic_session::net_input::{NetInput, read_net_text};
 use ic_session::refusal::refusal_line;
-use ic_session::{Fault, run_session};
+use ic_session::{Fault, Prompts, run_session};
 use ic_text::Refusal;
 use std::alloc::Global;
 use std::io;
@@ -52,7 +52,8 @@ fn a_fault_of_writing(rt: HostRuntime) -> Result<(), Fail> {
 /// Whether the net text in front of the bar is read so.
 fn reads_net(alloc: Global, mut reader: &[u8], text: &[u8]) -> Result<bool, Fail> {
     let mut input = Input::new(alloc, 10)?;
-    match read_net_text(alloc, &mut input, &mut reader) {
+    let mut errors: Vec<u8> = Vec::new(alloc);
+    match read_net_text(alloc, &mut input, &mut reader, &mut errors, Prompts::Silent) {
         Ok(NetInput::Whole(net)) => Ok(net.as_slice() == text),
         _ => Ok(false),
     }

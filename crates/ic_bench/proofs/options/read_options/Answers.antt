@@ -1,7 +1,7 @@
-use Rattle.std.proofs.Common.{ap, map, ◌∙◌, sym}
+use Rattle.std.proofs.Common.{ap, codes, map, ◌∙◌, sym}
 use Rattle.std.specs.Str.Parse.{ExplainsUnsignedError, HasUnsignedDigitsIfOk, ParsesUnsigned}
 use Rattle.clap.specs.Words.{fault_of, is_simple_and_free}
-use Rattle.ic_bench.proofs.GivenFlag.{explain_chosen}
+use Rattle.ic_bench.proofs.GivenFlag.{flag_chosen}
 use Rattle.ic_bench.proofs.GivenNumbers.{budget_chosen, workers_chosen}
 use Rattle.ic_bench.proofs.options.read_options.Goals as goal
 
@@ -18,6 +18,8 @@ returns-clause-chosen g c =
       budget = budget_chosen c.in_ok-command.field-0 c.in_ok-matches.matches words parsed.parsed made.plain made.local made.shape parsed.matches
           _ (λ bs r. ParsesUnsigned 32 10 bs r × ExplainsUnsignedError 10 bs r × HasUnsignedDigitsIfOk bs r) (λ u x h. h.0)
           c.get_one-budget.result c.get_one-budget.ensures.none c.get_one-budget.ensures.value c.unwrap_or-2.result c.unwrap_or-2.ensures;
-      explains = explain_chosen c.in_ok-command.field-0 c.in_ok-matches.matches words made.shape parsed.matches
+      explains = flag_chosen (codes "explain") c.in_ok-command.field-0 c.in_ok-matches.matches words made.shape parsed.matches
           c.get_flag.result c.get_flag.ensures.none c.get_flag.ensures.value c.get_flag.ensures.other;
+      interactive = flag_chosen (codes "interactive") c.in_ok-command.field-0 c.in_ok-matches.matches words made.shape parsed.matches
+          c.get_flag-2.result c.get_flag-2.ensures.none c.get_flag-2.ensures.value c.get_flag-2.ensures.other;
     }

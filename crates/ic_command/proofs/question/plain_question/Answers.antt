@@ -1,7 +1,7 @@
 use Rattle.std.proofs.Common.{[], ◌∷◌, sym, subst}
 use Rattle.std.specs.Prelude.{codes}
-use Rattle.ic_command.specs.Questions.{AsksQuestion, agents, history, marks, rules, help, step}
-use Rattle.ic_command.specs.declared.question.Question.TheVariants.{Agents, History, Marks, Rules, Help, Step}
+use Rattle.ic_command.specs.Questions.{AsksQuestion, agents, causes, history, marks, rules, help, step}
+use Rattle.ic_command.specs.declared.question.Question.TheVariants.{Agents, Causes, History, Marks, Rules, Help, Step}
 use Rattle.ic_command.proofs.WordsAsked.{is_text}
 use Rattle.ic_command.proofs.question.plain_question.Goals as goal
 
@@ -34,3 +34,8 @@ pub returns-then-eq-6 : goal.returns-then-eq-6
 returns-then-eq-6 c =
     let word = is_text c.args.word.now c.as_slice-else-eq-5.result.now (codes "step") c.eq-else-eq-5.result c.eq-else-eq-5.ensures c.as_slice-else-eq-5.ensures c.if-eq-6.true in
     subst (λ w. AsksQuestion (w ∷ []) Step) (sym word) step
+
+pub returns-then-eq-7 : goal.returns-then-eq-7
+returns-then-eq-7 c =
+    let word = is_text c.args.word.now c.as_slice-else-eq-6.result.now (codes "causes") c.eq-else-eq-6.result c.eq-else-eq-6.ensures c.as_slice-else-eq-6.ensures c.if-eq-7.true in
+    subst (λ w. AsksQuestion (w ∷ []) Causes) (sym word) causes

@@ -1,13 +1,16 @@
 -- What is told in answer to each question.
 use Rattle.std.proofs.Common.{ap, ◌∙◌}
 use Rattle.std.proofs.lemmas.Result.{IfOk-weaker}
-use Rattle.ic_command.specs.declared.question.Question.TheVariants.{Agents, Dependents, History}
+use Rattle.ic_command.specs.declared.question.Question.TheVariants.{Agents, Causes, Dependents, History}
 use Rattle.ic_desk.specs.Views.{DeskView}
 use Rattle.ic_desk.proofs.DeskTellings.{bench_text, bench_answer, marks_told, rules_told, help_told}
 use Rattle.ic_desk.proofs.desk.Desk.tell.Goals as goal
 
 pub returns-in-Agents-clause-told : goal.returns-in-Agents-clause-told
 returns-in-Agents-clause-told g c = bench_text c.args.self.now c.self.inside.bench c.args.question Agents _ c.tell_agents.result (ap (λ (d : DeskView). d.bench) c.self.view_is) c.in-Agents.is c.tell_agents.ensures c.text_or_memory.ensures.text c.text_or_memory.ensures.memory
+
+pub returns-in-Causes-clause-told : goal.returns-in-Causes-clause-told
+returns-in-Causes-clause-told g c = bench_text c.args.self.now c.self-in-Causes.inside.bench c.args.question Causes _ c.tell_causes.result (ap (λ (d : DeskView). d.bench) c.self-in-Causes.view_is) c.in-Causes.is c.tell_causes.ensures c.text_or_memory-in-Causes.ensures.text c.text_or_memory-in-Causes.ensures.memory
 
 pub returns-in-Dependents-clause-told : goal.returns-in-Dependents-clause-told
 returns-in-Dependents-clause-told g c = bench_answer c.args.self.now c.self-in-Dependents.inside.bench c.args.question (Dependents c.in-Dependents.event) _ c.tell_dependents.result (ap (λ (d : DeskView). d.bench) c.self-in-Dependents.view_is) c.in-Dependents.is c.tell_dependents.ensures c.answer_or_memory.ensures.answer c.answer_or_memory.ensures.memory
