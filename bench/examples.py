@@ -33,9 +33,9 @@ def is_row(session):
 def difference(program, session):
     """What differs when the program runs the session; None if it answers and says what is stored."""
     said = EXAMPLES / "errors" / session.name
-    command = [program, *beside(session, ".args").decode().split()]
+    command = [program, *beside(session, ".args").decode().split(), session]
     try:
-        done = subprocess.run(command, input=session.read_bytes(), capture_output=True, check=False, timeout=SECONDS)
+        done = subprocess.run(command, stdin=subprocess.DEVNULL, capture_output=True, check=False, timeout=SECONDS)
     except subprocess.TimeoutExpired:
         return f"not ended after {SECONDS} seconds"
     if (done.returncode, done.stdout) != (0, beside(session, ".stdout")):

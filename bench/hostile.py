@@ -38,6 +38,13 @@ def is_a_folder_as_input(program):
         os.close(folder)
 
 
+def is_a_folder_as_file(program):
+    """What stands before a file that can't be read is answered."""
+    ran = run(program, ["-", tempfile.gettempdir()], NET + b"active\n")
+    said = b"icbench: " + tempfile.gettempdir().encode() + b": cannot be read\n"
+    return ran == (1, b"active 1\n0 1\n", said)
+
+
 def is_a_closed_input(program):
     """Standard input isn't open at all: that reads as an empty net text, or as a failure to read."""
     status, out, said = run(program, stdin=None, preexec_fn=lambda: os.close(0))
@@ -114,7 +121,6 @@ def are_wrong_words(program):
         ["--budget", "-1"],
         ["--budget=1048577"],
         ["--frob"],
-        ["net.txt"],
         ["--workers", "1", "--workers", "2"],
     ]:
         status, out, said = run(program, words, NET + b"net\n")
@@ -140,6 +146,7 @@ def are_threads_that_cannot_start(program):
 
 CASES = [
     ("a folder as input", is_a_folder_as_input),
+    ("a folder as file", is_a_folder_as_file),
     ("a closed input", is_a_closed_input),
     ("a full device as output", is_a_full_device_as_output),
     ("a closed pipe as output", is_a_closed_pipe_as_output),

@@ -23,7 +23,7 @@ use Rattle.clap.specs.declared.builder.value_parser.ValueParser.{ValueParser}
 use Rattle.clap.specs.declared.builder.value_parser.ValueParser.TheVariants.{Signed}
 use Rattle.clap.specs.declared.parser.matches.ArgMatches.{ArgMatches}
 use Rattle.clap.specs.declared.parser.matches.MatchedArg.{MatchedArg}
-use Rattle.ic_bench.specs.CommandLine.{IsChoice, budget_rule, explain_rule, icbench, interactive_rule, workers_rule}
+use Rattle.ic_bench.specs.CommandLine.{IsChoice, budget_rule, explain_rule, files_rule, icbench, interactive_rule, workers_rule}
 
 -- the first value, of values of which each has a property
 first_value : (P : Bor (List ℕ) → Type 0) (how : Reading) (vs : List (Bor (List ℕ))) (t : List ℕ) → All P vs
@@ -120,60 +120,68 @@ given_number old m p plain local k d own name id low high width fits parser E G 
         let parsed = only t (Ok read.0) (subst (λ (o : Option ℕ). ReadsOne G t o) read.1 (value t e)) in
         record { number = same ∙ parsed.1; least = rw same read.2; most = rw same read.3 }
 
--- the four arguments of the program
-record FourArguments (old : Command) : Type 0 where
+-- the five arguments of the program
+record FiveArguments (old : Command) : Type 0 where
   first : Arg
   second : Arg
   third : Arg
   fourth : Arg
-  are : args_of old ≡ first ∷ second ∷ third ∷ fourth ∷ []
+  fifth : Arg
+  are : args_of old ≡ first ∷ second ∷ third ∷ fourth ∷ fifth ∷ []
   first_rule : rule_of first ≡ workers_rule
   second_rule : rule_of second ≡ budget_rule
   third_rule : rule_of third ≡ explain_rule
   fourth_rule : rule_of fourth ≡ interactive_rule
+  fifth_rule : rule_of fifth ≡ files_rule
 
-four_of : {A B : Type 0} (f : A → B) (xs : List A) (u v w z : B) → map f xs ≡ u ∷ v ∷ w ∷ z ∷ []
-    → (a : A) × (b : A) × (c : A) × (d : A) × (xs ≡ a ∷ b ∷ c ∷ d ∷ []) × (f a ≡ u) × (f b ≡ v) × (f c ≡ w) × (f d ≡ z)
-four_of f [] u v w z is = cc
-four_of f (a ∷ []) u v w z is = cc
-four_of f (a ∷ b ∷ []) u v w z is = cc
-four_of f (a ∷ b ∷ c ∷ []) u v w z is = cc
-four_of f (a ∷ b ∷ c ∷ d ∷ []) u v w z is = (a, b, c, d, refl, ap (λ rs. slice_index_or rs 0 u) is, ap (λ rs. slice_index_or rs 1 u) is, ap (λ rs. slice_index_or rs 2 u) is, ap (λ rs. slice_index_or rs 3 u) is)
-four_of f (a ∷ b ∷ c ∷ d ∷ x ∷ xs) u v w z is = cc
+five_of : {A B : Type 0} (f : A → B) (xs : List A) (u v w y z : B) → map f xs ≡ u ∷ v ∷ w ∷ y ∷ z ∷ []
+    → (a : A) × (b : A) × (c : A) × (d : A) × (e : A) × (xs ≡ a ∷ b ∷ c ∷ d ∷ e ∷ []) × (f a ≡ u) × (f b ≡ v) × (f c ≡ w) × (f d ≡ y) × (f e ≡ z)
+five_of f [] u v w y z is = cc
+five_of f (a ∷ []) u v w y z is = cc
+five_of f (a ∷ b ∷ []) u v w y z is = cc
+five_of f (a ∷ b ∷ c ∷ []) u v w y z is = cc
+five_of f (a ∷ b ∷ c ∷ d ∷ []) u v w y z is = cc
+five_of f (a ∷ b ∷ c ∷ d ∷ e ∷ []) u v w y z is =
+    (a, b, c, d, e, refl, ap (λ rs. slice_index_or rs 0 u) is, ap (λ rs. slice_index_or rs 1 u) is, ap (λ rs. slice_index_or rs 2 u) is, ap (λ rs. slice_index_or rs 3 u) is, ap (λ rs. slice_index_or rs 4 u) is)
+five_of f (a ∷ b ∷ c ∷ d ∷ e ∷ x ∷ xs) u v w y z is = cc
 
-four_arguments : (old : Command) → app_of old ≡ icbench → FourArguments old
-four_arguments old shape =
-    let four = four_of rule_of (args_of old) workers_rule budget_rule explain_rule interactive_rule (ap (λ (a : App). a.top.rules) shape) in
-    record { first = four.0; second = four.1; third = four.2; fourth = four.3; are = four.4; first_rule = four.5; second_rule = four.6; third_rule = four.7; fourth_rule = four.8 }
+five_arguments : (old : Command) → app_of old ≡ icbench → FiveArguments old
+five_arguments old shape =
+    let five = five_of rule_of (args_of old) workers_rule budget_rule explain_rule interactive_rule files_rule (ap (λ (a : App). a.top.rules) shape) in
+    record { first = five.0; second = five.1; third = five.2; fourth = five.3; fifth = five.4; are = five.5; first_rule = five.6; second_rule = five.7; third_rule = five.8; fourth_rule = five.9; fifth_rule = five.10 }
 
-first_id : (old : Command) (t : FourArguments old) (e : Arg) → (slice_index_or (args_of old) 0 e).id.now ≡ codes "workers"
+first_id : (old : Command) (t : FiveArguments old) (e : Arg) → (slice_index_or (args_of old) 0 e).id.now ≡ codes "workers"
 first_id old t e = subst (λ (xs : List Arg). (slice_index_or xs 0 e).id.now ≡ codes "workers") (sym t.are) (ap (λ (r : Rule). r.id) t.first_rule)
 
-second_id : (old : Command) (t : FourArguments old) (e : Arg) → (slice_index_or (args_of old) 1 e).id.now ≡ codes "budget"
+second_id : (old : Command) (t : FiveArguments old) (e : Arg) → (slice_index_or (args_of old) 1 e).id.now ≡ codes "budget"
 second_id old t e = subst (λ (xs : List Arg). (slice_index_or xs 1 e).id.now ≡ codes "budget") (sym t.are) (ap (λ (r : Rule). r.id) t.second_rule)
 
-third_id : (old : Command) (t : FourArguments old) (e : Arg) → (slice_index_or (args_of old) 2 e).id.now ≡ codes "explain"
+third_id : (old : Command) (t : FiveArguments old) (e : Arg) → (slice_index_or (args_of old) 2 e).id.now ≡ codes "explain"
 third_id old t e = subst (λ (xs : List Arg). (slice_index_or xs 2 e).id.now ≡ codes "explain") (sym t.are) (ap (λ (r : Rule). r.id) t.third_rule)
 
-fourth_id : (old : Command) (t : FourArguments old) (e : Arg) → (slice_index_or (args_of old) 3 e).id.now ≡ codes "interactive"
+fourth_id : (old : Command) (t : FiveArguments old) (e : Arg) → (slice_index_or (args_of old) 3 e).id.now ≡ codes "interactive"
 fourth_id old t e = subst (λ (xs : List Arg). (slice_index_or xs 3 e).id.now ≡ codes "interactive") (sym t.are) (ap (λ (r : Rule). r.id) t.fourth_rule)
 
-one_of_four : (j : ℕ) → j < 4 → (j ≡ 0) ⊎ (j ≡ 1) ⊎ (j ≡ 2) ⊎ (j ≡ 3)
-one_of_four zero lt = inl refl
-one_of_four (suc zero) lt = inr (inl refl)
-one_of_four (suc (suc zero)) lt = inr (inr (inl refl))
-one_of_four (suc (suc (suc zero))) lt = inr (inr (inr refl))
-one_of_four (suc (suc (suc (suc j)))) lt = absurd (omega arith)
+fifth_id : (old : Command) (t : FiveArguments old) (e : Arg) → (slice_index_or (args_of old) 4 e).id.now ≡ codes "files"
+fifth_id old t e = subst (λ (xs : List Arg). (slice_index_or xs 4 e).id.now ≡ codes "files") (sym t.are) (ap (λ (r : Rule). r.id) t.fifth_rule)
+
+one_of_five : (j : ℕ) → j < 5 → (j ≡ 0) ⊎ (j ≡ 1) ⊎ (j ≡ 2) ⊎ (j ≡ 3) ⊎ (j ≡ 4)
+one_of_five zero lt = inl refl
+one_of_five (suc zero) lt = inr (inl refl)
+one_of_five (suc (suc zero)) lt = inr (inr (inl refl))
+one_of_five (suc (suc (suc zero))) lt = inr (inr (inr (inl refl)))
+one_of_five (suc (suc (suc (suc zero)))) lt = inr (inr (inr (inr refl)))
+one_of_five (suc (suc (suc (suc (suc j))))) lt = absurd (omega arith)
 
 -- an id with another first letter than those of the flags that clap adds, and some letter
 named_apart : (id name : List ℕ) → id ≡ name → (slice_index name 0 ≡ 0 → ⊥) → id ≡ [] → ⊥
 named_apart id name is apart empty = apart (ap (λ (t : List ℕ). slice_index t 0) (sym is ∙ empty))
 
 -- each of those that take a number is alone in its id
-own_first : (old : Command) (t : FourArguments old) → IsOwn old 0 t.first
+own_first : (old : Command) (t : FiveArguments old) → IsOwn old 0 t.first
 own_first old t = record {
   stands = subst (λ (xs : List Arg). 0 < length xs) (sym t.are) (omega arith);
-  alone = λ j e lt same. elim (one_of_four j (subst (λ (xs : List Arg). j < length xs) t.are lt)) [
+  alone = λ j e lt same. elim (one_of_five j (subst (λ (xs : List Arg). j < length xs) t.are lt)) [
     | inl zero_is ↦ zero_is
     | inr (inl one_is) ↦
         let here : (slice_index_or (args_of old) j e).id.now ≡ codes "budget" = rw one_is (second_id old t e) in
@@ -183,9 +191,13 @@ own_first old t = record {
         let here : (slice_index_or (args_of old) j e).id.now ≡ codes "explain" = rw two_is (third_id old t e) in
         let bad : bytes_eq (codes "explain") (codes "workers") ≡ true = sym (ap₂ bytes_eq here (first_id old t t.first)) ∙ same in
         cc
-    | inr (inr (inr three_is)) ↦
+    | inr (inr (inr (inl three_is))) ↦
         let here : (slice_index_or (args_of old) j e).id.now ≡ codes "interactive" = rw three_is (fourth_id old t e) in
         let bad : bytes_eq (codes "interactive") (codes "workers") ≡ true = sym (ap₂ bytes_eq here (first_id old t t.first)) ∙ same in
+        cc
+    | inr (inr (inr (inr four_is))) ↦
+        let here : (slice_index_or (args_of old) j e).id.now ≡ codes "files" = rw four_is (fifth_id old t e) in
+        let bad : bytes_eq (codes "files") (codes "workers") ≡ true = sym (ap₂ bytes_eq here (first_id old t t.first)) ∙ same in
         cc
   ];
   named = named_apart _ (codes "workers") (first_id old t t.first) (λ e. let bad : 119 ≡ 0 = e in absurd (omega arith));
@@ -195,10 +207,10 @@ own_first old t = record {
   ];
 }
 
-own_second : (old : Command) (t : FourArguments old) → IsOwn old 1 t.second
+own_second : (old : Command) (t : FiveArguments old) → IsOwn old 1 t.second
 own_second old t = record {
   stands = subst (λ (xs : List Arg). 1 < length xs) (sym t.are) (omega arith);
-  alone = λ j e lt same. elim (one_of_four j (subst (λ (xs : List Arg). j < length xs) t.are lt)) [
+  alone = λ j e lt same. elim (one_of_five j (subst (λ (xs : List Arg). j < length xs) t.are lt)) [
     | inl zero_is ↦
         let here : (slice_index_or (args_of old) j e).id.now ≡ codes "workers" = rw zero_is (first_id old t e) in
         let bad : bytes_eq (codes "workers") (codes "budget") ≡ true = sym (ap₂ bytes_eq here (second_id old t t.second)) ∙ same in
@@ -208,9 +220,13 @@ own_second old t = record {
         let here : (slice_index_or (args_of old) j e).id.now ≡ codes "explain" = rw two_is (third_id old t e) in
         let bad : bytes_eq (codes "explain") (codes "budget") ≡ true = sym (ap₂ bytes_eq here (second_id old t t.second)) ∙ same in
         cc
-    | inr (inr (inr three_is)) ↦
+    | inr (inr (inr (inl three_is))) ↦
         let here : (slice_index_or (args_of old) j e).id.now ≡ codes "interactive" = rw three_is (fourth_id old t e) in
         let bad : bytes_eq (codes "interactive") (codes "budget") ≡ true = sym (ap₂ bytes_eq here (second_id old t t.second)) ∙ same in
+        cc
+    | inr (inr (inr (inr four_is))) ↦
+        let here : (slice_index_or (args_of old) j e).id.now ≡ codes "files" = rw four_is (fifth_id old t e) in
+        let bad : bytes_eq (codes "files") (codes "budget") ≡ true = sym (ap₂ bytes_eq here (second_id old t t.second)) ∙ same in
         cc
   ];
   named = named_apart _ (codes "budget") (second_id old t t.second) (λ e. let bad : 98 ≡ 0 = e in absurd (omega arith));
@@ -221,10 +237,10 @@ own_second old t = record {
 }
 
 -- their parsers
-first_parser : (old : Command) (t : FourArguments old) → (slice_index_or (args_of old) 0 t.first).value_parser ≡ Some (Signed (pos 1) (pos 64))
+first_parser : (old : Command) (t : FiveArguments old) → (slice_index_or (args_of old) 0 t.first).value_parser ≡ Some (Signed (pos 1) (pos 64))
 first_parser old t = subst (λ (xs : List Arg). (slice_index_or xs 0 t.first).value_parser ≡ Some (Signed (pos 1) (pos 64))) (sym t.are) (ap (λ (r : Rule). r.parser) t.first_rule)
 
-second_parser : (old : Command) (t : FourArguments old) → (slice_index_or (args_of old) 1 t.second).value_parser ≡ Some (Signed (pos 0) (pos 1048576))
+second_parser : (old : Command) (t : FiveArguments old) → (slice_index_or (args_of old) 1 t.second).value_parser ≡ Some (Signed (pos 0) (pos 1048576))
 second_parser old t = subst (λ (xs : List Arg). (slice_index_or xs 1 t.second).value_parser ≡ Some (Signed (pos 0) (pos 1048576))) (sym t.are) (ap (λ (r : Rule). r.parser) t.second_rule)
 
 -- the text that an option was given is that of the words
@@ -240,9 +256,9 @@ pub workers_chosen : (old : Command) (m : ArgMatches) (words : List Text) → Is
     → (r : Option ℕ) → (one_text (found_of m) (codes "workers") ≡ None → r ≡ None) → ((t : List ℕ) → one_text (found_of m) (codes "workers") ≡ Some t → ReadsOne G t r)
     → (n : ℕ) → n ≡ unwrap_or r 1 → IsChoice 1 1 64 (one_of (codes "workers") (matches_of icbench words)) n
 workers_chosen old m words p plain local shape matches E G only r none value n is =
-    let four = four_arguments old shape in
+    let five = five_arguments old shape in
     subst (λ (o : Option (List ℕ)). IsChoice 1 1 64 o n) (chosen_text old m words (codes "workers") shape matches)
-    (given_number old m p plain local 0 four.first (own_first old four) (codes "workers") (first_id old four four.first) 1 64 8 (omega arith) (first_parser old four) E G only r none value 1 n is (omega arith) (omega arith))
+    (given_number old m p plain local 0 five.first (own_first old five) (codes "workers") (first_id old five five.first) 1 64 8 (omega arith) (first_parser old five) E G only r none value 1 n is (omega arith) (omega arith))
 
 -- the budget that the words choose
 pub budget_chosen : (old : Command) (m : ArgMatches) (words : List Text) → IsParsedFrom old m → IsPlain old → (out-Command old).has_globals ≡ false
@@ -251,6 +267,6 @@ pub budget_chosen : (old : Command) (m : ArgMatches) (words : List Text) → IsP
     → (r : Option ℕ) → (one_text (found_of m) (codes "budget") ≡ None → r ≡ None) → ((t : List ℕ) → one_text (found_of m) (codes "budget") ≡ Some t → ReadsOne G t r)
     → (n : ℕ) → n ≡ unwrap_or r 1048576 → IsChoice 1048576 0 1048576 (one_of (codes "budget") (matches_of icbench words)) n
 budget_chosen old m words p plain local shape matches E G only r none value n is =
-    let four = four_arguments old shape in
+    let five = five_arguments old shape in
     subst (λ (o : Option (List ℕ)). IsChoice 1048576 0 1048576 o n) (chosen_text old m words (codes "budget") shape matches)
-    (given_number old m p plain local 1 four.second (own_second old four) (codes "budget") (second_id old four four.second) 0 1048576 32 (omega arith) (second_parser old four) E G only r none value 1048576 n is (omega arith) (omega arith))
+    (given_number old m p plain local 1 five.second (own_second old five) (codes "budget") (second_id old five five.second) 0 1048576 32 (omega arith) (second_parser old five) E G only r none value 1048576 n is (omega arith) (omega arith))

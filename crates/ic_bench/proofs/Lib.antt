@@ -1,3 +1,4 @@
+pub mod GivenFiles
 pub mod GivenFlag
 pub mod GivenNumbers
 pub mod RunFacts

@@ -1,8 +1,8 @@
 -- The command line, and what it chooses.
-use Rattle.std.specs.Prelude.{◌≡◌, ◌≤◌, ◌⊎◌, ℕ, Bool, true, false, List, [], Option, MatchOption, pos, None, Some, codes}
+use Rattle.std.specs.Prelude.{unwrap_or, ◌≡◌, ◌≤◌, ◌⊎◌, ℕ, Bool, true, false, List, [], Option, MatchOption, pos, None, Some, codes}
 use Rattle.std.specs.Str.Parse.{digits_value, without_leading_plus}
-use Rattle.clap.specs.Words.{App, IsAmong, Rule, Text, new_app, new_rule, with_rule, matches_of, one_of, fault_of}
-use Rattle.clap.specs.declared.builder.action.ArgAction.TheVariants.{Set, SetTrue}
+use Rattle.clap.specs.Words.{App, IsAmong, Rule, Text, new_app, new_rule, with_rule, all_of, matches_of, one_of, fault_of}
+use Rattle.clap.specs.declared.builder.action.ArgAction.TheVariants.{Append, Set, SetTrue}
 use Rattle.clap.specs.declared.builder.value_parser.ValueParser.TheVariants.{Signed}
 use Rattle.clap.specs.declared.error.kind.ErrorKind.{ErrorKind}
 use Rattle.clap.specs.declared.error.kind.ErrorKind.TheVariants.{OutOfMemory}
@@ -34,17 +34,25 @@ explain_rule = record (new_rule (codes "explain")) { long = Some (codes "explain
 abbrev pub interactive_rule : Rule
 interactive_rule = record (new_rule (codes "interactive")) { long = Some (codes "interactive"); short = Some 105; action = Some SetTrue }
 
+-- the files
+abbrev pub files_rule : Rule
+files_rule = record (new_rule (codes "files")) { action = Some Append; value_names = 1 }
+
 -- a program that tells its version where it is asked to
 abbrev pub versioned : App → App
 versioned app = record app { top = record app.top { has_version = true } }
 
--- the program without the option for a terminal
+-- the program over the standard input, without the option for a terminal
 abbrev pub scripted : App
 scripted = with_rule (with_rule (with_rule (versioned (new_app (codes "icbench"))) workers_rule) budget_rule) explain_rule
 
 -- the program, as its command line is read
 abbrev pub icbench : App
-icbench = with_rule scripted interactive_rule
+icbench = with_rule (with_rule scripted interactive_rule) files_rule
+
+-- the files that the words name, in their order
+abbrev pub files_in : List Text → List Text
+files_in words = unwrap_or (all_of (codes "files") (matches_of icbench words)) []
 
 -- the number that an option was given, or what stands where it was not given; it is within the option's limits
 pub record IsChoice (otherwise low high : ℕ) (given : Option Text) (n : ℕ) : Type 0 where

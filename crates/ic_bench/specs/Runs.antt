@@ -1,5 +1,5 @@
 -- What a run of the program does.
-use Rattle.std.specs.Prelude.{◌≡◌, ◌≢◌, ◌||◌, ℕ, false, List, Option, IfSome}
+use Rattle.std.specs.Prelude.{◌≡◌, ◌≢◌, ◌||◌, ℕ, false, List, [], Option, None, IfSome, Contains}
 use Rattle.std.specs.Io.KnownBytes.{Appends}
 use Rattle.clap.specs.Words.{Text}
 use Rattle.clap.specs.declared.error.kind.ErrorKind.{ErrorKind}
@@ -10,8 +10,8 @@ use Rattle.ic_session.specs.declared.fault.Fault.{Fault}
 use Rattle.ic_session.specs.declared.mode.Mode.{Mode}
 use Rattle.ic_session.specs.declared.fault.Fault.TheVariants.{Write, Memory}
 use Rattle.ic_session.specs.declared.session.Status.{Status}
-use Rattle.ic_bench.specs.CommandLine.{Choose, IsFaultOf}
-use Rattle.ic_bench.specs.Statuses.{fault_line, fault_status, session_status}
+use Rattle.ic_bench.specs.CommandLine.{Choose, IsFaultOf, files_in}
+use Rattle.ic_bench.specs.Statuses.{fault_line, fault_status, session_status, unread_line}
 use Rattle.ic_bench.specs.declared.options.Options.{Options}
 
 -- what a writer holds before and after, where that is known
@@ -31,6 +31,13 @@ pub data RunsSession (options : Options) (input : Option (List ℕ)) (output err
   broken : (fault : Fault) → IfSome input (λ bytes. (text : List ℕ) × IsBegun (mode_of options) bytes text × Appends output.before output.after text)
       → ((mode_of options).explains ≡ false → AppendsFront errors.before errors.after (fault_line fault)) → RunsSession options input output errors (fault_status fault)
 
+-- A session with these options over files, of which no more is known: it ends as one over any input does, or at a file that can't be
+-- opened or read.
+pub data RunsFiles (options : Options) (files : List Text) (output errors : Held) : ℕ → Type 0 where
+  over : {n : ℕ} → RunsSession options None output errors n → RunsFiles options files output errors n
+  unread : {name : Text} → Contains files name → ((mode_of options).explains ≡ false → AppendsFront errors.before errors.after (unread_line name))
+      → RunsFiles options files output errors 1
+
 -- the command line is wrong, and doesn't ask for a text
 abbrev pub IsMistake : ErrorKind → Type 0
 IsMistake kind = (kind ≢ DisplayHelp) × (kind ≢ DisplayVersion)
@@ -44,7 +51,9 @@ pub data Explains (kind : ErrorKind) (output errors : Held) : ℕ → Type 0 whe
   refused : (text : List ℕ) → IsMistake kind → kind ≢ OutOfMemory → output.after ≡ output.before → AppendsFront errors.before errors.after text
       → Explains kind output errors 64
 
--- A run ends in a status: the words have no fault and choose a session, or they have one that is explained.
+-- A run ends in a status: the words have no fault and choose a session, over the input or over files, or they have one that is
+-- explained.
 pub data Runs (words : List Text) (input : Option (List ℕ)) (output errors : Held) (status : ℕ) : Type 0 where
-  session : (options : Options) → Choose words options → RunsSession options input output errors status → Runs words input output errors status
+  session : (options : Options) → Choose words options → (files_in words ≡ [] → RunsSession options input output errors status)
+      → RunsFiles options (files_in words) output errors status → Runs words input output errors status
   explained : (kind : ErrorKind) → IsFaultOf words kind → Explains kind output errors status → Runs words input output errors status

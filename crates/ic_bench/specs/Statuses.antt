@@ -1,5 +1,5 @@
 -- The exit statuses, and what is said of a fault.
-use Rattle.std.specs.Prelude.{ℕ, List, codes}
+use Rattle.std.specs.Prelude.{ℕ, List, ◌++◌, codes}
 use Rattle.ic_session.specs.declared.fault.Fault.{Fault}
 use Rattle.ic_session.specs.declared.fault.Fault.TheVariants.{Read, Write, Memory, Settle}
 use Rattle.ic_session.specs.declared.session.Status.{Status}
@@ -23,3 +23,7 @@ fault_line Read = codes "icbench: read failed\n"
 fault_line Write = codes "icbench: write failed\n"
 fault_line Memory = codes "icbench: no memory\n"
 fault_line Settle = codes "icbench: settle failed\n"
+
+-- what is said of a file that can't be opened or read
+abbrev pub unread_line : List ℕ → List ℕ
+unread_line name = codes "icbench: " ++ name ++ codes ": cannot be read\n"

@@ -2,12 +2,12 @@
 pub const VERSION: &str = "0.1.0";
 
 /// How the program is called.
-pub const USE: &str = "icbench [--workers 1..64] [--budget 0..1048576] [--explain] [-i] < FILE";
+pub const USE: &str = "icbench [--workers 1..64] [--budget 0..1048576] [--explain] [-i] [FILE..]";
 
 /// What stands in the help above the usage.
 pub const ABOUT: &str =
     "A workbench for nets of interaction combinators: fires interactions, and takes them back in any causal order.
-Reads a net and commands from standard input, and writes an answer to each command to standard output.";
+Reads a net and commands from files or standard input, and writes an answer to each command to standard output.";
 
 /// What stands in the help below the options.
 pub const LESSON: &str = "Input:

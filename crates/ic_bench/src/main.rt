@@ -5,11 +5,12 @@ mod help;
 mod options;
 mod program;
 mod progress;
+mod sources;
 mod statuses;
 #[cfg(test)]
 mod tests;
 
-use crate::program::{refuse_words, run_program};
+use crate::program::{Host, refuse_words, run_program};
 use crate::progress::Progress;
 use std::process::ExitCode;
 use std::{env, io};
@@ -21,10 +22,14 @@ fn main(rt: HostRuntime) -> ExitCode {
         Ok(words) => {
             let mut reader = rt.reader();
             let mut writer = io::writer(&rt);
+            let host = Host {
+                threads: &rt,
+                alloc: rt.alloc(),
+                files: &rt,
+                gate: &Progress { rt: &rt },
+            };
             run_program(
-                &rt,
-                rt.alloc(),
-                &Progress { rt: &rt },
+                &host,
                 words.as_slice(),
                 &mut reader,
                 &mut writer,

@@ -1,7 +1,7 @@
 ghost use Rattle.std.specs.Prelude.{◌≡◌, IfErr, IfOk, map, false};
 ghost use Rattle.clap.specs.Words.{IsPlain, IsPlainArg, app_of, kind_of, rule_of};
 ghost use Rattle.clap.specs.declared.builder.command.Command.TheViews.{out-Command};
-ghost use Rattle.ic_bench.specs.CommandLine.{Choose, IsFaultOf, budget_rule, explain_rule, icbench, interactive_rule, scripted, workers_rule};
+ghost use Rattle.ic_bench.specs.CommandLine.{Choose, IsFaultOf, budget_rule, explain_rule, files_in, files_rule, icbench, interactive_rule, scripted, workers_rule};
 ghost use Rattle.ic_bench.specs.Runs.{mode_of};
 
 use crate::help::{ABOUT, LESSON, USE, VERSION};
@@ -45,20 +45,31 @@ impl Options {
     }
 }
 
+/// What a command line asks for: how a session is run, and from which files it is read, one after the other. Without files it
+/// is read from the standard input.
+#[derive(Drop)]
+pub struct Asked<'a> {
+    pub options: Options,
+    pub files: Vec<&'a str>,
+}
+
 /// Reads the words of a command line, the first of which names the program.
-pub fn read_options<S: AsStr>(alloc: Global, words: &[S]) -> Result<Options, Error>
-    ensures chosen { IfOk result (λ options. Choose (map S.text words.now) options) }
+pub fn read_options<'a, S: AsStr>(alloc: Global, words: &'a [S]) -> Result<Asked<'a>, Error>
+    ensures chosen { IfOk result (λ asked. Choose (map S.text words.now) asked.options) }
+    ensures files { IfOk result (λ asked. map (λ file. file.now) asked.files.items ≡ files_in (map S.text words.now)) }
     ensures fault { IfErr result (λ error. IsFaultOf (map S.text words.now) (kind_of error)) }
 {
     let matches = command(alloc)?.try_get_matches_from(words)?;
     let workers = matches.get_one::<u8>("workers");
     let budget = matches.get_one::<u32>("budget");
-    Ok(Options {
+    let options = Options {
         workers: workers.unwrap_or(1),
         budget: budget.unwrap_or(MAX_BUDGET),
         explains: matches.get_flag("explain"),
         interactive: matches.get_flag("interactive"),
-    })
+    };
+    let files = Vec::from_slice(alloc, matches.get_strs("files").unwrap_or(&[]))?;
+    Ok(Asked { options, files })
 }
 
 /// The command line.
@@ -67,10 +78,12 @@ fn command<'a>(alloc: Global) -> Result<Command<'a>, AllocError>
     ensures plain { IfOk result (λ command. IsPlain command) }
     ensures local { IfOk result (λ command. (out-Command command).has_globals ≡ false) }
 {
-    scripted_command(alloc)?.arg(interactive_argument(alloc))
+    scripted_command(alloc)?
+        .arg(interactive_argument(alloc))?
+        .arg(files_argument(alloc))
 }
 
-/// The command line of a session that isn't one at a terminal.
+/// The command line of a session that is read from the standard input, but not at a terminal.
 fn scripted_command<'a>(alloc: Global) -> Result<Command<'a>, AllocError>
     ensures shape { IfOk result (λ command. app_of command ≡ scripted) }
     ensures plain { IfOk result (λ command. IsPlain command) }
@@ -135,4 +148,15 @@ fn interactive_argument<'a>(alloc: Global) -> Arg<'a>
         .long("interactive")
         .action(ArgAction::SetTrue)
         .help("explains, too, and asks for each line on standard error, as at a terminal")
+}
+
+/// The files that a session is read from.
+fn files_argument<'a>(alloc: Global) -> Arg<'a>
+    ensures rule { rule_of result ≡ files_rule }
+    ensures plain { IsPlainArg result × (result.global ≡ false) }
+{
+    Arg::new(alloc, "files")
+        .value_name("FILE")
+        .action(ArgAction::Append)
+        .help("the session, file after file; - is the standard input, and so is no file")
 }

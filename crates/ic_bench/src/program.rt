@@ -1,54 +1,112 @@
-ghost use Rattle.std.specs.Prelude.{◌≡◌, ◌≢◌, ◌<◌, ◌≤◌, ℕ, List, IfSome, map};
+ghost use Rattle.std.specs.Prelude.{◌≡◌, ◌≢◌, ◌<◌, ◌≤◌, ℕ, false, List, [], IfOk, IfSome, OnErr, map};
 ghost use Rattle.std.specs.Io.KnownBytes.{Appends};
 ghost use Rattle.std.specs.IoError.{error_kind};
 ghost use Rattle.std.specs.declared.io.ErrorKind.TheVariants as io_kinds;
 ghost use Rattle.clap.specs.Words.{kind_of};
 ghost use Rattle.ic_command.specs.Faults.{AppendsFront};
-ghost use Rattle.ic_session.specs.Sessions.{NamesFault};
-ghost use Rattle.ic_bench.specs.Runs.{Explains, Runs, RunsSession};
-ghost use Rattle.ic_bench.specs.Statuses.{fault_line, fault_status};
+ghost use Rattle.ic_session.specs.Sessions.{IsBegun, NamesFault, Writes};
+ghost use Rattle.ic_bench.specs.CommandLine.{files_in};
+ghost use Rattle.ic_bench.specs.Runs.{Explains, Runs, RunsFiles, RunsSession, mode_of};
+ghost use Rattle.ic_bench.specs.Statuses.{fault_line, fault_status, unread_line};
 
-use crate::options::{Options, read_options};
+use crate::options::{Asked, Options, read_options};
+use crate::sources::Sources;
 use crate::statuses::{
-    ENDED, NET_REFUSED, NO_MEMORY, USAGE, fault_line, fault_status, session_status,
+    BROKEN, ENDED, NET_REFUSED, NO_MEMORY, USAGE, fault_line, fault_status, session_status,
 };
 use clap::Error;
 use clap::error::ErrorKind;
 use ic_command::write_reply;
-use ic_session::{Fault, Gate, MAX_WORKERS, Setting, run_in, run_session};
+use ic_session::{Fault, Gate, MAX_WORKERS, Setting, Status, run_in, run_session};
 use std::alloc::Global;
 use std::convert::AsStr;
+use std::fs::Files;
 use std::io;
 use std::io::{Read, Write};
 use std::sync::Wait;
 use std::thread::Threads;
 
+/// What the program runs on besides its streams: threads, memory, files, and a gate that sees each commit of a session that
+/// explains itself.
+#[derive(Drop)]
+pub struct Host<'a, T, G, F> {
+    pub threads: &'a T,
+    pub alloc: Global,
+    pub files: &'a F,
+    pub gate: &'a G,
+}
+
 /// Runs the program on the words of a command line, and answers its exit status. What is said of a fault goes to
-/// `errors`; where that fails too, the status stays. The gate sees each commit of a session that explains itself.
-pub fn run_program<S: AsStr, R: Read, W: Write, E: Write, T: Threads + Wait + Sync, G: Gate>(
-    threads: &T,
-    alloc: Global,
-    gate: &G,
-    words: &[S],
+/// `errors`; where that fails too, the status stays. The session is read from the files that the words name, or else from
+/// `reader`.
+pub fn run_program<
+    S: AsStr,
+    R: Read,
+    W: Write,
+    E: Write,
+    T: Threads + Wait + Sync,
+    G: Gate,
+    F: Files,
+>(host: &Host<'_, T, G, F>, words: &[S], reader: &mut R, writer: &mut W, errors: &mut E) -> u8
+    ensures ran { Runs (map S.text words.now) (R.remaining reader.old) (record { before = W.contents writer.old; after = W.contents writer.new }) (record { before = E.contents errors.old; after = E.contents errors.new }) result }
+    ensures named { files_in (map S.text words.now) ≡ [] → result ≡ NET_REFUSED → IfSome (R.remaining reader.old) (λ input. (text : List ℕ) × NamesFault input text × Appends (W.contents writer.old) (W.contents writer.new) text) }
+    ensures unwritten { result ≡ USAGE → W.contents writer.new ≡ W.contents writer.old }
+{
+    match read_options(host.alloc, words) {
+        Ok(asked) => run_asked(host, &asked, reader, writer, errors),
+        Err(error) => explain(host.alloc, error, writer, errors),
+    }
+}
+
+/// Runs a session over what the command line asks for.
+fn run_asked<R: Read, W: Write, E: Write, T: Threads + Wait + Sync, G: Gate, F: Files>(
+    host: &Host<'_, T, G, F>,
+    asked: &Asked<'_>,
     reader: &mut R,
     writer: &mut W,
     errors: &mut E,
 ) -> u8
-    ensures ran { Runs (map S.text words.now) (R.remaining reader.old) (record { before = W.contents writer.old; after = W.contents writer.new }) (record { before = E.contents errors.old; after = E.contents errors.new }) result }
-    ensures named { result ≡ NET_REFUSED → IfSome (R.remaining reader.old) (λ input. (text : List ℕ) × NamesFault input text × Appends (W.contents writer.old) (W.contents writer.new) text) }
-    ensures unwritten { result ≡ USAGE → W.contents writer.new ≡ W.contents writer.old }
+    requires { (0 < asked.now.options.workers) × (asked.now.options.workers ≤ MAX_WORKERS) }
+    ensures input { map (λ file. file.now) asked.now.files.items ≡ [] → RunsSession asked.now.options (R.remaining reader.old) (record { before = W.contents writer.old; after = W.contents writer.new }) (record { before = E.contents errors.old; after = E.contents errors.new }) result }
+    ensures files { RunsFiles asked.now.options (map (λ file. file.now) asked.now.files.items) (record { before = W.contents writer.old; after = W.contents writer.new }) (record { before = E.contents errors.old; after = E.contents errors.new }) result }
 {
-    match read_options(alloc, words) {
-        Ok(options) => run(threads, alloc, gate, options, reader, writer, errors),
-        Err(error) => explain(alloc, error, writer, errors),
+    if asked.files.is_empty() {
+        return run(host, asked.options, reader, writer, errors);
+    }
+    run_files(host, asked, reader, writer, errors)
+}
+
+/// Runs a session over files.
+fn run_files<R: Read, W: Write, E: Write, T: Threads + Wait + Sync, G: Gate, F: Files>(
+    host: &Host<'_, T, G, F>,
+    asked: &Asked<'_>,
+    reader: &mut R,
+    writer: &mut W,
+    errors: &mut E,
+) -> u8
+    requires { (0 < asked.now.options.workers) × (asked.now.options.workers ≤ MAX_WORKERS) }
+    ensures { RunsFiles asked.now.options (map (λ file. file.now) asked.now.files.items) (record { before = W.contents writer.old; after = W.contents writer.new }) (record { before = E.contents errors.old; after = E.contents errors.new }) result }
+{
+    let options = asked.options;
+    let mut sources = Sources::new(host.files, &asked.files, reader, options.interactive);
+    match session(host, options, &mut sources, writer, errors) {
+        Ok(status) => session_status(status),
+        Err(fault) => {
+            if fault == Fault::Read {
+                if let Some(at) = sources.unread() {
+                    if at < asked.files.len() {
+                        return refuse_file(host.alloc, asked.files[at], errors);
+                    }
+                }
+            }
+            fail(fault, errors)
+        }
     }
 }
 
-/// Runs a session.
-fn run<R: Read, W: Write, E: Write, T: Threads + Wait + Sync, G: Gate>(
-    threads: &T,
-    alloc: Global,
-    gate: &G,
+/// Runs a session over an input.
+fn run<R: Read, W: Write, E: Write, T: Threads + Wait + Sync, G: Gate, F: Files>(
+    host: &Host<'_, T, G, F>,
     options: Options,
     reader: &mut R,
     writer: &mut W,
@@ -57,23 +115,56 @@ fn run<R: Read, W: Write, E: Write, T: Threads + Wait + Sync, G: Gate>(
     requires { (0 < options.workers) × (options.workers ≤ MAX_WORKERS) }
     ensures { RunsSession options (R.remaining reader.old) (record { before = W.contents writer.old; after = W.contents writer.new }) (record { before = E.contents errors.old; after = E.contents errors.new }) result }
 {
-    let mode = options.mode();
-    let ran = if mode.explains {
-        let setting = Setting {
-            threads,
-            alloc,
-            gate,
-            mode,
-            prompts: options.prompts(),
-        };
-        run_in(&setting, reader, writer, errors)
-    } else {
-        run_session(threads, alloc, reader, writer, mode.workers, mode.budget)
-    };
-    match ran {
+    match session(host, options, reader, writer, errors) {
         Ok(status) => session_status(status),
         Err(fault) => fail(fault, errors),
     }
+}
+
+/// Runs a session over an input, and answers how it ended.
+fn session<R: Read, W: Write, E: Write, T: Threads + Wait + Sync, G: Gate, F: Files>(
+    host: &Host<'_, T, G, F>,
+    options: Options,
+    reader: &mut R,
+    writer: &mut W,
+    errors: &mut E,
+) -> Result<Status, Fault>
+    requires { (0 < options.workers) × (options.workers ≤ MAX_WORKERS) }
+    ensures wrote { IfOk result (λ status. IfSome (R.remaining reader.old) (λ bytes. Writes (mode_of options) bytes status (W.contents writer.old) (W.contents writer.new))) }
+    ensures began { OnErr result (IfSome (R.remaining reader.old) (λ bytes. (text : List ℕ) × IsBegun (mode_of options) bytes text × Appends (W.contents writer.old) (W.contents writer.new) text)) }
+    ensures silent { (mode_of options).explains ≡ false → E.contents errors.new ≡ E.contents errors.old }
+{
+    let mode = options.mode();
+    if mode.explains {
+        let setting = Setting {
+            threads: host.threads,
+            alloc: host.alloc,
+            gate: host.gate,
+            mode,
+            prompts: options.prompts(),
+        };
+        return run_in(&setting, reader, writer, errors);
+    }
+    run_session(
+        host.threads,
+        host.alloc,
+        reader,
+        writer,
+        mode.workers,
+        mode.budget,
+    )
+}
+
+/// Says that a file can't be read, and answers the status.
+fn refuse_file<E: Write>(alloc: Global, name: &str, errors: &mut E) -> u8
+    ensures status { result ≡ BROKEN }
+    ensures said { AppendsFront (E.contents errors.old) (E.contents errors.new) (unread_line name.now) }
+{
+    let Ok(text) = format!(in alloc; "icbench: {}: cannot be read\n", name) else {
+        return BROKEN;
+    };
+    let _ = write_reply(errors, text.as_bytes());
+    BROKEN
 }
 
 /// Writes the help where the command line asks for it, and else what is wrong with that.

@@ -1,6 +1,7 @@
-use crate::program::{refuse_words, run_program};
+use crate::program::{Host, refuse_words, run_program};
 use ic_session::NoGate;
 use std::alloc::Global;
+use std::fs::Files;
 use std::io::{ErrorKind, Read, Write};
 use std::sync::Wait;
 use std::test::Fail;
@@ -31,9 +32,19 @@ impl Write for Full {
     }
 }
 
+/// What the program runs on.
+fn host<T: Threads + Wait + Sync + Files>(rt: &T, alloc: Global) -> Host<'_, T, NoGate, T> {
+    Host {
+        threads: rt,
+        alloc,
+        files: rt,
+        gate: &NoGate,
+    }
+}
+
 /// Whether the program, run on these words and this input, ends in this status and has then written these bytes to
 /// standard output and standard error.
-fn runs<T: Threads + Wait + Sync>(
+fn runs<T: Threads + Wait + Sync + Files>(
     threads: &T,
     alloc: Global,
     words: &[&str],
@@ -46,9 +57,7 @@ fn runs<T: Threads + Wait + Sync>(
     let mut written = Vec::new(alloc);
     let mut said = Vec::new(alloc);
     let ended = run_program(
-        threads,
-        alloc,
-        &NoGate,
+        &host(threads, alloc),
         words,
         &mut reader,
         &mut written,
@@ -146,15 +155,23 @@ fn a_session_at_a_terminal_asks_for_lines(rt: HostRuntime) {
 }
 
 #[test]
+fn a_session_is_read_from_files(rt: HostRuntime) {
+    let input = b"E = E;\n---\nfire 0 1\n";
+    let here = ["icbench", "-"];
+    assert!(rt; runs(&rt, rt.alloc(), &here, input, 0, b"fired 0 1\n", b""));
+    let missing = ["icbench", "-", "missing.net"];
+    let said = b"icbench: missing.net: cannot be read\n";
+    assert!(rt; runs(&rt, rt.alloc(), &missing, input, 1, b"fired 0 1\n", said));
+}
+
+#[test]
 fn a_net_that_is_refused_is_explained(rt: HostRuntime) {
     let mut reader = b"# One gamma.\nG(a,b) = !;".as_slice();
     let mut output = Vec::new(rt.alloc());
     let mut said = Vec::new(rt.alloc());
     let words = ["icbench", "--explain"];
     let status = run_program(
-        &rt,
-        rt.alloc(),
-        &NoGate,
+        &host(&rt, rt.alloc()),
         &words,
         &mut reader,
         &mut output,
@@ -169,7 +186,7 @@ fn a_net_that_is_refused_is_explained(rt: HostRuntime) {
 }
 
 /// Whether a command line is refused, with this on standard error.
-fn refuses<T: Threads + Wait + Sync>(
+fn refuses<T: Threads + Wait + Sync + Files>(
     threads: &T,
     alloc: Global,
     words: &[&str],
@@ -205,8 +222,8 @@ fn command_lines_that_are_refused(rt: HostRuntime) {
         b"error: invalid value '1048577' for '--budget <0..1048576>': 1048577 is not in 0..=1048576\n\nFor more information, try '--help'.\n";
     assert!(rt; refuses(&rt, rt.alloc(), &["icbench", "--budget", "1048577"], much));
     let word =
-        b"error: unexpected argument 'net' found\n\nUsage: icbench [--workers 1..64] [--budget 0..1048576] [--explain] [-i] < FILE\n\nFor more information, try '--help'.\n";
-    assert!(rt; refuses(&rt, rt.alloc(), &["icbench", "net"], word));
+        b"error: unexpected argument '--net' found\n\n  tip: to pass '--net' as a value, use '-- --net'\n\nUsage: icbench [--workers 1..64] [--budget 0..1048576] [--explain] [-i] [FILE..]\n\nFor more information, try '--help'.\n";
+    assert!(rt; refuses(&rt, rt.alloc(), &["icbench", "--net"], word));
 }
 
 #[test]
@@ -216,9 +233,7 @@ fn the_help_names_each_command(rt: HostRuntime) -> Result<(), Fail> {
     let mut said = Vec::new(rt.alloc());
     let words = ["icbench", "--help"];
     let status = run_program(
-        &rt,
-        rt.alloc(),
-        &NoGate,
+        &host(&rt, rt.alloc()),
         &words,
         &mut reader,
         &mut help,
@@ -263,9 +278,7 @@ fn readers_and_writers_that_fail(rt: HostRuntime) {
     let words = ["icbench"];
     assert!(rt;
         run_program(
-            &rt,
-            rt.alloc(),
-            &NoGate,
+            &host(&rt, rt.alloc()),
             &words,
             &mut Broken,
             &mut output,
@@ -277,9 +290,7 @@ fn readers_and_writers_that_fail(rt: HostRuntime) {
     let mut reader = b"---\nnet\n".as_slice();
     assert!(rt;
         run_program(
-            &rt,
-            rt.alloc(),
-            &NoGate,
+            &host(&rt, rt.alloc()),
             &words,
             &mut reader,
             &mut Full,
@@ -295,9 +306,7 @@ fn a_standard_error_that_fails_changes_no_status(rt: HostRuntime) {
     let words = ["icbench", "--help"];
     assert!(rt;
         run_program(
-            &rt,
-            rt.alloc(),
-            &NoGate,
+            &host(&rt, rt.alloc()),
             &words,
             &mut reader,
             &mut Full,
@@ -308,9 +317,7 @@ fn a_standard_error_that_fails_changes_no_status(rt: HostRuntime) {
     let wrong = ["icbench", "--workers"];
     assert!(rt;
         run_program(
-            &rt,
-            rt.alloc(),
-            &NoGate,
+            &host(&rt, rt.alloc()),
             &wrong,
             &mut reader,
             &mut output,

@@ -1,6 +1,7 @@
-use Rattle.std.proofs.Common.{ap, codes, map, ◌∙◌, sym}
+use Rattle.std.proofs.Common.{ap, codes, map, refl, ◌∙◌, sym}
 use Rattle.std.specs.Str.Parse.{ExplainsUnsignedError, HasUnsignedDigitsIfOk, ParsesUnsigned}
 use Rattle.clap.specs.Words.{fault_of, is_simple_and_free}
+use Rattle.ic_bench.proofs.GivenFiles.{files_chosen}
 use Rattle.ic_bench.proofs.GivenFlag.{flag_chosen}
 use Rattle.ic_bench.proofs.GivenNumbers.{budget_chosen, workers_chosen}
 use Rattle.ic_bench.proofs.options.read_options.Goals as goal
@@ -23,3 +24,8 @@ returns-clause-chosen g c =
       interactive = flag_chosen (codes "interactive") c.in_ok-command.field-0 c.in_ok-matches.matches words made.shape parsed.matches
           c.get_flag-2.result c.get_flag-2.ensures.none c.get_flag-2.ensures.value c.get_flag-2.ensures.other;
     }
+
+pub returns-clause-files : goal.returns-clause-files
+returns-clause-files g c =
+    files_chosen c.in_ok-command.field-0 c.in_ok-matches.matches (map g.S.AsStr.text c.args.words.now) c.in_ok-command.ensures.shape c.in_ok-matches.ensures.matches
+    c.get_strs.result _ c.unwrap_or-3.result c.in_ok-files.files.items c.get_strs.ensures refl c.unwrap_or-3.ensures c.in_ok-files.ensures.items
