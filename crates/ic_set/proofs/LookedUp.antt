@@ -7,7 +7,7 @@ use Rattle.ic_name.specs.declared.kinds.Kind.{Kind}
 use Rattle.ic_names.specs.Tables.{name_at}
 use Rattle.ic_path.specs.Orders.{IsIn}
 use Rattle.ic_path.proofs.Picks.{none_in, in_first, in_more, in-cons_cases}
-use Rattle.ic_roster.specs.Rosters.{Member, IsNewName}
+use Rattle.ic_roster.specs.Rosters.{Member, Stander, IsNewName}
 use Rattle.ic_set.specs.declared.pairs.ActivePair.{ActivePair}
 use Rattle.ic_set.specs.Pairs.{AreJoined, IsPairOf, IsActivePair, ArePairsOf, AreLedBy}
 use Rattle.ic_set.specs.Queues.{Leads}
@@ -16,7 +16,7 @@ use Rattle.ic_set.specs.Views.{SetView, NamedView}
 use Rattle.ic_set.proofs.ActivePairs.{one_id, one_name, joined_pair, joined_once, one_pair}
 use Rattle.ic_set.proofs.InPlace.{in_at}
 use Rattle.ic_set.proofs.LedPairs.{second_leads_none}
-use Rattle.ic_set.proofs.Partners.{joined_back}
+use Rattle.ic_set.proofs.Partners.{joined_back, joined_unled}
 use Rattle.ic_set.proofs.QueuedLeads.{IsOf}
 
 -- a list without length is empty
@@ -195,6 +195,10 @@ module _ (v : SetView) (set : IsStandingSet v) where
         by e p h (suc (suc zero)) below at = third_of a b c d (Some p) (at_each agents 2 c yf ya e p h at)
         by e p h (suc (suc (suc zero))) below at = fourth_of a b c d (Some p) (at_each agents 3 d zf za e p h at)
         by e p h (suc (suc (suc (suc i)))) below at = absurd (omega (arith, below))
+
+-- a name that leads a standing event leads no active pair
+pub lead_leads_none : (v : NamedView) → IsStandingSet v.set → (n : ℕ) → (x : Stander) → IsIn x v.set.events → x.event.lead ≡ name_at v.names n → Leads v n → ⊥
+lead_leads_none v set n x i named l = joined_unled v.set set (joined_pair v.set set l.0 l.1 l.2) _ l.2.lead refl x i (named ∙ sym l.3)
 
 -- the pair that the agent of a name leads, if that is there
 pub led_named : (v : NamedView) → IsStandingSet v.set → (n : ℕ) (o : Option AgentId) (r : Option ActivePair)

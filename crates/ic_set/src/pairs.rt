@@ -64,8 +64,8 @@ impl<L: LinkStore> BareSet<L> {
         ensures found { IfSome result (λ meeting. IsMeeting self.now agent meeting) }
         ensures absent { IfNone result ((partner : AnAgentId) → AreJoined self.now.set agent partner → ⊥) }
     {
-        let entry = self.unled(agent)?;
         let partner = principal_end(self.store.far(Spot::Agent(agent, 0)))?;
+        let entry = self.unled(agent)?;
         let other = self.unled(partner)?;
         Some(Meeting {
             entry,
@@ -152,6 +152,9 @@ impl<L: LinkStore> BareSet<L> {
         ensures absent { IfNone result (Leads self.now name.place → ⊥) }
     {
         self.lawful();
+        if self.roster.is_lead(name) {
+            return None;
+        }
         self.led(self.roster.named(name))
     }
 

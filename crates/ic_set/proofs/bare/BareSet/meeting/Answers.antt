@@ -8,11 +8,11 @@ use Rattle.ic_set.proofs.Partners.{joined_far, joined_one, far_joined, joined_ba
 use Rattle.ic_set.proofs.bare.BareSet.meeting.Goals as goal
 
 pub returns-in_err-entry-clause-absent : goal.returns-in_err-entry-clause-absent
-returns-in_err-entry-clause-absent g c = if_none c.from_residual.result _ c.in_err-entry.ensures.absent
+returns-in_err-entry-clause-absent g c = if_none c.from_residual-in_err-entry.result _ c.in_err-entry.ensures.absent
 
 pub returns-in_err-partner-clause-absent : goal.returns-in_err-partner-clause-absent
 returns-in_err-partner-clause-absent g c =
-    rw (← c.self.view_is) (if_none c.from_residual-in_err-partner.result _ (λ partner j. c.in_err-partner.ensures.absent partner (joined_far _ _ c.self.invariant c.args.agent partner c.far.result j c.far.ensures)))
+    rw (← c.self.view_is) (if_none c.from_residual.result _ (λ partner j. c.in_err-partner.ensures.absent partner (joined_far _ _ c.self.invariant c.args.agent partner c.far.result j c.far.ensures)))
 
 pub returns-in_err-other-clause-absent : goal.returns-in_err-other-clause-absent
 returns-in_err-other-clause-absent g c =
