@@ -1,5 +1,5 @@
 /// The version of the program.
-pub const VERSION: &str = "0.1.0";
+pub const VERSION: &str = "0.2.0";
 
 /// How the program is called.
 pub const USE: &str = "icbench [--workers 1..64] [--budget 0..1048576] [--explain] [-i] [FILE..]";

@@ -268,7 +268,7 @@ fn the_help_names_each_command(rt: HostRuntime) -> Result<(), Fail> {
 #[test]
 fn the_version_is_told(rt: HostRuntime) {
     let words = ["icbench", "--version"];
-    assert!(rt; runs(&rt, rt.alloc(), &words, b"", 0, b"icbench 0.1.0\n", b""));
+    assert!(rt; runs(&rt, rt.alloc(), &words, b"", 0, b"icbench 0.2.0\n", b""));
 }
 
 #[test]
