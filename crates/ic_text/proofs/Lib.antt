@@ -85,6 +85,7 @@ pub mod RereadOrder
 pub mod RereadWires
 pub mod SameBytes
 pub mod SortedEntries
+pub mod CountedWires
 pub mod Tallies
 pub mod Trips
 pub use Rattle.ic_net.proofs.OneListing

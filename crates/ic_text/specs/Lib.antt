@@ -17,5 +17,6 @@ pub mod Numbers
 pub mod NumberedWires
 pub mod Printable
 pub mod Printed
+pub mod Counts
 pub mod Reread
 pub mod ReadBack

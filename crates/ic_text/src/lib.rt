@@ -2,6 +2,7 @@
 #![tactic(auto)]
 
 mod builder;
+pub mod counts;
 pub mod fault;
 pub mod grammar;
 mod lexer;
