@@ -1,5 +1,5 @@
 -- Why a list of events is not replayed.
-use Rattle.std.specs.Prelude.{ℕ, List, [], Option, Some, None, take, slice_get}
+use Rattle.std.specs.Prelude.{◌≤◌, ℕ, List, [], length, Option, Some, None, take, slice_get}
 use Rattle.ic_name.specs.Events.{Event}
 use Rattle.ic_theory.specs.Starts.{Start}
 use Rattle.ic_theory.specs.Nets.{Net, net_of}
@@ -14,7 +14,8 @@ IsRefusedAt n e Memory = Unit {0}
 IsRefusedAt n None f = ⊥
 IsRefusedAt n (Some e) f = IsRefused n e f
 
--- the steps in front of the place are defined, and the next one is refused
+-- the place is one of the list or the end of it, the steps in front of it are defined, and the next one is refused
 pub record IsReplayFault (s : Start) (es : List Event) (place : ℕ) (cause : StepFault) : Type 0 where
+  pub within : place ≤ length es
   pub before : AreDefined (net_of s []) (take place es)
   pub refused : IsRefusedAt (steps (net_of s []) (take place es)) (slice_get es place) cause
