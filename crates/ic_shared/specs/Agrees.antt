@@ -18,13 +18,9 @@ pub record Agrees (opening : OpeningView) (passes : List PassView) (bench : Benc
 pub data IsFalseAt (opening : OpeningView) (passes : List PassView) (bench : BenchView) (number : ℕ) : Type 0 where
   -- at the history's length: the start is another
   other_start : number ≡ length bench.lines → bench.start ≢ opening.start → IsFalseAt opening passes bench number
-  -- there, too: the passes have too few or too many lines
-  other_count : number ≡ length bench.lines → length bench.lines ≢ length opening.lines + added_by_all passes
-      → IsFalseAt opening passes bench number
-  -- where start and count agree: a line of the opening isn't the history's
-  other_line : bench.start ≡ opening.start → length bench.lines ≡ length opening.lines + added_by_all passes
-      → number < length opening.lines → slice_get bench.lines number ≢ slice_get opening.lines number
+  -- where the start is the same: a line of the opening isn't the history's
+  other_line : bench.start ≡ opening.start → number < length opening.lines → slice_get bench.lines number ≢ slice_get opening.lines number
       → IsFalseAt opening passes bench number
   -- there, too: what the passes say of the lines since the opening
-  other_receipts : bench.start ≡ opening.start → length bench.lines ≡ length opening.lines + added_by_all passes
+  other_receipts : bench.start ≡ opening.start
       → WrongAt (length opening.lines) bench.lines (columns bench.names passes) number → IsFalseAt opening passes bench number

@@ -14,13 +14,12 @@ use ic_journal::{ActivePair, Bench, FireFault, Fired, PairFault, Proposal, Store
 use ic_name::{Call, Event, EventId, Reply};
 use std::sync::ledger::{Book, Ledger, Share};
 
-/// A bench, the account of the lines that callers added to its history, and how many stood there before.
+/// A bench, and the account of the lines of its history: those that stood there before, and those that callers added.
 #[derive(Drop)]
 pub(crate) struct Locked<B: Ledger> {
     pub bench: Bench<Store>,
     pub book: Book<B>,
-    pub base: u32,
-    ghost counted: { book.total + base ≡ length bench.lines },
+    ghost counted: { book.total ≡ length bench.lines },
 }
 
 impl<B: Ledger> Locked<B> {

@@ -39,12 +39,12 @@ pub struct Opening<B: Ledger> {
 }
 
 impl<B: Ledger> Model for Opening<B> {
-    ghost use Rattle.std.specs.Prelude.{◌≡◌};
+    ghost use Rattle.std.specs.Prelude.{◌≡◌, length};
     ghost use Rattle.ic_shared.specs.Openings.{OpeningView, opened};
 
     ghost Value = { OpeningView };
 
     ghost view = { λ o. opened o.start o.lines o.count.passes };
 
-    ghost invariant = { λ o. (o.share.parts ≡ 1) × (o.share.amount ≡ 0) };
+    ghost invariant = { λ o. (o.share.parts ≡ 1) × (o.share.amount ≡ length o.lines) };
 }

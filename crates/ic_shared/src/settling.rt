@@ -16,12 +16,12 @@ use ic_journal::{Bench, EarlierLines, Store};
 use ic_start::Start;
 use std::sync::ledger::{Book, Ledger, Share};
 
-/// Lends the part of each pass to `all` in turn, and reads the book once every part is there. It shows that the callers
-/// have as many receipts together as lines were added, and changes nothing.
+/// Lends the part of each pass to `all` in turn, and reads the book then. It shows that the book has at least as many lines
+/// as they tell together, and exactly as many where every part is there. It changes nothing.
 fn audit<B: Ledger>(book: &mut Book<B>, all: &mut Share<B>, passes: &mut [Pass<B>])
-    requires parts { all.old.parts + length passes.old ≡ B.parts }
     requires some { 0 < all.old.parts }
-    ensures total { book.old.total ≡ all.old.amount + added_by_all passes.old }
+    ensures bound { all.old.amount + added_by_all passes.old ≤ book.old.total }
+    ensures total { all.old.parts + length passes.old ≡ B.parts → book.old.total ≡ all.old.amount + added_by_all passes.old }
     ensures book { book.new.total ≡ book.old.total }
     ensures all { (all.new.parts ≡ all.old.parts) × (all.new.amount ≡ all.old.amount) }
     ensures passes { passes.new ≡ passes.old }
@@ -48,8 +48,8 @@ fn audit<B: Ledger>(book: &mut Book<B>, all: &mut Share<B>, passes: &mut [Pass<B
 /// the passes, each told by one receipt under its number, that of a run by the names of the bench; and the lines that were
 /// added are counted. It is `Missing` exactly where there are not as many passes as were given out. It is `Mismatch`
 /// only where all passes are there, and then what the opening and the passes say is false at its number: the history's
-/// length where the start is another or the passes have too few or too many lines, before any line is looked at; else the
-/// number of a line.
+/// length where the start is another, before any line is looked at; else the number of a line. The bench that comes back has
+/// a line for each of the opening and for each receipt of these passes, and no other line if all passes are there.
 pub fn settle<B: Ledger>(
     opening: Opening<B>,
     mut passes: Vec<Pass<B>>,
@@ -58,22 +58,18 @@ pub fn settle<B: Ledger>(
     ensures ok { IfOk result (λ s. Agrees opening passes.items s.bench s.lines) }
     ensures err { IfErr result (λ e. FaultIs opening passes.items e) }
 {
-    let Locked {
-        bench,
-        mut book,
-        base,
-    } = shared.into_locked();
+    let Locked { bench, mut book } = shared.into_locked();
     let Opening {
         start,
         lines,
         count,
         mut share,
     } = opening;
+    audit(&mut book, &mut share, passes.as_mut_slice());
     if passes.len() != count.passes as usize {
         return Err(SettleFault::Missing(bench));
     }
-    audit(&mut book, &mut share, passes.as_mut_slice());
-    match compare(&bench, base, &start, &lines, passes.as_slice()) {
+    match compare(&bench, &start, &lines, passes.as_slice()) {
         Ok(lines) => Ok(Settled { bench, lines }),
         Err(wrong) => Err(SettleFault::Mismatch(wrong, bench)),
     }
@@ -83,13 +79,12 @@ pub fn settle<B: Ledger>(
 /// added. The error is a number at which what they say of the history is false.
 fn compare<B: Ledger>(
     bench: &Bench<Store>,
-    base: u32,
     start: &Start,
     lines: &EarlierLines,
     passes: &[Pass<B>],
 ) -> Result<u32, u32>
     requires few { length passes.now ≤ MAX_PASSES }
-    requires counted { length bench.now.lines ≡ base + added_by_all passes.now }
+    requires counted { length bench.now.lines ≡ length lines.now + added_by_all passes.now }
     ensures ok { IfOk result (λ added. Agrees (opened start.now lines.now (length passes.now)) passes.now bench.now added) }
     ensures err { IfErr result (λ number. IsFalseAt (opened start.now lines.now (length passes.now)) passes.now bench.now number) }
 {
@@ -97,9 +92,7 @@ fn compare<B: Ledger>(
     if !bench.start().same(start) {
         return Err(number);
     }
-    if base as usize != lines.len() {
-        return Err(number);
-    }
+    let base = lines.len() as u32;
     match bench.first_other(lines) {
         Some(other) => return Err(other),
         None => {}

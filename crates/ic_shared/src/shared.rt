@@ -47,7 +47,7 @@ pub fn share<B: Ledger>(
     let Ok(mut all) = Vec::with_capacity(alloc, passes as usize) else {
         return Err(bench);
     };
-    let (book, mut share) = blank.open::<B>();
+    let (mut book, mut share) = blank.open::<B>();
     for made in 0..passes {
         all.push_reserved(Pass {
             share: share.split_off(1, 0),
@@ -55,14 +55,14 @@ pub fn share<B: Ledger>(
             ran: Vec::new(alloc),
         });
     }
+    book.add(&mut share, u64::from(bench.lines()));
     let opening = Opening {
         start,
         lines,
         count: Count::new(passes),
         share,
     };
-    let base = bench.lines();
-    let locked = Mutex::new(Locked { bench, book, base });
+    let locked = Mutex::new(Locked { bench, book });
     Ok((Shared { locked }, opening, all))
 }
 

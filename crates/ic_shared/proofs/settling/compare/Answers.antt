@@ -10,23 +10,19 @@ returns-then-not-same-clause-err g c = other_start c.lines-number.ensures (λ e.
 
 pub returns-in-Some-clause-err : goal.returns-in-Some-clause-err
 returns-in-Some-clause-err g c =
-    let counted = c.requires.counted in
-    let based = c.if-base-len.false ∙ c.len.ensures in
-    other_line (sym c.start.ensures ∙ c.if-not-same.ensures.0 refl) (omega arith) c.in-Some.ensures.some.0 c.in-Some.ensures.some.1
+    other_line (sym c.start.ensures ∙ c.if-not-same.ensures.0 refl) c.in-Some.ensures.some.0 c.in-Some.ensures.some.1
 
 pub returns-in-Ok-clause-ok : goal.returns-in-Ok-clause-ok
 returns-in-Ok-clause-ok g c =
-    agrees c.args.passes.now c.args.bench.now c.args.start.now c.args.lines.now c.args.base c.lines-number.result
+    agrees c.args.passes.now c.args.bench.now c.args.start.now c.args.lines.now c.len-base.result c.lines-number.result
     (sym c.start.ensures ∙ c.if-not-same.ensures.0 refl)
-    (c.if-base-len.false ∙ c.len.ensures)
+    c.len-base.ensures
     c.in-None.ensures.none
     c.lines-number.ensures
-    c.requires.counted
+    (let counted = c.requires.counted in let based = c.len-base.ensures in omega arith)
     c.in-Ok.ensures.ok
 
 pub returns-in-Err-clause-err : goal.returns-in-Err-clause-err
 returns-in-Err-clause-err g c =
-    let counted = c.requires.counted in
-    let based = c.if-base-len.false ∙ c.len.ensures in
-    other_receipts (sym c.start.ensures ∙ c.if-not-same.ensures.0 refl) (omega arith)
-    (subst (λ (n : ℕ). WrongAt n c.args.bench.now.lines (columns c.args.bench.now.names c.args.passes.now) c.in-Err.wrong) based c.in-Err.ensures.err)
+    other_receipts (sym c.start.ensures ∙ c.if-not-same.ensures.0 refl)
+    (subst (λ (n : ℕ). WrongAt n c.args.bench.now.lines (columns c.args.bench.now.names c.args.passes.now) c.in-Err.wrong) c.len-base.ensures c.in-Err.ensures.err)
