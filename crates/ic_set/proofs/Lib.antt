@@ -51,6 +51,7 @@ pub mod LookedUp
 pub mod QueuedLeads
 pub mod KeyedOrders
 pub mod PlacedOrders
+pub mod Buckets
 pub mod OrderedIds
 pub mod RankedEvents
 pub mod SetNets

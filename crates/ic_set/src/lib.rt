@@ -3,6 +3,7 @@
 
 pub mod admission;
 pub mod bare;
+mod by_rank;
 mod entering;
 mod joining;
 pub mod kinds;

@@ -7,6 +7,7 @@ ghost use Rattle.ic_set.specs.Placed.{keyed_cmp, place, IsKeyed, IsPlaced, ArePl
 ghost use Rattle.ic_set.specs.Removal.{Stands};
 
 use crate::bare::BareSet;
+use crate::by_rank::put_in_order;
 use ic_link::LinkStore;
 use ic_name::EventId;
 use ic_names::{NameKey, NameTable};
@@ -74,8 +75,7 @@ impl<L: LinkStore> BareSet<L> {
     {
         self.lawful();
         let mut placed = self.placed(ids)?;
-        let names = self.roster.names();
-        placed.sort_by(|a, b| canonical_order(names, a, b))?;
+        put_in_order(self.alloc, self.roster.names(), &mut placed)?;
         Ok(placed)
     }
 
