@@ -53,6 +53,11 @@ put_in_run run run' heap n put = rw (places-append run' heap, places-append run 
 pub put_in_heap : (run heap heap' : List Lead) (n : ℕ) → Alike (places heap') (n ∷ places heap) → Alike (places (run ++ heap')) (n ∷ places (run ++ heap))
 put_in_heap run heap heap' n put = rw (places-append run heap', places-append run heap) (alike_then (alike_more (places run) put) (alike_past (places run) (n ∷ []) (places heap)))
 
+-- or into the run, and another goes from there into the heap
+pub put_in_both : (run run' heap heap' : List Lead) (m n : ℕ) → Alike (m ∷ places run') (n ∷ places run) → Alike (places heap') (m ∷ places heap) → Alike (places (run' ++ heap')) (n ∷ places (run ++ heap))
+put_in_both run run' heap heap' m n left put =
+    alike_then (put_in_heap run' heap heap' m put) (rw (places-append run' heap, places-append run heap) (alike-append left (alike_self (places heap))))
+
 -- the leads in the same places are a queue
 pub same_queue : {ns : List Name} {p q : QueueView} → q.run ≡ p.run → q.heap ≡ p.heap → IsQueue ns p → IsQueue ns q
 same_queue {ns} {p} {q} run heap queue = record {

@@ -17,8 +17,8 @@ use std::alloc::{AllocError, Global};
 use std::marker::Model;
 
 /// A queue of names by their places in a table, the least name first, and each once. Names that come in order, each less or
-/// each greater than all others, lie in a run. All others lie in a heap. Names are compared by their keys, and the table is
-/// asked only if two keys are equal.
+/// each greater than all others, lie in a run. All others lie in a heap, and so do those for which the run has no room. Names
+/// are compared by their keys, and the table is asked only if two keys are equal.
 ///
 /// The names are those of one table, which each call that compares is given. Which of them still lead a pair is the
 /// caller's business.
@@ -104,8 +104,20 @@ impl LeadQueue {
         self.leads.reserve(names)
     }
 
+    /// Makes room in the run for so many names. `reserve` makes room there for 1,024 at most: a queue that will hold more
+    /// names in order is faster if the run has room for them all. It is an error only if no memory is left. The queue stays as
+    /// it is.
+    pub fn reserve_run(&mut self, leads: usize) -> Result<(), AllocError>
+        ensures same { leads_of self.new ≡ leads_of self.old }
+        ensures queue { (ns : List Name) → IsQueue ns self.old → IsQueue ns self.new }
+        ensures room { self.new.room ≡ self.old.room }
+    {
+        self.leads.reserve_run(leads)
+    }
+
     /// The name at this place comes in, if it isn't in the queue yet, in the room there is. It takes no memory. The time is
-    /// constant if the name is less than all in the run, or greater. Else it grows as the logarithm of the number of names.
+    /// constant if the run has room and the name is less than all in it, or greater. Else it grows as the logarithm of the
+    /// number of names.
     pub fn put(&mut self, names: &NameTable, name: NameId)
         requires inside { name.place < length names.now }
         requires queue { IsQueue names.now self.old }

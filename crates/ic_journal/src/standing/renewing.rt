@@ -48,7 +48,7 @@ pub(crate) fn queue_of<L: LinkStore>(
     ensures each { IfOk result (λ queue. HasLeads set.now (leads_of queue)) }
     ensures room { IfOk result (λ queue. length set.now.names ≤ queue.room) }
 {
-    let mut queue = empty_queue(alloc, set)?;
+    let mut queue = empty_queue(alloc, set, agents.len() / 2)?;
     put_all(&mut queue, set, agents);
     Ok(queue)
 }
@@ -68,7 +68,7 @@ fn without_fired<L: LinkStore>(
     ensures room { IfOk result (λ fresh. length set.now.names ≤ fresh.room) }
 {
     let roster = set.roster();
-    let mut fresh = empty_queue(alloc, set)?;
+    let mut fresh = empty_queue(alloc, set, queue.len())?;
     for at in 0..queue.len() {
         let name = queue.lead(at).name;
         if !roster.is_lead(name) {
@@ -79,14 +79,19 @@ fn without_fired<L: LinkStore>(
 }
 
 /// A queue without leads, with room for twice the names that are known, and for those of the children of one event more: so the
-/// children of further events don't make it grow at once.
-fn empty_queue<L: LinkStore>(alloc: Global, set: &BareSet<L>) -> Result<LeadQueue, AllocError>
+/// children of further events don't make it grow at once. Its run has room for this number of leads.
+fn empty_queue<L: LinkStore>(
+    alloc: Global,
+    set: &BareSet<L>,
+    leads: usize,
+) -> Result<LeadQueue, AllocError>
     ensures empty { IfOk result (λ queue. leads_of queue ≡ []) }
     ensures queue { IfOk result (λ queue. IsQueue set.now.names queue) }
     ensures room { IfOk result (λ queue. length set.now.names + MAX_CHILDREN ≤ queue.room) }
 {
     set.lawful();
     let mut queue = LeadQueue::new(alloc);
+    queue.reserve_run(leads)?;
     queue.reserve(2 * set.roster().names().len() + MAX_CHILDREN)?;
     Ok(queue)
 }

@@ -25,7 +25,8 @@ impl Model for LeadHeap {
 impl LeadHeap {
     /// No leads. It takes no memory yet.
     pub fn new(alloc: Global) -> LeadHeap
-        ensures { result.leads ≡ [] }
+        ensures empty { result.leads ≡ [] }
+        ensures room { result.room ≡ 0 }
     {
         LeadHeap {
             leads: Vec::new(alloc),

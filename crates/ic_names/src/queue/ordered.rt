@@ -14,7 +14,11 @@ use crate::queue::sifting::{put, take_top};
 use std::alloc::{AllocError, Global};
 use std::marker::Model;
 
+/// `reserve` makes room in the run for so many leads at most.
+const RUN_ROOM: usize = 1_024;
+
 /// Leads, the least first: a run of those that came in order, and a heap of all others. The least of all is the run's first.
+/// The heap has room for all leads. The run has room for one at least, and a lead for which it has none goes into the heap.
 #[derive(Drop)]
 pub struct OrderedLeads {
     run: LeadRun,
@@ -22,14 +26,14 @@ pub struct OrderedLeads {
 }
 
 impl Model for OrderedLeads {
-    ghost use Rattle.std.specs.Prelude.{◌≡◌, [], min};
+    ghost use Rattle.std.specs.Prelude.{◌≡◌, ◌<◌, []};
     ghost use Rattle.ic_names.specs.Queues.{QueueView};
 
     ghost Value = { QueueView };
 
-    ghost view = { λ o. record { run = o.run.leads; heap = o.heap.leads; room = min o.run.room o.heap.room } };
+    ghost view = { λ o. record { run = o.run.leads; heap = o.heap.leads; room = o.heap.room } };
 
-    ghost invariant = { λ o. o.run.leads ≡ [] → o.heap.leads ≡ [] };
+    ghost invariant = { λ o. (o.run.leads ≡ [] → o.heap.leads ≡ []) × (0 < o.heap.room → 0 < o.run.room) };
 }
 
 impl OrderedLeads {
@@ -62,18 +66,29 @@ impl OrderedLeads {
         self.heap.lead(at - behind)
     }
 
-    /// Makes room for so many leads. It is an error only if no memory is left. The leads stay, and the room never shrinks.
+    /// Makes room for so many leads: for all in the heap, and for 1,024 at most in the run. It is an error only if no memory is
+    /// left. The leads stay, and the room never shrinks.
     pub fn reserve(&mut self, leads: usize) -> Result<(), AllocError>
         ensures run { self.new.run ≡ self.old.run }
         ensures heap { self.new.heap ≡ self.old.heap }
         ensures kept { self.old.room ≤ self.new.room }
         ensures reserved { OnOk result (leads ≤ self.new.room) }
     {
-        self.run.reserve(leads)?;
+        self.run.reserve(leads.clamp(1, RUN_ROOM))?;
         self.heap.reserve(leads)
     }
 
-    /// A lead comes in: into the run, if it belongs at an end of it, else into the heap. It takes no memory.
+    /// Makes room in the run for so many leads. It is an error only if no memory is left. The leads stay.
+    pub fn reserve_run(&mut self, leads: usize) -> Result<(), AllocError>
+        ensures run { self.new.run ≡ self.old.run }
+        ensures heap { self.new.heap ≡ self.old.heap }
+        ensures room { self.new.room ≡ self.old.room }
+    {
+        self.run.reserve(leads)
+    }
+
+    /// A lead comes in: into the run, if it belongs at an end of it, else into the heap. If the run is full, only a lead less
+    /// than its first comes into it, and its last goes into the heap. It takes no memory.
     pub fn put(&mut self, names: &NameTable, lead: Lead)
         requires queue { IsQueue names.now self.old }
         requires named { IsNamed names.now lead }
@@ -82,10 +97,10 @@ impl OrderedLeads {
         ensures put { Alike (places (leads_of self.new)) (lead.name.place ∷ places (leads_of self.old)) }
         ensures room { self.new.room ≡ self.old.room }
     {
-        if self.run.put(names, lead) {
+        let Some(left) = self.run.put(names, lead) else {
             return;
-        }
-        put(&mut self.heap, names, lead);
+        };
+        put(&mut self.heap, names, left);
     }
 
     /// The least lead, in constant time; `None` if there are no leads. It takes no memory.

@@ -1,4 +1,4 @@
-ghost use Rattle.std.specs.Prelude.{◌≡◌, ◌≢◌, ◌^◌, ◌<◌, ◌≤◌, ◌∷◌, [], ◌++◌, length, IsTrue, IsFalse, IfSome, IfNone, OnOk};
+ghost use Rattle.std.specs.Prelude.{◌≡◌, ◌≢◌, ◌^◌, ◌<◌, ◌≤◌, ◌∷◌, [], ◌++◌, length, option_to_list, ◌↔◌, IsFalse, IfSome, IfNone, OnOk};
 ghost use Rattle.std.specs.declared.cmp.Ordering.TheVariants.{Less};
 ghost use Rattle.ic_name.specs.Names.{name_cmp};
 ghost use Rattle.ic_path.specs.Orders.{Alike};
@@ -62,30 +62,33 @@ impl LeadRun {
         self.leads.reserve(leads.saturating_sub(self.leads.len()))
     }
 
-    /// The lead comes in at the start or at the end, if it belongs at one of them. If it belongs between two leads, the answer is
-    /// `false`, and nothing changes. It takes constant time, and no memory.
-    pub fn put(&mut self, names: &NameTable, lead: Lead) -> bool
+    /// The lead comes in at the start or at the end, if it belongs at one of them. The answer is the lead that the run has no
+    /// place for. That is this one, if it belongs between two leads or at the end of a full run. If it comes in at the start of
+    /// a full run, that is the last. It takes constant time, and no memory.
+    pub fn put(&mut self, names: &NameTable, lead: Lead) -> Option<Lead>
         requires run { IsRun names.now self.old.leads }
         requires named { IsNamed names.now lead }
-        requires room { length self.old.leads < self.old.room }
+        requires room { 0 < self.old.room }
         ensures run { IsRun names.now self.new.leads }
-        ensures put { IsTrue result → Alike (places self.new.leads) (lead.name.place ∷ places self.old.leads) }
+        ensures put { IfNone result (Alike (places self.new.leads) (lead.name.place ∷ places self.old.leads)) }
+        ensures left { IfSome result (λ left. Alike (left.name.place ∷ places self.new.leads) (lead.name.place ∷ places self.old.leads)) }
+        ensures named { IfSome result (λ left. IsNamed names.now left) }
+        ensures behind { IfSome result (λ left. name_cmp (name_at names.now left.name.place) (name_of names.now self.new.leads 0) ≢ Less) }
         ensures first { 0 < length self.old.leads → name_cmp (name_of names.now self.old.leads 0) (name_of names.now self.new.leads 0) ≢ Less }
-        ensures between { IsFalse result → name_cmp (name_at names.now lead.name.place) (name_of names.now self.old.leads 0) ≢ Less }
         ensures some { 0 < length self.new.leads }
-        ensures unchanged { IsFalse result → self.new ≡ self.old }
         ensures room { self.new.room ≡ self.old.room }
     {
         let len = self.leads.len();
         if len == 0 || comes_before(names, lead, self.lead(0)) {
+            let last = self.pop_if_full();
             self.push_first(lead);
-            return true;
+            return last;
         }
-        if comes_before(names, self.lead(len - 1), lead) {
-            self.leads.push_back_reserved(lead);
-            return true;
+        if self.is_full() || !comes_before(names, self.lead(len - 1), lead) {
+            return Some(lead);
         }
-        false
+        self.leads.push_back_reserved(lead);
+        None
     }
 
     /// A lead comes in at the start. It takes no memory.
@@ -106,5 +109,25 @@ impl LeadRun {
         ensures room { self.new.room ≡ self.old.room }
     {
         self.leads.pop_front()
+    }
+
+    /// Whether there is no room for another lead.
+    fn is_full(&self) -> bool
+        ensures { IsFalse result ↔ (length self.now.leads < self.now.room) }
+    {
+        self.leads.len() >= self.leads.capacity()
+    }
+
+    /// The last lead goes, if there is no room for another.
+    fn pop_if_full(&mut self) -> Option<Lead>
+        requires { 0 < self.old.room }
+        ensures popped { self.old.leads ≡ self.new.leads ++ option_to_list result }
+        ensures freed { length self.new.leads < self.new.room }
+        ensures room { self.new.room ≡ self.old.room }
+    {
+        if !self.is_full() {
+            return None;
+        }
+        self.leads.pop_back()
     }
 }

@@ -54,6 +54,11 @@ impl Waiting {
         true
     }
 
+    /// Makes room in the run for so many names. It is `false` if no memory is left.
+    fn reserve_run(&mut self, leads: usize) -> bool {
+        self.queue.reserve_run(leads).is_ok()
+    }
+
     /// Whether the name is the least, and goes.
     fn takes(&mut self, name: &AgentName) -> bool {
         match self.names.find(name) {
@@ -225,15 +230,40 @@ fn takes_start(alloc: Global, waiting: &mut Waiting, number: u16) -> bool {
     }
 }
 
+/// Puts in the names of 2,500 start agents, beginning with this number, each of which is so many above the one before, from 0
+/// again past 2,499. Whether all go in order.
+fn come_and_go(alloc: Global, waiting: &mut Waiting, first: u16, step: u16) -> bool {
+    for count in 0..2_500_u16 {
+        let number = (usize::from(first) + usize::from(step) * usize::from(count)) % 2_500;
+        if !put_start(alloc, waiting, number as u16) {
+            return false;
+        }
+    }
+    for number in 0..2_500 {
+        if !takes_start(alloc, waiting, number) {
+            return false;
+        }
+    }
+    waiting.is_empty()
+}
+
+/// The first of the numbers and the step to the next: in disorder, rising, falling, and rising from the middle.
+const ORDERS: [(u16, u16); 4] = [(0, 7), (0, 1), (2_499, 2_499), (1_250, 1)];
+
 #[test]
-fn a_thousand_names_come_and_go(rt: HostRuntime) {
+fn names_come_and_go_where_the_run_is_full(rt: HostRuntime) {
     let mut waiting = Waiting::new(rt.alloc());
-    for count in 0..1_000_u16 {
-        let number = (u32::from(count) * 7 % 1_000) as u16;
-        assert!(rt; put_start(rt.alloc(), &mut waiting, number));
+    for (first, step) in &ORDERS {
+        assert!(rt;
+            come_and_go(rt.alloc(), &mut waiting, *first, *step),
+            "from {first} by {step}"
+        );
     }
-    for number in 0..1_000 {
-        assert!(rt; takes_start(rt.alloc(), &mut waiting, number));
-    }
-    assert!(rt; waiting.is_empty());
+}
+
+#[test]
+fn names_come_and_go_where_the_run_has_room(rt: HostRuntime) {
+    let mut waiting = Waiting::new(rt.alloc());
+    assert!(rt; waiting.reserve_run(2_500));
+    assert!(rt; come_and_go(rt.alloc(), &mut waiting, 0, 1));
 }
