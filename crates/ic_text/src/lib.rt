@@ -14,6 +14,7 @@ pub mod read;
 pub mod round_trip;
 mod seen;
 
+pub use counts::counted_wires;
 pub use fault::TextFault;
 pub use grammar::Refusal;
 pub use print::{print_agents, print_net, print_view};
