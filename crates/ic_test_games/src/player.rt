@@ -62,7 +62,7 @@ impl Player {
     }
 
     /// The id of the agent of a name.
-    fn agent(&self, text: &[u8]) -> Result<AgentId, Fail> {
+    pub fn agent(&self, text: &[u8]) -> Result<AgentId, Fail> {
         let name = AgentName::read(self.alloc, text)?;
         match self.bench.agent(&name) {
             Some(id) => Ok(id),

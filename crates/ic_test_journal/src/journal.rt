@@ -2,5 +2,6 @@
 
 mod both_stores;
 mod histories;
+mod ids;
 mod proposals;
 mod reducing;
