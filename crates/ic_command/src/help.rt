@@ -8,6 +8,8 @@ reduce N: fire up to N active pairs
 undo A B: undo the event of A and B, if no other rests on it
 unwind A B: undo the event of A and B and all that rests on it
 undo-all: undo all events
+unstep: undo the event that was fired last
+unstep N: undo up to N events, each time the one that was fired last
 why A B: tell the rank and the direct causes of an event
 causes: list the events that stand, each with its rank and its direct causes
 dependents A B: list what unwind would undo

@@ -2,13 +2,14 @@ ghost use Rattle.std.specs.Prelude.{[], ◌∷◌, IfOk};
 ghost use Rattle.ic_command.specs.Questions.{AreQuestionWords, IsQuestionIn};
 ghost use Rattle.ic_command.specs.Words.{words};
 
-use crate::command::{event_in, is_well_formed, without_return};
+use crate::command::{event_in, is_well_formed, number_in, without_return};
 use crate::words::next_word;
 use ic_name::EventName;
+use ic_name::limits::MAX_LINES;
 use std::alloc::{AllocError, Global};
 
-/// What a line of a session that explains itself may ask beside the requests of any session. But for `Step`, nothing
-/// changes by it.
+/// What a line of a session that explains itself may ask beside the requests of any session. Only `Step` and `Unstep`
+/// change something.
 #[derive(Drop)]
 pub enum Question {
     /// Which line of the printed net is which agent's.
@@ -27,6 +28,8 @@ pub enum Question {
     Help,
     /// To fire the active pair with the least lead.
     Step,
+    /// To undo the event that was fired last, at most so many times.
+    Unstep(u32),
 }
 
 /// The question of a line without its line feed; `None` where it asks none. An error where there is no memory for the
@@ -49,16 +52,22 @@ fn question_in(alloc: Global, body: &[u8]) -> Result<Option<Question>, AllocErro
     let Some((word, behind)) = next_word(body) else {
         return Ok(None);
     };
+    if next_word(behind).is_none() {
+        return Ok(plain_question(word));
+    }
     if word == b"dependents".as_slice() {
         return match event_in(alloc, behind)? {
             Some(event) => Ok(Some(Question::Dependents(event))),
             None => Ok(None),
         };
     }
-    if next_word(behind).is_some() {
-        return Ok(None);
+    if word == b"unstep".as_slice() {
+        return match number_in(alloc, behind, MAX_LINES as u32)? {
+            Some(most) => Ok(Some(Question::Unstep(most))),
+            None => Ok(None),
+        };
     }
-    Ok(plain_question(word))
+    Ok(None)
 }
 
 /// The question that a word asks alone.
@@ -79,6 +88,8 @@ fn plain_question(word: &[u8]) -> Option<Question>
         Some(Question::Step)
     } else if word == b"causes".as_slice() {
         Some(Question::Causes)
+    } else if word == b"unstep".as_slice() {
+        Some(Question::Unstep(1))
     } else {
         None
     }

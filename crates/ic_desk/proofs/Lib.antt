@@ -29,6 +29,9 @@ pub mod NumberedLines
 pub mod RestingEvents
 pub mod CausedEvents
 pub mod HistoryLines
+pub mod FiredBefore
+pub mod LastEvents
+pub mod UnstepReplies
 pub mod UntoldTurns
 pub use Rattle.ic_undo.proofs.Backs
 pub use Rattle.ic_undo.proofs.PairTests

@@ -55,7 +55,7 @@ undoes old new d p x h bench steps = stepped old new (Undo p) _ (call.Undo d.lin
     undone (named_at old d p x h st at) few (subst (λ (c : EventId). MachineStep old.start st (call.Undo c.line) reply.Undone next) (sym h.under) answers))
 
 -- no event stands in the line of an undo that is answered so
-none_standing : {s : Start} {st next : State} {l : ℕ} → MachineStep s st (call.Undo l) reply.NotStanding next → (x : Standing) → IsIn x st.standing → x.line ≢ l
+pub none_standing : {s : Start} {st next : State} {l : ℕ} → MachineStep s st (call.Undo l) reply.NotStanding next → (x : Standing) → IsIn x st.standing → x.line ≢ l
 none_standing (not_standing none) = none
 
 -- so a standing event isn't answered so

@@ -16,4 +16,6 @@ pub mod CommandReplies
 pub mod Ends
 pub mod Turns
 pub mod Longer
+pub mod Unstepped
+pub mod LastFired
 pub use Rattle.ic_undo.specs.Absorbing

@@ -16,6 +16,7 @@ mod reading;
 mod reducing;
 pub mod refused;
 pub mod rules;
+pub mod unstepping;
 pub mod untold;
 mod unwinding;
 mod why;
@@ -34,6 +35,7 @@ pub use reducing::end_text;
 pub use refused::Refused;
 pub use rules::RULES;
 use std::alloc::{AllocError, Global};
+pub use unstepping::unstep;
 pub use untold::text_or_refused;
 
 /// What is written in answer to a command.

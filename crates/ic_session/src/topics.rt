@@ -28,6 +28,9 @@ const ALONE: [&str; 12] = [
 /// The words that have the names of two agents behind them.
 const PAIRED: [&str; 5] = ["fire", "undo", "why", "unwind", "dependents"];
 
+/// The words that have a number behind them.
+const COUNTED: [&str; 2] = ["reduce", "unstep"];
+
 /// The words that have the name of a mark behind them.
 const MARKED: [&str; 2] = ["mark", "back"];
 
@@ -42,7 +45,7 @@ pub(crate) fn topic_of(line: &[u8]) -> Topic {
         Topic::Pair
     } else if is_among(word, &MARKED) {
         Topic::Mark
-    } else if word == b"reduce".as_slice() {
+    } else if is_among(word, &COUNTED) {
         Topic::Number
     } else if word == b"absorb".as_slice() {
         Topic::List

@@ -1,7 +1,7 @@
 use Rattle.std.proofs.Common.{[], ◌∷◌, sym, subst}
 use Rattle.std.specs.Prelude.{codes}
-use Rattle.ic_command.specs.Questions.{AsksQuestion, agents, causes, history, marks, rules, help, step}
-use Rattle.ic_command.specs.declared.question.Question.TheVariants.{Agents, Causes, History, Marks, Rules, Help, Step}
+use Rattle.ic_command.specs.Questions.{AsksQuestion, agents, causes, history, marks, rules, help, step, unstep}
+use Rattle.ic_command.specs.declared.question.Question.TheVariants.{Agents, Causes, History, Marks, Rules, Help, Step, Unstep}
 use Rattle.ic_command.proofs.WordsAsked.{is_text}
 use Rattle.ic_command.proofs.question.plain_question.Goals as goal
 
@@ -39,3 +39,8 @@ pub returns-then-eq-7 : goal.returns-then-eq-7
 returns-then-eq-7 c =
     let word = is_text c.args.word.now c.as_slice-else-eq-6.result.now (codes "causes") c.eq-else-eq-6.result c.eq-else-eq-6.ensures c.as_slice-else-eq-6.ensures c.if-eq-7.true in
     subst (λ w. AsksQuestion (w ∷ []) Causes) (sym word) causes
+
+pub returns-then-eq-8 : goal.returns-then-eq-8
+returns-then-eq-8 c =
+    let word = is_text c.args.word.now c.as_slice-else-eq-7.result.now (codes "unstep") c.eq-else-eq-7.result c.eq-else-eq-7.ensures c.as_slice-else-eq-7.ensures c.if-eq-8.true in
+    subst (λ w. AsksQuestion (w ∷ []) (Unstep 1)) (sym word) unstep

@@ -1,7 +1,7 @@
 use Rattle.std.specs.Prelude.{codes}
 use Rattle.ic_command.specs.Words.{words}
 use Rattle.ic_command.proofs.WordsAsked.{is_text}
-use Rattle.ic_command.proofs.WordsQuestioned.{asks_dependents, asks_no_dependents}
+use Rattle.ic_command.proofs.WordsQuestioned.{asks_dependents, asks_no_dependents, asks_unstep}
 use Rattle.ic_command.proofs.question.question_in.Goals as goal
 
 pub returns-in-Some-2 : goal.returns-in-Some-2
@@ -13,3 +13,8 @@ pub returns-in-None : goal.returns-in-None
 returns-in-None c =
     let word = is_text c.in-Some.word.now c.as_slice.result.now (codes "dependents") c.eq.result c.eq.ensures c.as_slice.ensures c.if-eq.true in
     asks_no_dependents c.in-Some.word.now (words c.in-Some.behind.now) (words c.args.body.now) c.in_ok-event.field-0 c.in-Some.ensures word c.in_ok-event.ensures c.in-None.is
+
+pub returns-in-Some-3 : goal.returns-in-Some-3
+returns-in-Some-3 c =
+    let word = is_text c.in-Some.word.now c.as_slice-2.result.now (codes "unstep") c.eq-2.result c.eq-2.ensures c.as_slice-2.ensures c.if-eq-2.true in
+    asks_unstep c.in-Some.word.now (words c.in-Some.behind.now) (words c.args.body.now) c.in_ok-most.field-0 c.in-Some-3.most c.in-Some.ensures word c.in_ok-most.ensures c.in-Some-3.is
