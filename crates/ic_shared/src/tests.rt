@@ -39,7 +39,6 @@ enum Change {
     OtherReply,
     OtherStart,
     OtherLine,
-    DroppedLine,
 }
 
 /// Makes a change.
@@ -53,9 +52,12 @@ fn change_one<B: Ledger>(
         Change::OtherReply => pass.receipts.last_mut()?.reply = Reply::Undone,
         Change::OtherStart => opening.start = empty_start(alloc, Profile::Straight).ok()?,
         Change::OtherLine => {
-            opening.lines = begun(alloc, &[NOTHING_ELSE])?.lines_so_far().ok()?;
+            let lines = begun(alloc, &[NOTHING_ELSE])?.lines_so_far().ok()?;
+            if lines.len() != opening.lines.len() {
+                return None;
+            }
+            opening.lines = lines;
         }
-        Change::DroppedLine => opening.lines = begun(alloc, &[])?.lines_so_far().ok()?,
     }
     Some(())
 }
@@ -108,7 +110,6 @@ fn a_change_is_found(rt: HostRuntime) -> Result<(), Fail> {
         (Change::OtherReply, 2),
         (Change::OtherStart, 3),
         (Change::OtherLine, 0),
-        (Change::DroppedLine, 3),
     ] {
         assert_eq!(rt; mismatch(&rt, rt.alloc(), change), Some((at, 3)));
     }
