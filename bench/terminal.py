@@ -1,0 +1,86 @@
+#!/usr/bin/env python3
+"""Types a lesson at the built program, as at a terminal: python3 bench/terminal.py [PROGRAM].
+
+The program runs with -i on a pseudo-terminal. Behind each prompt of the lesson stands what is typed there, once the program has
+asked for it. What the terminal then shows has to be the lesson; if it isn't, it is printed, and the status is 1.
+"""
+
+import os
+import pty
+import select
+import subprocess
+import sys
+
+from program import program_named
+
+SECONDS = 60
+PROMPTS = ("net> ", "icbench> ")
+LESSON = """\
+net> D(x,p) = D(y,q); D(x,r) = D(y,s);
+net> ---
+net read: 4 agents, 2 active pairs; help lists the commands
+icbench> fire 0 1
+fired 0 1
+icbench> fire 2 3
+fired 2 3
+icbench> undo 2
+refused 40 command
+line 5: expected after the first word: the names of two different agents, such as 0 and 0.2
+icbench> undo 0 1
+undone 0 1
+icbench> net
+# agents 2 wires 5 rings 0
+D(_0,p) = _1;
+D(_0,q) = _1;
+r = s;
+icbench> unstep
+unstepped 1
+2 3
+icbench> quit
+"""
+
+
+def shown(terminal, prompt=None):
+    """What the terminal shows up to this prompt, or until the program ends or is silent for too long."""
+    text = ""
+    while prompt is None or not text.endswith(prompt):
+        if not select.select([terminal], [], [], SECONDS)[0]:
+            break
+        try:
+            read = os.read(terminal, 4096)
+        except OSError:
+            break
+        if not read:
+            break
+        text += read.decode().replace("\r\n", "\n")
+    return text
+
+
+def typed(program):
+    """What the terminal shows while the lesson is typed, and how the program ends."""
+    terminal, program_side = pty.openpty()
+    running = subprocess.Popen([program, "-i"], stdin=program_side, stdout=program_side, stderr=program_side)
+    os.close(program_side)
+    text = ""
+    for line in LESSON.splitlines():
+        for prompt in PROMPTS:
+            if line.startswith(prompt):
+                text += shown(terminal, prompt)
+                os.write(terminal, line.removeprefix(prompt).encode() + b"\n")
+    text += shown(terminal)
+    os.close(terminal)
+    return text, running.wait(SECONDS)
+
+
+def main():
+    text, status = typed(program_named(sys.argv[1:]))
+    if (text, status) == (LESSON, 0):
+        print("the lesson was shown as it is told")
+        return 0
+    print(text, end="")
+    print(f"status {status}: the lesson was shown otherwise")
+    return 1
+
+
+if __name__ == "__main__":
+    sys.exit(main())
