@@ -15,6 +15,7 @@ use Rattle.ic_theory.specs.Starts.{Start}
 use Rattle.ic_theory.specs.Machine.{State, undone}
 use Rattle.ic_theory.proofs.Machines.{history_length}
 use Rattle.ic_set.specs.Views.{events_of}
+use Rattle.ic_set.proofs.LookedUp.{none_long}
 use Rattle.ic_journal.specs.Views.{BenchView}
 use Rattle.ic_journal.specs.Benches.{fired_in, IsAt}
 use Rattle.ic_journal.specs.Calls.{Stays, Reserves}
@@ -47,11 +48,6 @@ unstep_full v most some stand full = record {
       (st, history_full some (alike-in at.standing (in-map fired_in x.1)) (history_length at.history ∙ full), at)
       );
 }
-
--- a list without elements is empty
-empty_list : {X : Type 0} (xs : List X) → length xs ≡ 0 → xs ≡ []
-empty_list [] e = refl
-empty_list (x ∷ xs) e = absurd (omega (arith, e))
 
 without_elements : {X : Type 0} (xs : List X) → ((x : X) → IsIn x xs → ⊥) → length xs ≡ 0
 without_elements [] h = refl
@@ -98,7 +94,7 @@ module _ (old mid new : BenchView) (most room : ℕ) (ids : List EventId) (left 
           let same = alike-length at.standing in
           let kept = length-map old.events fired_in in
           let fewer = fewer_stand u in
-          none_stands (omega (arith, count, l)) (empty_list next.standing (omega (arith, count, were, same, kept, fewer)))
+          none_stands (omega (arith, count, l)) (none_long next.standing (omega (arith, count, were, same, kept, fewer)))
 
       full : room < most → (room ≡ 0 → ⊥) → StopsAfter most (events_of last.since.order) next
       full l some =
@@ -115,7 +111,7 @@ module _ (old mid new : BenchView) (most room : ℕ) (ids : List EventId) (left 
       let gone = without_elements new.events (λ x i. none_in (did.left.each x i (omega (arith, first)))) in
       let same = alike-length at.standing in
       let kept = length-map new.events fired_in in
-      none_stands (omega (arith, count, few, less)) (empty_list next.standing (omega (arith, gone, same, kept)))
+      none_stands (omega (arith, count, few, less)) (none_long next.standing (omega (arith, gone, same, kept)))
 
   -- and they are told
   pub unsteps : (text : List ℕ) → text ≡ unstepped_text (events_of last.since.order) → UnstepsBench old most text new
