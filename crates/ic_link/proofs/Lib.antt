@@ -1,3 +1,4 @@
+pub mod FarSpots
 pub mod SpotLinks
 pub mod Walks
 pub mod Lawful

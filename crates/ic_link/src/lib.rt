@@ -4,10 +4,12 @@
 pub mod ends;
 pub mod laws;
 mod makers;
+pub mod principals;
 pub mod rows;
 pub mod store;
 
 pub use ends::{ends_at, is_of, one_if_same, other_end};
 pub use laws::{has_room, there_and_back};
+pub use principals::{Principals, principals_of};
 pub use rows::LinkRows;
 pub use store::{Far, LinkStore};
