@@ -1,5 +1,5 @@
 -- The steps of an admission, by what its calls say.
-use Rattle.std.proofs.Common.{◌≡◌, ◌≢◌, ℕ, ◌+◌, ◌<◌, ◌≤◌, List, length, refl, sym, arith, ◌∙◌, subst}
+use Rattle.std.proofs.Common.{◌≡◌, ◌≢◌, ℕ, ◌+◌, ◌<◌, ◌≤◌, List, Option, length, refl, sym, arith, ◌∙◌, subst}
 use Rattle.std.proofs.lemmas.List.{length-map}
 use Rattle.ic_name.specs.Names.{Name}
 use Rattle.ic_name.specs.Events.{Event}
@@ -11,8 +11,9 @@ use Rattle.ic_name.specs.declared.rules.Profile.{Profile}
 use Rattle.ic_name.specs.declared.rules.RuleEnd.{RuleEnd}
 use Rattle.ic_name.specs.declared.limits.TheConstants.{MAX_LINES}
 use Rattle.ic_path.specs.Orders.{IsIn, Alike}
-use Rattle.ic_path.proofs.Alikes.{alike_self, alike_back}
+use Rattle.ic_path.proofs.Alikes.{alike_self, alike_back, alike-map}
 use Rattle.ic_link.specs.Links.{IsLawful}
+use Rattle.ic_link.specs.declared.principals.Principals.{Principals}
 use Rattle.ic_theory.specs.Born.{born_agents}
 use Rattle.ic_theory.specs.Machine.{IsDeep}
 use Rattle.ic_theory.specs.Rules.{born_ends}
@@ -21,16 +22,18 @@ use Rattle.ic_roster.specs.Rosters.{Member, Stander, HaveOwnNames, HaveOwnLines}
 use Rattle.ic_set.specs.declared.pairs.ActivePair.{ActivePair}
 use Rattle.ic_set.specs.Views.{SetView, standing, AreChildren}
 use Rattle.ic_set.specs.Sets.{IsStandingSet, IsKept}
-use Rattle.ic_set.specs.Pairs.{IsPairOf}
+use Rattle.ic_set.specs.Pairs.{IsPairOf, AreActiveJoins, Awakes}
 use Rattle.ic_set.specs.Changes.{Admits, IsSame}
 use Rattle.ic_set.specs.Entering.{CanEnter, Enters}
-use Rattle.ic_set.specs.Joining.{made_links}
+use Rattle.ic_set.specs.Joining.{made_links, AreJoins}
 use Rattle.ic_set.specs.Admission.{AreCausesOf, IsRankOver, CanPutIn, PutsIn}
 use Rattle.ic_set.proofs.Namings.{own_lines_alike}
 use Rattle.ic_set.proofs.KeptOrders.{kept_alike}
 use Rattle.ic_set.proofs.RankBounds.{rank_below_length}
 use Rattle.ic_set.proofs.NewEvents.{sound_more, new_event, no_links, causes_kept, causes_once}
 use Rattle.ic_set.proofs.Children.{new_children}
+use Rattle.ic_set.proofs.GrownSets.{Grows}
+use Rattle.ic_set.proofs.JoinedPairs.{joins_awake}
 use Rattle.ic_set.proofs.RuleDigits.{rule_few}
 use Rattle.ic_set.proofs.Admitted.{digits, lawful_more, kept_more}
 
@@ -114,3 +117,20 @@ module _ (v w : SetView) (seen : v ≡ w) (ls : List Link) (k : IsKept v ls) (e 
           agents = enters.alike;
           events = puts.events;
         })
+
+        -- the second set has the event more
+        grown : Grows v (record { start = v.start; agents = ms; events = ss }) e born
+        grown = record {
+          start = refl;
+          events = alike-map (λ (x : Stander). x.event) (alike_back puts.events);
+          children = enters.entered;
+          are = are;
+          agents = alike_back enters.alike;
+        }
+
+        -- and the active pairs between agents that its links joined are those that it made active
+        pub put_awakes : ¬ (IsDeep e) → (joins : List (Option Principals)) → AreJoins ls (made_links d p born 0 (born_ends v.start.profile e.lead_kind e.other_kind)) joins
+            → (pairs : List (Option ActivePair)) → AreActiveJoins (record { start = v.start; agents = ms; events = ss }) joins pairs → Awakes w (record { start = v.start; agents = ms; events = ss }) pairs
+        put_awakes shallow joins its pairs act =
+            subst (λ (u : SetView). Awakes u (record { start = v.start; agents = ms; events = ss }) pairs) seen
+            (joins_awake v (record { start = v.start; agents = ms; events = ss }) ls ls' k (put_keeps shallow) e born grown p pair d puts.links joins its pairs act)

@@ -19,13 +19,11 @@ use Rattle.ic_path.proofs.InLists.{in_behind, in-map, map_cases}
 use Rattle.ic_roster.specs.Rosters.{Member}
 use Rattle.ic_set.specs.declared.pairs.ActivePair.{ActivePair}
 use Rattle.ic_set.specs.Pairs.{IsPairOf}
-use Rattle.ic_set.specs.Queues.{MayLead}
 use Rattle.ic_set.specs.Sets.{IsStandingSet}
 use Rattle.ic_set.specs.Views.{SetView, standing, agent_of, AreChildren}
 use Rattle.ic_set.proofs.ActivePairs.{one_name, pair_of}
-use Rattle.ic_set.proofs.BornPairs.{IsNamedIn, newly_born}
 use Rattle.ic_set.proofs.Namings.{own_names_alike}
-use Rattle.ic_set.proofs.NewlyActive.{stays_active, newly_active}
+use Rattle.ic_set.proofs.NewlyActive.{stays_active}
 
 -- the second set has an event more, and its children under these ids
 pub record Grows (v w : SetView) (e : Event) (born : List AgentId) : Type 0 where
@@ -72,32 +70,11 @@ module _ (v w : SetView) (set : IsStandingSet v) (set' : IsStandingSet w) (e : E
       let same : r.0 ≡ q = λ i. record { lead = lead i; other = other i } in
       subst (IsPairOf v f) same r.1
 
-  -- a pair of the second that isn't one of the first is led by a child or next to the event's agents
-  pub newly : (f : Event) (q : ActivePair) → IsPairOf w f q → IsPairOf v f q ⊎ MayLead v e f.lead
-  newly f q h = elim (newly_active v.start set.proper e (standing w) (standing v) set.sound event_active g.events f (over f h.active)) [
-    | inl a ↦ inl (pair_down f q h a)
-    | inr n ↦ inr (elim n [ inl i ↦ inl (_, i) | inr near ↦ inr near ])
-  ]
-
-  -- an agent of the second that has a child's name has its id
-  pub child_id : (n : Name) → IsNamedIn (born_agents e) n → (m : Member) → IsIn m w.agents → m.name ≡ n → IsIn m.id born
-  child_id n (k, i) m there named =
-      let c = map_cases agent_of g.children (subst (IsIn (n, k)) (sym g.are.named) i) in
-      let same = one_name w set' c.0 m (alike-in (alike_back g.agents) (_, pick_before v.agents c.1.1)) there (ap (λ (x : Name × Kind). x.0) c.2 ∙ sym named) in
-      subst (λ (x : Member). IsIn x.id born) same (subst (IsIn c.0.id) g.are.under (in-map (λ (x : Member). x.id) c.1))
-
   -- no agent of the first has the id of a child
   pub no_child : (m : Member) → IsIn m v.agents → IsIn m.id born → ⊥
   no_child m there i =
       let c = map_cases (λ (x : Member). x.id) g.children (subst (IsIn m.id) (sym g.are.under) i) in
       (own_names_alike g.agents set'.own_names).slots c.0 m _ (pick_before v.agents c.1.1) (in_behind c.1.0 there) (ap (λ (a : AgentId). a.slot) (sym c.2))
-
-  -- where the event makes children, a pair of the second that isn't one of the first has one
-  pub newly_with_child : born_kinds e.lead_kind e.other_kind ≢ [] → (f : Event) (q : ActivePair) → IsPairOf w f q → IsPairOf v f q ⊎ (IsIn q.lead born ⊎ IsIn q.other born)
-  newly_with_child some f q h = elim (newly_born v.start set.proper e (standing w) (standing v) set.sound event_active g.events some f (over f h.active)) [
-    | inl a ↦ inl (pair_down f q h a)
-    | inr n ↦ inr (elim n [ inl i ↦ inl (child_id f.lead i _ h.lead refl) | inr i ↦ inr (child_id f.other i _ h.other refl) ])
-  ]
 
   module _ (p : ActivePair) (pair : IsPairOf v e p) where
     -- the other pairs of the first are pairs of the second

@@ -1,3 +1,9 @@
+pub mod JoinedInTurn
+pub mod JoinsRead
+pub mod JoinedPairs
+pub mod FirstJoins
+pub mod BornPorts
+pub mod RuleEnds
 pub mod Namings
 pub mod Parts
 pub mod SmallerSets
@@ -27,7 +33,6 @@ pub mod KeptOrders
 pub mod RuleDigits
 pub mod MadeLinks
 pub mod Children
-pub mod FewChildren
 pub mod PutIn
 pub mod PairPaths
 pub mod CauseRanks
@@ -42,10 +47,7 @@ pub mod ActivePairs
 pub mod EventPairs
 pub mod FarTouched
 pub mod NewlyActive
-pub mod BornPairs
 pub mod LedPairs
-pub mod ReachedAgents
-pub mod NoneBeside
 pub mod GrownSets
 pub mod LookedUp
 pub mod QueuedLeads

@@ -4,12 +4,13 @@ use Rattle.std.specs.Prelude.{slice_get, slice_index_or, unwrap_or}
 use Rattle.ic_name.specs.Events.{Event}
 use Rattle.ic_name.specs.declared.ids.AgentId.{AgentId}
 use Rattle.ic_name.specs.declared.kinds.Kind.{Kind}
+use Rattle.ic_link.specs.declared.principals.Principals.{Principals}
 use Rattle.ic_names.specs.Tables.{name_at}
 use Rattle.ic_path.specs.Orders.{IsIn}
 use Rattle.ic_path.proofs.Picks.{none_in, in_first, in_more, in-cons_cases}
 use Rattle.ic_roster.specs.Rosters.{Member, Stander, IsNewName}
 use Rattle.ic_set.specs.declared.pairs.ActivePair.{ActivePair}
-use Rattle.ic_set.specs.Pairs.{AreJoined, IsPairOf, IsActivePair, ArePairsOf, AreLedBy}
+use Rattle.ic_set.specs.Pairs.{AreJoined, IsPairOf, IsActivePair, IsBetween, AreActiveJoins}
 use Rattle.ic_set.specs.Queues.{Leads}
 use Rattle.ic_set.specs.Sets.{IsStandingSet}
 use Rattle.ic_set.specs.Views.{SetView, NamedView}
@@ -27,20 +28,6 @@ none_long (x ∷ xs) e = absurd (omega (arith, e))
 -- what is at a place is one
 pub one_at : {X : Type 0} {o : Option X} {a b : X} → o ≡ Some a → o ≡ Some b → a ≡ b
 one_at {b = b} e f = ap (λ o. unwrap_or o b) (sym e ∙ f)
-
--- a member of a list has a place
-place_of : {X : Type 0} (xs : List X) {x : X} → IsIn x xs → (i : ℕ) × (i < length xs) × (slice_get xs i ≡ Some x)
-place_of [] i = absurd (none_in i)
-place_of (y ∷ xs) i = elim (in-cons_cases i) [
-  | inl e ↦ (0, omega arith, ap Some (sym e))
-  | inr j ↦ (let r = place_of xs j in (suc r.0, (let h = r.1 in omega arith), r.2))
-]
-
--- what is at a place is a member
-at_place : {X : Type 0} (xs : List X) (i : ℕ) {x : X} → slice_get xs i ≡ Some x → IsIn x xs
-at_place [] i e = cc
-at_place (y ∷ xs) zero {x} e = subst (λ z. IsIn z (y ∷ xs)) (one_at {o = Some y} refl e) (in_first y xs)
-at_place (y ∷ xs) (suc i) e = in_more y (at_place xs i e)
 
 -- of pairs that are active, the one at a place is
 pub active_at : (v : SetView) (pairs : List (Option ActivePair)) (i : ℕ) (d : Option ActivePair) → i < length pairs → ((p : ActivePair) → IsIn (Some p) pairs → IsActivePair v p) → IfSome (slice_index_or pairs i d) (λ p. IsActivePair v p)
@@ -84,20 +71,25 @@ LedFound v agent o = IfSome o (λ p. (Some p.lead ≡ agent) × IsActivePair v p
 abbrev LedAbsent : SetView → Option AgentId → Option ActivePair → Type 0
 LedAbsent v agent o = IfNone o ((e : Event) (p : ActivePair) → Some p.lead ≡ agent → IsPairOf v e p → ⊥)
 
--- the agent at a place is one of the pair's
-abbrev IsAt : List AgentId → ℕ → ActivePair → Type 0
-IsAt agents i p = (slice_get agents i ≡ Some p.lead) ⊎ (slice_get agents i ≡ Some p.other)
+-- what an answer says of the pair between the agents of a join
+abbrev BetweenFound : SetView → Option Principals → Option ActivePair → Type 0
+BetweenFound v j o = IfSome o (λ p. IsActivePair v p × IsBetween j p)
 
--- what an answer says of the pair of the agent at a place
-abbrev AtFound : SetView → List AgentId → ℕ → Option ActivePair → Type 0
-AtFound v agents i o = IfSome o (λ p. IsAt agents i p × IsActivePair v p)
+abbrev BetweenAbsent : SetView → Option Principals → Option ActivePair → Type 0
+BetweenAbsent v j o = IfNone o ((e : Event) (p : ActivePair) → IsPairOf v e p → IsBetween j p → ⊥)
 
-abbrev AtAbsent : SetView → List AgentId → ℕ → Option ActivePair → Type 0
-AtAbsent v agents i o = IfNone o ((e : Event) (p : ActivePair) → IsAt agents i p → IsPairOf v e p → ⊥)
+-- the agents that a join has are the pair's
+pub data HasBoth (j : Principals) (p : ActivePair) : Type 0 where
+  forth : p.lead ≡ j.one → p.other ≡ j.other → HasBoth j p
+  back : p.other ≡ j.one → p.lead ≡ j.other → HasBoth j p
+
+pub has_both : (o : Option Principals) (j : Principals) (p : ActivePair) → o ≡ Some j → IsBetween o p → HasBoth j p
+has_both o j p is (inl e) = let same = one_at {o = o} e is in forth (ap (λ (x : Principals). x.one) same) (ap (λ (x : Principals). x.other) same)
+has_both o j p is (inr e) = let same = one_at {o = o} e is in back (ap (λ (x : Principals). x.one) same) (ap (λ (x : Principals). x.other) same)
 
 module _ (v : SetView) (set : IsStandingSet v) where
   -- pairs of one agent are one
-  one_pair_of : (e f : Event) (p q : ActivePair) → IsPairOf v e p → IsPairOf v f q → (a : AgentId) → IsOf p a → IsOf q a → p ≡ q
+  pub one_pair_of : (e f : Event) (p q : ActivePair) → IsPairOf v e p → IsPairOf v f q → (a : AgentId) → IsOf p a → IsOf q a → p ≡ q
   one_pair_of e f p q h k a (inl s) (inl t) = (one_pair v set e f p q h k (s ∙ sym t)).1
   one_pair_of e f p q h k a (inl s) (inr t) = absurd (second_leads_none v set f e q p k h (t ∙ sym s))
   one_pair_of e f p q h k a (inr s) (inl t) = absurd (second_leads_none v set e f p q h k (s ∙ sym t))
@@ -111,90 +103,64 @@ module _ (v : SetView) (set : IsStandingSet v) where
   led_each agent None found absent e p h same = absurd (absent e p same h)
   led_each agent (Some q) found absent e p h same = ap Some (one_pair v set e found.1.0 p q h found.1.1 (one_at {o = agent} (sym same) (sym found.0))).1
 
-  -- and no other
-  led_only : (agent : Option AgentId) (o : Option ActivePair) → LedFound v agent o → (p : ActivePair) → Some p ≡ o → IsActivePair v p × (Some p.lead ≡ agent)
-  led_only agent o found p same = let f : LedFound v agent (Some p) = subst (λ x. LedFound v agent x) (sym same) found in (f.1, f.0)
+  -- an active pair is the one that has an agent of it, and its partner
+  pub one_between : (e f : Event) (p q : ActivePair) → IsPairOf v e p → IsPairOf v f q → (j : Principals) → IsOf p j.one → HasBoth j q → HasBoth j p
+  one_between e f p q h k j of (forth a b) = subst (HasBoth j) (one_pair_of f e q p k h j.one (inl a) of) (forth a b)
+  one_between e f p q h k j of (back a b) = subst (HasBoth j) (one_pair_of f e q p k h j.one (inr a) of) (back a b)
 
-  -- the pair of the agent at a place is answered
-  at_each : (agents : List AgentId) (i : ℕ) (o : Option ActivePair) → AtFound v agents i o → AtAbsent v agents i o → (e : Event) (p : ActivePair) → IsPairOf v e p → IsAt agents i p → Some p ≡ o
-  at_each agents i None found absent e p h at = absurd (absent e p at h)
-  at_each agents i (Some q) found absent e p h at =
-      let a = its p at in
-      let b = its q found.0 in
-      ap Some (one_pair_of e found.1.0 p q h found.1.1 a.0 a.2 (subst (IsOf q) (one_at b.1 a.1) b.2))
+  -- the pair between the agents of a join is answered
+  between_each : (j : Option Principals) (o : Option ActivePair) → BetweenFound v j o → BetweenAbsent v j o → (e : Event) (p : ActivePair) → IsPairOf v e p → IsBetween j p → Some p ≡ o
+  between_each j None found absent e p h b = absurd (absent e p h b)
+  between_each j (Some q) found absent e p h b = ap Some (by b found.1)
     where
-      its : (p : ActivePair) → IsAt agents i p → (a : AgentId) × (slice_get agents i ≡ Some a) × IsOf p a
-      its p (inl e) = (p.lead, e, inl refl)
-      its p (inr e) = (p.other, e, inr refl)
+      -- pairs between the agents of one join are one
+      by : IsBetween j p → IsBetween j q → p ≡ q
+      by (inl s) (inl t) = let same = one_at {o = j} s t in λ i. record { lead = (same i).one; other = (same i).other }
+      by (inl s) (inr t) = let same = one_at {o = j} s t in one_pair_of e found.0.0 p q h found.0.1 p.lead (inl refl) (inr (sym (ap (λ (x : Principals). x.one) same)))
+      by (inr s) (inl t) = let same = one_at {o = j} s t in one_pair_of e found.0.0 p q h found.0.1 p.other (inr refl) (inl (sym (ap (λ (x : Principals). x.one) same)))
+      by (inr s) (inr t) = let same = one_at {o = j} s t in λ i. record { lead = (same i).other; other = (same i).one }
 
   -- and no other
-  at_only : (agents : List AgentId) (i : ℕ) (o : Option ActivePair) → AtFound v agents i o → (p : ActivePair) → Some p ≡ o → IsActivePair v p × (IsIn p.lead agents ⊎ IsIn p.other agents)
-  at_only agents i o found p same =
-      let f : AtFound v agents i (Some p) = subst (λ x. AtFound v agents i x) (sym same) found in
-      (f.1, elim f.0 [ inl e ↦ inl (at_place agents i e) | inr e ↦ inr (at_place agents i e) ])
+  between_only : (j : Option Principals) (o : Option ActivePair) → BetweenFound v j o → (p : ActivePair) → Some p ≡ o → IsActivePair v p × IsBetween j p
+  between_only j o found p same = subst (λ x. BetweenFound v j x) (sym same) found
 
   module _ (a b c d : Option ActivePair) where
-    -- the answers for four agents are the pairs that they lead
-    led_four : (w x y z : Option AgentId) → LedFound v w a → LedAbsent v w a → LedFound v x b → LedAbsent v x b → LedFound v y c → LedAbsent v y c → LedFound v z d → LedAbsent v z d
-        → AreLedBy v (w ∷ x ∷ y ∷ z ∷ []) (a ∷ b ∷ c ∷ d ∷ [])
-    led_four w x y z wf wa xf xa yf ya zf za = record {
-      each = λ e p h i. elim (one_of_four i) [
-        | inl q ↦ first_of a b c d (Some p) (led_each w a wf wa e p h q)
+    -- the answers for four joins are the active pairs between their agents
+    joins_four : (w x y z : Option Principals) → BetweenFound v w a → BetweenAbsent v w a → BetweenFound v x b → BetweenAbsent v x b → BetweenFound v y c → BetweenAbsent v y c → BetweenFound v z d
+        → BetweenAbsent v z d → AreActiveJoins v (w ∷ x ∷ y ∷ z ∷ []) (a ∷ b ∷ c ∷ d ∷ [])
+    joins_four w x y z wf wa xf xa yf ya zf za = record {
+      each = λ e p j h i t. elim (one_of_four i) [
+        | inl q ↦ first_of a b c d (Some p) (between_each w a wf wa e p h (subst (λ o. IsBetween o p) q t))
         | inr r ↦ (elim r [
-          | inl q ↦ second_of a b c d (Some p) (led_each x b xf xa e p h q)
+          | inl q ↦ second_of a b c d (Some p) (between_each x b xf xa e p h (subst (λ o. IsBetween o p) q t))
           | inr s ↦ (elim s [
-            | inl q ↦ third_of a b c d (Some p) (led_each y c yf ya e p h q)
-            | inr q ↦ fourth_of a b c d (Some p) (led_each z d zf za e p h q)
+            | inl q ↦ third_of a b c d (Some p) (between_each y c yf ya e p h (subst (λ o. IsBetween o p) q t))
+            | inr q ↦ fourth_of a b c d (Some p) (between_each z d zf za e p h (subst (λ o. IsBetween o p) q t))
           ])
         ])
       ];
       only = λ p i. elim (one_of_four i) [
-        | inl q ↦ (let r = led_only w a wf p q in (r.0, first_of w x y z (Some p.lead) r.1))
+        | inl q ↦ (let r = between_only w a wf p q in (r.0, (w, first_of w x y z w refl, r.1)))
         | inr m ↦ (elim m [
-          | inl q ↦ (let r = led_only x b xf p q in (r.0, second_of w x y z (Some p.lead) r.1))
+          | inl q ↦ (let r = between_only x b xf p q in (r.0, (x, second_of w x y z x refl, r.1)))
           | inr n ↦ (elim n [
-            | inl q ↦ (let r = led_only y c yf p q in (r.0, third_of w x y z (Some p.lead) r.1))
-            | inr q ↦ (let r = led_only z d zf p q in (r.0, fourth_of w x y z (Some p.lead) r.1))
+            | inl q ↦ (let r = between_only y c yf p q in (r.0, (y, third_of w x y z y refl, r.1)))
+            | inr q ↦ (let r = between_only z d zf p q in (r.0, (z, fourth_of w x y z z refl, r.1)))
           ])
         ])
       ];
     }
 
-    -- so are they by the agents' places
-    pub led_by_place : (agents : List (Option AgentId)) (n : Option AgentId) → length agents ≡ 4 → LedFound v (slice_index_or agents 0 n) a → LedAbsent v (slice_index_or agents 0 n) a
-        → LedFound v (slice_index_or agents 1 n) b → LedAbsent v (slice_index_or agents 1 n) b → LedFound v (slice_index_or agents 2 n) c → LedAbsent v (slice_index_or agents 2 n) c
-        → LedFound v (slice_index_or agents 3 n) d → LedAbsent v (slice_index_or agents 3 n) d → AreLedBy v agents (a ∷ b ∷ c ∷ d ∷ [])
-    led_by_place [] n long wf wa xf xa yf ya zf za = absurd (omega (arith, long))
-    led_by_place (w ∷ []) n long wf wa xf xa yf ya zf za = absurd (omega (arith, long))
-    led_by_place (w ∷ x ∷ []) n long wf wa xf xa yf ya zf za = absurd (omega (arith, long))
-    led_by_place (w ∷ x ∷ y ∷ []) n long wf wa xf xa yf ya zf za = absurd (omega (arith, long))
-    led_by_place (w ∷ x ∷ y ∷ z ∷ []) n long wf wa xf xa yf ya zf za = led_four w x y z wf wa xf xa yf ya zf za
-    led_by_place (w ∷ x ∷ y ∷ z ∷ u ∷ us) n long wf wa xf xa yf ya zf za = absurd (omega (arith, long))
-
-    -- the answers for the agents of a list of four at most are their pairs
-    pub pairs_by_place : (agents : List AgentId) → length agents ≤ 4 → AtFound v agents 0 a → AtAbsent v agents 0 a → AtFound v agents 1 b → AtAbsent v agents 1 b
-        → AtFound v agents 2 c → AtAbsent v agents 2 c → AtFound v agents 3 d → AtAbsent v agents 3 d → ArePairsOf v agents (a ∷ b ∷ c ∷ d ∷ [])
-    pairs_by_place agents few wf wa xf xa yf ya zf za = record {
-      each = λ e p h i. (let r = place i in by e p h r.0 (let below = r.1 in omega arith) r.2);
-      only = λ p i. elim (one_of_four i) [
-        | inl q ↦ at_only agents 0 a wf p q
-        | inr m ↦ (elim m [
-          | inl q ↦ at_only agents 1 b xf p q
-          | inr n ↦ (elim n [ inl q ↦ at_only agents 2 c yf p q | inr q ↦ at_only agents 3 d zf p q ])
-        ])
-      ];
-    }
-      where
-        place : {p : ActivePair} → IsIn p.lead agents ⊎ IsIn p.other agents → (i : ℕ) × (i < length agents) × IsAt agents i p
-        place (inl i) = let r = place_of agents i in (r.0, r.1, inl r.2)
-        place (inr i) = let r = place_of agents i in (r.0, r.1, inr r.2)
-
-        by : (e : Event) (p : ActivePair) → IsPairOf v e p → (i : ℕ) → i < 4 → IsAt agents i p → IsIn (Some p) (a ∷ b ∷ c ∷ d ∷ [])
-        by e p h zero below at = first_of a b c d (Some p) (at_each agents 0 a wf wa e p h at)
-        by e p h (suc zero) below at = second_of a b c d (Some p) (at_each agents 1 b xf xa e p h at)
-        by e p h (suc (suc zero)) below at = third_of a b c d (Some p) (at_each agents 2 c yf ya e p h at)
-        by e p h (suc (suc (suc zero))) below at = fourth_of a b c d (Some p) (at_each agents 3 d zf za e p h at)
-        by e p h (suc (suc (suc (suc i)))) below at = absurd (omega (arith, below))
+    -- so are they by the joins' places
+    pub joins_by_place : (joins : List (Option Principals)) (n : Option Principals) → length joins ≡ 4 → BetweenFound v (slice_index_or joins 0 n) a → BetweenAbsent v (slice_index_or joins 0 n) a
+        → BetweenFound v (slice_index_or joins 1 n) b → BetweenAbsent v (slice_index_or joins 1 n) b → BetweenFound v (slice_index_or joins 2 n) c → BetweenAbsent v (slice_index_or joins 2 n) c
+        → BetweenFound v (slice_index_or joins 3 n) d → BetweenAbsent v (slice_index_or joins 3 n) d → AreActiveJoins v joins (a ∷ b ∷ c ∷ d ∷ [])
+    joins_by_place [] n long wf wa xf xa yf ya zf za = absurd (omega (arith, long))
+    joins_by_place (w ∷ []) n long wf wa xf xa yf ya zf za = absurd (omega (arith, long))
+    joins_by_place (w ∷ x ∷ []) n long wf wa xf xa yf ya zf za = absurd (omega (arith, long))
+    joins_by_place (w ∷ x ∷ y ∷ []) n long wf wa xf xa yf ya zf za = absurd (omega (arith, long))
+    joins_by_place (w ∷ x ∷ y ∷ z ∷ []) n long wf wa xf xa yf ya zf za = joins_four w x y z wf wa xf xa yf ya zf za
+    joins_by_place (w ∷ x ∷ y ∷ z ∷ u ∷ us) n long wf wa xf xa yf ya zf za = absurd (omega (arith, long))
 
 -- a name that leads a standing event leads no active pair
 pub lead_leads_none : (v : NamedView) → IsStandingSet v.set → (n : ℕ) → (x : Stander) → IsIn x v.set.events → x.event.lead ≡ name_at v.names n → Leads v n → ⊥

@@ -25,7 +25,7 @@ other_spot n p q none has = by (same_spot p q) refl
     by false e = e
 
 -- no held link ends at a spot that isn't held
-none_unheld : (n : Naming) (ls : List Link) (p : Spot) → AreHeld n ls → has_spot n p ≡ false → degree shape ls p ≡ 0
+pub none_unheld : (n : Naming) (ls : List Link) (p : Spot) → AreHeld n ls → has_spot n p ≡ false → degree shape ls p ≡ 0
 none_unheld n [] p h none = refl
 none_unheld n (l ∷ ls) p h none =
     let i = h l (in_first l ls) in

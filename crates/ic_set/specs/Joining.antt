@@ -1,5 +1,5 @@
--- Links by ids.
-use Rattle.std.specs.Prelude.{◌<◌, ℕ, ◌+◌, List, [], ◌∷◌, length, slice_index_or}
+-- Links by ids, and what they join as they are put in.
+use Rattle.std.specs.Prelude.{◌≡◌, ◌<◌, ℕ, ◌+◌, List, [], ◌∷◌, ◌++◌, length, slice_index_or, Option, Some}
 use Rattle.ic_name.specs.declared.ids.AgentId.{AgentId}
 use Rattle.ic_name.specs.declared.ids.EventId.{EventId}
 use Rattle.ic_name.specs.declared.ids.Link.{Link}
@@ -9,6 +9,8 @@ use Rattle.ic_name.specs.declared.ids.Spot.TheVariants as spot
 use Rattle.ic_name.specs.declared.rules.RuleEnd.{RuleEnd}
 use Rattle.ic_name.specs.declared.rules.RuleEnd.TheVariants.{Child, Lead, Other}
 use Rattle.ic_path.specs.Orders.{IsIn}
+use Rattle.ic_link.specs.Links.{JoinsPrincipals}
+use Rattle.ic_link.specs.declared.principals.Principals.{Principals}
 use Rattle.ic_set.specs.declared.pairs.ActivePair.{ActivePair}
 
 -- no agent
@@ -51,3 +53,8 @@ HasNumber ids (spot.Name j) = Unit {0}
 
 abbrev pub HaveNumbers : List AgentId → List Link → Type 0
 HaveNumbers ids links = (l : Link) → IsIn l links → HasNumber ids l.a × HasNumber ids l.b
+
+-- What the first four of some links join, as they are put in one after the other: each pair of principal ports, and no other.
+pub record AreJoins (old made : List Link) (joins : List (Option Principals)) : Type 0 where
+  pub each : (front back : List Link) (l : Link) (j : Principals) → made ≡ front ++ l ∷ back → length front < 4 → JoinsPrincipals (front ++ old) l (Some j) → IsIn (Some j) joins
+  pub only : (j : Principals) → IsIn (Some j) joins → (front : List Link) × (back : List Link) × (l : Link) × (made ≡ front ++ l ∷ back) × JoinsPrincipals (front ++ old) l (Some j)

@@ -8,6 +8,7 @@ use Rattle.ic_name.specs.declared.ids.AgentId.{AgentId}
 use Rattle.ic_name.specs.declared.ports.Port.TheVariants.{Of}
 use Rattle.ic_path.specs.Orders.{IsIn}
 use Rattle.ic_path.specs.Rings.{HasEachOnce}
+use Rattle.ic_link.specs.declared.principals.Principals.{Principals}
 use Rattle.ic_theory.specs.Active.{IsActive}
 use Rattle.ic_theory.specs.Wires.{IsWire}
 use Rattle.ic_roster.specs.Rosters.{Member}
@@ -47,15 +48,14 @@ pub record AreActivePairs (v : SetView) (pairs : List ActivePair) : Type 0 where
   pub by_lead : IsStrictlySortedBy name_cmp (map (λ (x : Event × ActivePair). x.0.lead) order)
   pub named : map (λ (x : Event × ActivePair). x.1) order ≡ pairs
 
--- the pairs are the active ones of which one of these agents is
-pub record ArePairsOf (v : SetView) (agents : List AgentId) (pairs : List (Option ActivePair)) : Type 0 where
-  pub each : (e : Event) (p : ActivePair) → IsPairOf v e p → IsIn p.lead agents ⊎ IsIn p.other agents → IsIn (Some p) pairs
-  pub only : (p : ActivePair) → IsIn (Some p) pairs → IsActivePair v p × (IsIn p.lead agents ⊎ IsIn p.other agents)
+-- the agents are those of the pair, either way round
+abbrev pub IsBetween : Option Principals → ActivePair → Type 0
+IsBetween j p = (j ≡ Some (record { one = p.lead; other = p.other })) ⊎ (j ≡ Some (record { one = p.other; other = p.lead }))
 
--- the pairs are the active ones that one of these agents leads
-pub record AreLedBy (v : SetView) (agents : List (Option AgentId)) (pairs : List (Option ActivePair)) : Type 0 where
-  pub each : (e : Event) (p : ActivePair) → IsPairOf v e p → IsIn (Some p.lead) agents → IsIn (Some p) pairs
-  pub only : (p : ActivePair) → IsIn (Some p) pairs → IsActivePair v p × IsIn (Some p.lead) agents
+-- the pairs are the active ones between the agents of one of these joins
+pub record AreActiveJoins (v : SetView) (joins : List (Option Principals)) (pairs : List (Option ActivePair)) : Type 0 where
+  pub each : (e : Event) (p : ActivePair) (j : Option Principals) → IsPairOf v e p → IsIn j joins → IsBetween j p → IsIn (Some p) pairs
+  pub only : (p : ActivePair) → IsIn (Some p) pairs → IsActivePair v p × ((j : Option Principals) × IsIn j joins × IsBetween j p)
 
 -- the pairs are those that are active in the second set and weren't in the first: each of them, and no other
 pub record Awakes (old new : SetView) (pairs : List (Option ActivePair)) : Type 0 where

@@ -13,16 +13,16 @@ ghost use Rattle.ic_roster.specs.Rosters.{Stander, event_in, IsNamed};
 ghost use Rattle.ic_set.specs.Admission.{AreCausesOf, IsRankOver, CanPutIn, PutsIn, LeavesAll};
 ghost use Rattle.ic_set.specs.Changes.{Admits, IsSame};
 ghost use Rattle.ic_set.specs.Entering.{agents_in, AreNamed, GrowsBy};
-ghost use Rattle.ic_set.specs.Joining.{made_links, HaveDigits};
-ghost use Rattle.ic_set.specs.Pairs.{IsPairOf, IsActivePair};
+ghost use Rattle.ic_set.specs.Joining.{made_links, AreJoins, HaveDigits};
+ghost use Rattle.ic_set.specs.Pairs.{IsPairOf, IsActivePair, Awakes};
 ghost use Rattle.ic_set.specs.Removal.{Stands};
 
 use crate::bare::BareSet;
 use crate::entering::{NewAgent, children_of, enter_all, remove_all};
 use crate::joining::add_made;
-use crate::pairs::ActivePair;
+use crate::pairs::{ActivePair, Fired};
 use ic_cause::{direct_causes, rank_with};
-use ic_link::LinkStore;
+use ic_link::{LinkStore, Principals};
 use ic_name::{AgentId, EventId, Kind, RuleEnd};
 use ic_roster::{Interaction, Roster};
 use ic_start::outcome;
@@ -42,16 +42,24 @@ struct Firing<'a> {
     causes: &'a [EventId],
 }
 
+/// An event that was put in: its id, and the principal ports that its links joined.
+#[derive(Clone, Copy)]
+struct PutEvent {
+    id: EventId,
+    joins: [Option<Principals>; 4],
+}
+
 impl<L: LinkStore> BareSet<L> {
     /// One event more, that of an active pair, under an id with this line, which no standing event has: with it its
     /// children come, and the links of its rule are put in. The event is given by the places of its agents' names, as
-    /// `interaction_of` answers it. At an error nothing changes but that names may be known that weren't.
+    /// `interaction_of` answers it. With the id come the pairs that became active by it. At an error nothing changes but that
+    /// names may be known that weren't.
     pub fn admit(
         &mut self,
         pair: ActivePair,
         event: Interaction,
         line: u32,
-    ) -> Result<EventId, AllocError>
+    ) -> Result<Fired, AllocError>
         requires active { IsActivePair self.old.set pair }
         requires named { IsNamed self.old.names event }
         requires event { (e : AnEvent) → IsPairOf self.old.set e pair → event_in self.old.names event ≡ e }
@@ -59,7 +67,8 @@ impl<L: LinkStore> BareSet<L> {
         requires new_line { (x : Stander) → IsIn x self.old.set.events → x.id.line ≢ line }
         requires few_lines { line < MAX_LINES }
         requires few_events { length self.old.set.events < MAX_LINES }
-        ensures admitted { IfOk result (λ id. (e : AnEvent) → IsPairOf self.old.set e pair → Admits self.old.set e line id self.new.set) }
+        ensures admitted { IfOk result (λ fired. (e : AnEvent) → IsPairOf self.old.set e pair → Admits self.old.set e line fired.id self.new.set) }
+        ensures awoken { IfOk result (λ fired. Awakes self.old.set self.new.set fired.awoken) }
         ensures grown { GrowsBy 4 self.old.names self.new.names }
         ensures unchanged { OnErr result (IsSame self.old.set self.new.set) }
     {
@@ -80,9 +89,12 @@ impl<L: LinkStore> BareSet<L> {
             causes: &causes,
         };
         match put_event(&mut self.roster, &mut self.store, &firing) {
-            Ok(id) => {
+            Ok(put) => {
                 self.roster.lawful();
-                Ok(id)
+                Ok(Fired {
+                    id: put.id,
+                    awoken: self.active_joins(&put.joins),
+                })
             }
             Err(_) => {
                 remove_all(&mut self.roster, born.as_slice());
@@ -158,15 +170,16 @@ fn children_for(
     children_of(alloc, roster, event.lead, kinds)
 }
 
-/// Puts in an event with its links and its direct causes. At an error nothing changes.
+/// Puts in an event with its links and its direct causes, and tells what its links join. At an error nothing changes.
 fn put_event<L: LinkStore>(
     roster: &mut Roster,
     store: &mut L,
     firing: &Firing<'_>,
-) -> Result<EventId, AllocError>
+) -> Result<PutEvent, AllocError>
     requires named { IsNamed roster.old.names firing.now.interaction }
     requires can { CanPutIn (event_in roster.old.names firing.now.interaction) firing.now.line firing.now.rank firing.now.pair firing.now.born.now firing.now.ends.now firing.now.causes.now roster.old.events (L.links store.old) }
-    ensures put { IfOk result (λ id. (id.line ≡ firing.now.line) × PutsIn (record { id = id; event = event_in roster.old.names firing.now.interaction; rank = firing.now.rank; born = firing.now.born.now; causes = firing.now.causes.now }) (made_links id firing.now.pair firing.now.born.now 0 firing.now.ends.now) roster.old.events roster.new.events (L.links store.old) (L.links store.new)) }
+    ensures put { IfOk result (λ put. (put.id.line ≡ firing.now.line) × PutsIn (record { id = put.id; event = event_in roster.old.names firing.now.interaction; rank = firing.now.rank; born = firing.now.born.now; causes = firing.now.causes.now }) (made_links put.id firing.now.pair firing.now.born.now 0 firing.now.ends.now) roster.old.events roster.new.events (L.links store.old) (L.links store.new)) }
+    ensures joins { IfOk result (λ put. AreJoins (L.links store.old) (made_links put.id firing.now.pair firing.now.born.now 0 firing.now.ends.now) put.joins) }
     ensures unchanged { OnErr result (LeavesAll roster.old.events roster.new.events (L.links store.old) (L.links store.new)) }
     ensures agents { roster.new.agents ≡ roster.old.agents }
     ensures names { roster.new.names ≡ roster.old.names }
@@ -180,29 +193,31 @@ fn put_event<L: LinkStore>(
         firing.causes,
     )?;
     roster.lawful();
-    let Ok(_) = put_links(store, id, firing) else {
+    let Ok(joins) = put_links(store, id, firing) else {
         roster.remove_event(id);
         return Err(AllocError);
     };
-    Ok(id)
+    Ok(PutEvent { id, joins })
 }
 
-/// Puts in the links of an event that has none yet. At an error nothing changes.
+/// Puts in the links of an event that has none yet, and tells which principal ports the first of them join. At an error
+/// nothing changes.
 fn put_links<L: LinkStore>(
     store: &mut L,
     event: EventId,
     firing: &Firing<'_>,
-) -> Result<(), AllocError>
+) -> Result<[Option<Principals>; 4], AllocError>
     requires digits { HaveDigits firing.now.born.now firing.now.ends.now }
     requires few { length firing.now.ends.now ≤ 8 }
     requires no_links { (l : ALink) → IsIn l (L.links store.old) → made_by event l ≡ false }
     requires lawful { IsLawful (made_links event firing.now.pair firing.now.born.now 0 firing.now.ends.now ++ L.links store.old) }
     ensures put { OnOk result (Alike (made_links event firing.now.pair firing.now.born.now 0 firing.now.ends.now ++ L.links store.old) (L.links store.new)) }
+    ensures joins { IfOk result (λ joins. AreJoins (L.links store.old) (made_links event firing.now.pair firing.now.born.now 0 firing.now.ends.now) joins) }
     ensures unchanged { OnErr result (Alike (L.links store.old) (L.links store.new)) }
 {
-    let Ok(_) = add_made(store, firing.ends, event, firing.pair, firing.born) else {
+    let Ok(joins) = add_made(store, firing.ends, event, firing.pair, firing.born) else {
         store.take_of(event);
         return Err(AllocError);
     };
-    Ok(())
+    Ok(joins)
 }

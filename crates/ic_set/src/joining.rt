@@ -1,12 +1,12 @@
-ghost use Rattle.std.specs.Prelude.{◌≡◌, ◌≤◌, ◌++◌, List, length, map, OnOk, OnErr};
+ghost use Rattle.std.specs.Prelude.{◌≡◌, ◌≤◌, ◌++◌, List, length, map, IfOk, OnOk, OnErr};
 ghost use Rattle.ic_name.specs.declared.ids.Link.{Link as ALink};
 ghost use Rattle.ic_path.specs.Orders.{Alike};
 ghost use Rattle.ic_path.specs.Links.{IsSlim};
 ghost use Rattle.ic_link.specs.Links.{shape, HaveOwnIds};
-ghost use Rattle.ic_set.specs.Joining.{moved_spot as spot_moved, moved_link, made_links, spot_of as spot_at, HasDigit, HaveDigits, HasNumber, HaveNumbers};
+ghost use Rattle.ic_set.specs.Joining.{moved_spot as spot_moved, moved_link, made_links, spot_of as spot_at, AreJoins, HasDigit, HaveDigits, HasNumber, HaveNumbers};
 
 use crate::pairs::ActivePair;
-use ic_link::LinkStore;
+use ic_link::{LinkStore, Principals};
 use ic_name::{AgentId, EventId, Link, LinkId, MakerId, RuleEnd, Spot};
 use ic_start::StartLinks;
 use std::alloc::AllocError;
@@ -37,35 +37,45 @@ pub(crate) fn add_start<L: LinkStore>(
     Ok(())
 }
 
-/// Puts in the links that an event makes, between its two agents and its children, by place. At an error some of them may
-/// have been put in, from the first one on.
+/// How many links of an event can join principal ports, at most: its first ones.
+const MAX_JOINS: usize = 4;
+
+/// Puts in the links that an event makes, between its two agents and its children, by place, and tells which principal ports
+/// the first of them join. At an error some of them may have been put in, from the first one on.
 pub(crate) fn add_made<L: LinkStore>(
     store: &mut L,
     ends: &[(RuleEnd, RuleEnd)],
     event: EventId,
     pair: ActivePair,
     born: &[AgentId],
-) -> Result<(), AllocError>
+) -> Result<[Option<Principals>; MAX_JOINS], AllocError>
     requires digits { HaveDigits born.now ends.now }
     requires few { length ends.now ≤ 8 }
     requires slim { IsSlim shape (made_links event pair born.now 0 ends.now ++ L.links store.old) }
     requires own_ids { HaveOwnIds (made_links event pair born.now 0 ends.now ++ L.links store.old) }
     ensures added { OnOk result (Alike (made_links event pair born.now 0 ends.now ++ L.links store.old) (L.links store.new)) }
+    ensures joins { IfOk result (λ joins. AreJoins (L.links store.old) (made_links event pair born.now 0 ends.now) joins) }
     ensures some { OnErr result ((front back : List ALink) × (made_links event pair born.now 0 ends.now ≡ front ++ back) × Alike (front ++ L.links store.old) (L.links store.new)) }
 {
+    let mut joins = [None; MAX_JOINS];
     for place in 0..ends.len() {
         let (a, b) = ends[place];
         let id = LinkId {
             maker: MakerId::Event(event),
             place: place as u32,
         };
-        store.add(Link {
+        let link = Link {
             id,
             a: spot_of(pair, born, a),
             b: spot_of(pair, born, b),
-        })?;
+        };
+        if place < MAX_JOINS {
+            joins[place] = store.join(link)?;
+        } else {
+            store.add(link)?;
+        }
     }
-    Ok(())
+    Ok(joins)
 }
 
 /// A spot of a start, with the agent under the id that has its number.

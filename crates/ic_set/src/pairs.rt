@@ -14,13 +14,12 @@ ghost use Rattle.ic_theory.specs.Wires.{IsWire};
 ghost use Rattle.ic_roster.specs.Rosters.{Member as AMember, Stander, event_in};
 ghost use Rattle.ic_names.specs.Queues.{AreNamed, StandOnce};
 ghost use Rattle.ic_set.specs.Meetings.{HasEntry, IsMeeting};
-ghost use Rattle.ic_set.specs.Pairs.{AreJoined, IsPairOf, IsActivePair, AreActivePairs, ArePairsOf, AreLedBy};
-ghost use Rattle.ic_set.specs.Queues.{Leads, HasLeads, Reaches, AreBeside};
-ghost use Rattle.ic_set.specs.Removal.{Stands};
+ghost use Rattle.ic_set.specs.Pairs.{AreJoined, IsPairOf, IsActivePair, AreActivePairs, AreActiveJoins, IsBetween};
+ghost use Rattle.ic_set.specs.Queues.{Leads, HasLeads};
 ghost use Rattle.ic_set.specs.Views.{standing};
 
 use crate::bare::BareSet;
-use ic_link::{Far, LinkStore};
+use ic_link::{Far, LinkStore, Principals};
 use ic_name::{AgentId, Event, EventId, Kind, Spot};
 use ic_names::NameId;
 use ic_names::queue::Lead;
@@ -178,84 +177,36 @@ impl<L: LinkStore> BareSet<L> {
         Ok(pairs)
     }
 
-    /// The agents whose principal ports wires lead to from the four auxiliary ports of this pair's agents, where the rule of
-    /// its event makes no children; where it makes some, none is looked for, and two epsilons have no such ports. It takes
-    /// no memory.
-    pub fn beside(&self, pair: ActivePair, event: Interaction) -> [Option<AgentId>; 4]
-        requires active { IsActivePair self.now.set pair }
-        requires event { (e : AnEvent) → IsPairOf self.now.set e pair → event_in self.now.names event ≡ e }
-        ensures { (e : AnEvent) → IsPairOf self.now.set e pair → born_kinds e.lead_kind e.other_kind ≡ [] → AreBeside self.now.set e result }
+    /// The active pairs between the agents of these joins. It takes no memory.
+    pub(crate) fn active_joins(&self, joins: &[Option<Principals>; 4]) -> [Option<ActivePair>; 4]
+        ensures { AreActiveJoins self.now.set joins.now result }
     {
         self.lawful();
-        if event.lead_kind != event.other_kind || event.lead_kind == Kind::Eps {
-            return [None; 4];
-        }
         [
-            self.reached(pair.lead, 1),
-            self.reached(pair.lead, 2),
-            self.reached(pair.other, 1),
-            self.reached(pair.other, 2),
+            self.active_join(joins[0]),
+            self.active_join(joins[1]),
+            self.active_join(joins[2]),
+            self.active_join(joins[3]),
         ]
     }
 
-    /// The active pairs of a standing event's children, or, where it has none, those that these agents lead. It takes no
-    /// memory.
-    pub fn awoken(&self, event: EventId, beside: &[Option<AgentId>; 4]) -> [Option<ActivePair>; 4]
-        requires standing { Stands self.now.set event }
-        ensures born { (x : Stander) → IsIn x self.now.set.events → x.id ≡ event → x.born ≢ [] → ArePairsOf self.now.set x.born result }
-        ensures beside { (x : Stander) → IsIn x self.now.set.events → x.id ≡ event → x.born ≡ [] → AreLedBy self.now.set beside.now result }
+    /// The active pair of these two agents, if there are two and they are one. It takes no memory.
+    fn active_join(&self, join: Option<Principals>) -> Option<ActivePair>
+        ensures found { IfSome result (λ pair. IsActivePair self.now.set pair × IsBetween join pair) }
+        ensures absent { IfNone result ((e : AnEvent) (pair : APair) → IsPairOf self.now.set e pair → IsBetween join pair → ⊥) }
     {
         self.lawful();
-        let Some(entry) = self.roster.event(event) else {
-            unreachable!()
+        let agents = join?;
+        let pair = self.pair_with(agents.one)?;
+        let partner = if pair.lead == agents.one {
+            pair.other
+        } else {
+            pair.lead
         };
-        if entry.born.is_empty() {
-            return self.pairs_led_by(beside);
+        if partner != agents.other {
+            return None;
         }
-        self.pairs_of(entry.born)
-    }
-
-    /// The active pairs that these agents lead. It takes no memory.
-    fn pairs_led_by(&self, agents: &[Option<AgentId>; 4]) -> [Option<ActivePair>; 4]
-        ensures { AreLedBy self.now.set agents.now result }
-    {
-        self.lawful();
-        [
-            self.led(agents[0]),
-            self.led(agents[1]),
-            self.led(agents[2]),
-            self.led(agents[3]),
-        ]
-    }
-
-    /// The active pairs of these agents. It takes no memory.
-    fn pairs_of(&self, agents: &[AgentId]) -> [Option<ActivePair>; 4]
-        requires { length agents.now ≤ 4 }
-        ensures { ArePairsOf self.now.set agents.now result }
-    {
-        self.lawful();
-        [
-            self.pair_at(agents, 0),
-            self.pair_at(agents, 1),
-            self.pair_at(agents, 2),
-            self.pair_at(agents, 3),
-        ]
-    }
-
-    /// The active pair of the agent at this place, if there is one and it is of one. It takes no memory.
-    fn pair_at(&self, agents: &[AgentId], place: usize) -> Option<ActivePair>
-        ensures found { IfSome result (λ pair. ((slice_get agents.now place ≡ Some pair.lead) ⊎ (slice_get agents.now place ≡ Some pair.other)) × IsActivePair self.now.set pair) }
-        ensures absent { IfNone result ((e : AnEvent) (pair : APair) → (slice_get agents.now place ≡ Some pair.lead) ⊎ (slice_get agents.now place ≡ Some pair.other) → IsPairOf self.now.set e pair → ⊥) }
-    {
-        self.pair_with(*agents.get(place)?)
-    }
-
-    /// The agent whose principal port the wire from this port leads to, if it leads to one. It takes no memory.
-    fn reached(&self, agent: AgentId, port: u8) -> Option<AgentId>
-        ensures found { IfSome result (λ near. (m : AMember) → IsIn m self.now.set.agents → m.id ≡ agent → consumed_times m.name (standing self.now.set) ≡ 0 → Reaches self.now.set m.name port near) }
-        ensures absent { IfNone result ((m n : AMember) → IsIn m self.now.set.agents → m.id ≡ agent → IsIn n self.now.set.agents → IsWire self.now.set.start (standing self.now.set) (Of n.name 0) (Of m.name port) → ⊥) }
-    {
-        principal_end(self.store.far(Spot::Agent(agent, port)))
+        Some(pair)
     }
 }
 

@@ -15,7 +15,7 @@ use Rattle.ic_set.specs.Views.{SetView, NamedView}
 use Rattle.ic_set.specs.Sets.{IsStandingSet}
 use Rattle.ic_set.proofs.GrownNames.{grown_keeps, kept_event}
 use Rattle.ic_set.proofs.KeptOrders.{kept_alike}
-use Rattle.ic_set.proofs.Admissions.{same_again, same_self, ends_same, ranks_fit, can_enter, can_put_in, put_keeps, put_admits}
+use Rattle.ic_set.proofs.Admissions.{same_again, same_self, ends_same, ranks_fit, can_enter, can_put_in, put_keeps, put_admits, put_awakes}
 use Rattle.ic_set.proofs.bare.BareSet.admit.Goals as goal
 
 -- a list that is the same is alike
@@ -105,7 +105,7 @@ invariant_of-self-in-Ok g c =
     (put_keeps v c.args.self.now.set (ap (λ (w : NamedView). w.set) c.self.view_is) ls c.self.invariant e c.args.pair active c.args.line c.requires.new_line
     _ (c.in_ok-children.ensures.children ∙ ap born_agents same) c.in_ok-born.born.items _ enters c.lawful-2.ensures.names
     c.rank_over-rank.result c.in_ok-causes.causes.items (c.in_ok-causes.ensures e active) over
-    c.in-Ok.id c.in-Ok.ensures.put.0 _ _ c.lawful-in-Ok.ensures.lines puts (c.requires.shallow e active))
+    c.in-Ok.put.id c.in-Ok.ensures.put.0 _ _ c.lawful-in-Ok.ensures.lines puts (c.requires.shallow e active))
 
 pub returns-in-Ok-clause-admitted : goal.returns-in-Ok-clause-admitted
 returns-in-Ok-clause-admitted g c = λ e active. (
@@ -123,7 +123,29 @@ returns-in-Ok-clause-admitted g c = λ e active. (
     (put_admits v c.args.self.now.set (ap (λ (w : NamedView). w.set) c.self.view_is) ls c.self.invariant e c.args.pair active c.args.line c.requires.new_line
     _ (c.in_ok-children.ensures.children ∙ ap born_agents same) c.in_ok-born.born.items _ enters c.lawful-2.ensures.names
     c.rank_over-rank.result c.in_ok-causes.causes.items (c.in_ok-causes.ensures e active) over
-    c.in-Ok.id c.in-Ok.ensures.put.0 _ _ c.lawful-in-Ok.ensures.lines puts))
+    c.in-Ok.put.id c.in-Ok.ensures.put.0 _ _ c.lawful-in-Ok.ensures.lines puts))
+
+pub returns-in-Ok-clause-awoken : goal.returns-in-Ok-clause-awoken
+returns-in-Ok-clause-awoken g c =
+    let e = c.requires.active.0 in
+    let active = c.requires.active.1 in
+    let view = c.self.inside in
+    let v : SetView = record { start = view.start; agents = view.roster.agents; events = view.roster.events } in
+    let ls = g.L.LinkStore.links view.store in
+    let same = rw (← c.self.view_is) at (c.requires.event e active) in
+    let its = its_event c.children_for.ensures.grown (rw (← c.self.view_is) at c.requires.named) same c.enter_all.ensures.names in
+    let events = c.enter_all.ensures.events ∙ c.children_for.ensures.events in
+    let ends = ends_same c.outcome-rules.ensures.links c.profile.ensures (ap (λ (e : Event). e.lead_kind) same) (ap (λ (e : Event). e.other_kind) same) in
+    let enters : Enters v.agents (agents_in c.children_for.new.roster.names c.in_ok-children.children.items) (c.args.line + 1) c.in_ok-born.born.items c.enter_all.new.roster.agents = rw (c.children_for.ensures.agents, c.as_slice.ensures) at c.in_ok-born.ensures.entered in
+    let over = rw c.deref.ensures.value at c.rank_over-rank.ensures in
+    let puts = rw (its, c.as_slice-2.ensures, ends, c.deref-2.ensures.value, events) at c.in-Ok.ensures.put.1 in
+    let joins = rw (c.as_slice-2.ensures, ends) at c.in-Ok.ensures.joins in
+    let act = rw c.put_event.ensures.agents at c.active_joins.ensures in
+    rw c.put_event.ensures.agents
+    (put_awakes v c.args.self.now.set (ap (λ (w : NamedView). w.set) c.self.view_is) ls c.self.invariant e c.args.pair active c.args.line c.requires.new_line
+    _ (c.in_ok-children.ensures.children ∙ ap born_agents same) c.in_ok-born.born.items _ enters c.lawful-2.ensures.names
+    c.rank_over-rank.result c.in_ok-causes.causes.items (c.in_ok-causes.ensures e active) over
+    c.in-Ok.put.id c.in-Ok.ensures.put.0 _ _ c.lawful-in-Ok.ensures.lines puts (c.requires.shallow e active) c.in-Ok.put.joins joins _ act)
 
 -- the agents that were entered have gone again
 gone_again : (entered : List Member) {old mid put new : List Member} {ids born : List AgentId} → put ≡ mid → map (λ m. m.id) entered ≡ born → ids ≡ born → Alike (entered ++ old) mid
