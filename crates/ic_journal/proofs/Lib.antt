@@ -11,7 +11,6 @@ pub mod LedEvents
 pub mod Reversed
 pub mod ClearedBenches
 pub mod TakenElements
-pub mod Awakened
 pub mod PairsAdmitted
 pub mod PairsLeft
 pub mod PairsCleared

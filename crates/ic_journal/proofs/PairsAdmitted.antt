@@ -2,13 +2,10 @@
 use Rattle.std.proofs.Common.{◌≡◌, ◌≢◌, ℕ, ◌≤◌, List, [], ◌∷◌, length, Option, Some, None, IfSome, inl, inr, sym, subst}
 use Rattle.ic_name.specs.Names.{Name}
 use Rattle.ic_name.specs.Events.{Event}
-use Rattle.ic_name.specs.declared.ids.AgentId.{AgentId}
 use Rattle.ic_name.specs.declared.ids.EventId.{EventId}
 use Rattle.ic_path.specs.Orders.{IsIn, Alike}
 use Rattle.ic_path.proofs.Alikes.{alike_back, alike-in, alike-map}
-use Rattle.ic_path.proofs.Picks.{in_first}
 use Rattle.ic_theory.specs.Active.{IsActive}
-use Rattle.ic_theory.specs.Rules.{born_kinds}
 use Rattle.ic_theory.proofs.Normal.{active-alike}
 use Rattle.ic_names.specs.declared.queue.Lead.{Lead}
 use Rattle.ic_names.specs.Queues.{QueueView, leads_of, IsQueue}
@@ -16,12 +13,11 @@ use Rattle.ic_names.proofs.Queued.{kept_queue}
 use Rattle.ic_roster.specs.Rosters.{Stander}
 use Rattle.ic_set.specs.declared.pairs.ActivePair.{ActivePair}
 use Rattle.ic_set.specs.Changes.{Admits, IsSame}
-use Rattle.ic_set.specs.Pairs.{IsPairOf, IsActivePair, ArePairsOf, AreLedBy, Awakes}
-use Rattle.ic_set.specs.Queues.{IsQueued, HasLeads, AreBeside}
+use Rattle.ic_set.specs.Pairs.{IsPairOf, IsActivePair, Awakes}
+use Rattle.ic_set.specs.Queues.{IsQueued, HasLeads}
 use Rattle.ic_set.specs.Sets.{IsStandingSet}
 use Rattle.ic_set.specs.Views.{SetView, NamedView, standing}
 use Rattle.ic_journal.specs.Fronts.{IsFront, KeepsQueue}
-use Rattle.ic_journal.proofs.Awakened.{awoken}
 use Rattle.ic_set.proofs.GrownNames.{Keeps}
 use Rattle.ic_set.proofs.GrownSets.{Grows, stays}
 
@@ -65,14 +61,6 @@ module _ (v w : NamedView) (e : Event) (line : ℕ) (d : EventId) (a : Admits v.
     are = a.born;
     agents = alike_back a.agents;
   }
-
-  -- the pairs that became active are the children's, or those that agents lead that were beside the pair
-  pub admitted_awakes : IsStandingSet v.set → IsStandingSet w.set → (beside : List (Option AgentId)) (pairs : List (Option ActivePair)) → (born_kinds e.lead_kind e.other_kind ≡ [] → AreBeside v.set e beside)
-      → ((x : Stander) → IsIn x w.set.events → x.id ≡ d → x.born ≢ [] → ArePairsOf w.set x.born pairs) → ((x : Stander) → IsIn x w.set.events → x.id ≡ d → x.born ≡ [] → AreLedBy w.set beside pairs)
-      → Awakes v.set w.set pairs
-  admitted_awakes set set' beside pairs next born led =
-      let there = alike-in a.events (in_first a.entry v.set.events) in
-      awoken v.set w.set set set' e a.entry.born grown pairs beside next (born a.entry there a.under) (led a.entry there a.under)
 
   -- the leads of before are in the queue, and so are those of the pairs that became active
   pub admitted_each : (old leads : List Lead) → Keeps v.names w.names → (pairs : List (Option ActivePair)) → Awakes v.set w.set pairs → HasLeads v old

@@ -14,13 +14,13 @@ use Rattle.ic_theory.specs.Firings.{IsFired}
 use Rattle.ic_theory.specs.Sets.{agents, links, named_times}
 use Rattle.ic_theory.specs.Sound.{IsSound}
 use Rattle.ic_theory.specs.Starts.{Start, IsProper, net_shape, start_links}
-use Rattle.ic_theory.proofs.Cases.{end_times, end_degree}
+use Rattle.ic_theory.proofs.Cases.{end_degree}
 use Rattle.ic_theory.proofs.Counts.{degree-append}
 use Rattle.ic_theory.proofs.Future.{made_alike, named_in}
 use Rattle.ic_theory.proofs.Normal.{active-alike}
 use Rattle.ic_theory.proofs.PairPorts.{joins, named_once, once}
 use Rattle.ic_theory.proofs.Ranks.{sound_order}
-use Rattle.ic_set.proofs.NewlyActive.{no_ends}
+use Rattle.ic_set.proofs.StillActive.{no_ends}
 
 -- where the events before it were fired in this order
 fired_once : (s : Start) (ok : IsProper s) (e : Event) (es : List Event) (f : IsFired s es) (a : IsActive s es e) (n : Name) (k : Kind) → IsIn (n, k) (born_agents e) → (i : ℕ) → degree net_shape (links s (e ∷ es)) (Of n i) ≤ 1

@@ -1,29 +1,25 @@
 -- The active pairs of two sets of which one has an event more.
-use Rattle.std.proofs.Common.{◌≡◌, ◌≢◌, List, [], ◌∷◌, ◌++◌, ◌⊎◌, inl, inr, refl, sym, ap, arith, subst, ◌∙◌}
-use Rattle.ic_name.specs.Names.{Name}
+use Rattle.std.proofs.Common.{◌≡◌, ◌≢◌, List, [], ◌∷◌, ◌++◌, ◌⊎◌, inl, inr, refl, sym, ap, arith, subst}
 use Rattle.ic_name.specs.Events.{Event}
 use Rattle.ic_name.specs.declared.ids.AgentId.{AgentId}
-use Rattle.ic_name.specs.declared.kinds.Kind.{Kind}
 use Rattle.ic_path.specs.Orders.{IsIn, Alike}
 use Rattle.ic_path.proofs.Alikes.{alike_back, alike-in}
 use Rattle.ic_path.proofs.Picks.{pick_before, in_first, in-cons_cases}
 use Rattle.ic_theory.specs.Active.{IsActive}
-use Rattle.ic_theory.specs.Born.{born_agents}
 use Rattle.ic_theory.specs.Causes.{IsCause}
-use Rattle.ic_theory.specs.Rules.{born_kinds}
 use Rattle.ic_theory.specs.Sound.{IsSound}
 use Rattle.ic_theory.specs.Starts.{Start, IsProper}
 use Rattle.ic_theory.proofs.Ranks.{cause_in, sound-alike}
 use Rattle.ic_theory.proofs.Sound.{active_there}
-use Rattle.ic_path.proofs.InLists.{in_behind, in-map, map_cases}
+use Rattle.ic_path.proofs.InLists.{in_behind, map_cases}
 use Rattle.ic_roster.specs.Rosters.{Member}
 use Rattle.ic_set.specs.declared.pairs.ActivePair.{ActivePair}
 use Rattle.ic_set.specs.Pairs.{IsPairOf}
 use Rattle.ic_set.specs.Sets.{IsStandingSet}
-use Rattle.ic_set.specs.Views.{SetView, standing, agent_of, AreChildren}
+use Rattle.ic_set.specs.Views.{SetView, standing, AreChildren}
 use Rattle.ic_set.proofs.ActivePairs.{one_name, pair_of}
 use Rattle.ic_set.proofs.Namings.{own_names_alike}
-use Rattle.ic_set.proofs.NewlyActive.{stays_active}
+use Rattle.ic_set.proofs.StillActive.{stays_active}
 
 -- the second set has an event more, and its children under these ids
 pub record Grows (v w : SetView) (e : Event) (born : List AgentId) : Type 0 where

@@ -1,5 +1,5 @@
 -- Which pairs become active once an event is put in: those between agents whose principal ports its links join.
-use Rattle.std.proofs.Common.{◌≡◌, ◌≢◌, ◌+◌, ◌<◌, ◌≤◌, ◌⊎◌, inl, inr, ℕ, zero, suc, Bool, true, false, List, [], ◌∷◌, ◌++◌, length, length-append, ap, refl, sym, arith, subst, ◌∙◌, Option, Some, None}
+use Rattle.std.proofs.Common.{◌≡◌, ◌≢◌, ◌+◌, ◌<◌, ◌≤◌, ◌⊎◌, inl, inr, ℕ, zero, suc, Bool, true, false, List, [], ◌∷◌, ◌++◌, length, length-append, ap, refl, sym, arith, subst, ◌∙◌, Option, Some}
 use Rattle.std.specs.Prelude.{slice_index_or, leb}
 use Rattle.std.proofs.lemmas.Bool.{leb-true, leb-false}
 use Rattle.ic_name.specs.Names.{Name}
@@ -14,10 +14,10 @@ use Rattle.ic_path.specs.FarEnds.{far}
 use Rattle.ic_path.specs.Links.{degree, IsSlim}
 use Rattle.ic_path.specs.Orders.{IsIn, Alike}
 use Rattle.ic_path.proofs.Alikes.{alike_back, alike-in}
-use Rattle.ic_path.proofs.InLists.{in_behind, in-append_cases, in-map, map_cases}
+use Rattle.ic_path.proofs.InLists.{in-append_cases, in-map, map_cases}
 use Rattle.ic_path.proofs.Orders.{degree-alike, far-alike, far-far, far_bare, slim-alike}
 use Rattle.ic_path.proofs.Picks.{in_first, in_more, in-cons_cases, none_in, pick_before}
-use Rattle.ic_link.specs.Links.{shape, JoinsPrincipals}
+use Rattle.ic_link.specs.Links.{shape}
 use Rattle.ic_link.specs.declared.principals.Principals.{Principals}
 use Rattle.ic_theory.specs.Rules.{born_ends}
 use Rattle.ic_theory.proofs.Counts.{degree-append}
@@ -25,17 +25,17 @@ use Rattle.ic_roster.specs.Rosters.{Member, Stander}
 use Rattle.ic_cause.proofs.SameEnds.{degree_is}
 use Rattle.ic_set.specs.declared.pairs.ActivePair.{ActivePair}
 use Rattle.ic_set.specs.Joining.{no_id, spot_of, made_links, AreJoins, HasDigit, HaveDigits}
-use Rattle.ic_set.specs.Pairs.{AreJoined, IsPairOf, IsActivePair, IsBetween, AreActiveJoins, Awakes}
+use Rattle.ic_set.specs.Pairs.{AreJoined, IsPairOf, IsBetween, AreActiveJoins, Awakes}
 use Rattle.ic_set.specs.Sets.{IsKept}
 use Rattle.ic_set.specs.Views.{SetView, standing, agent_of}
 use Rattle.ic_set.proofs.ActivePairs.{joined_pair, one_id}
 use Rattle.ic_set.proofs.BornPorts.{born_once}
 use Rattle.ic_set.proofs.Children.{length-born, nth_child}
-use Rattle.ic_set.proofs.GrownSets.{Grows, up, no_child, event_active}
+use Rattle.ic_set.proofs.GrownSets.{Grows, up, no_child}
 use Rattle.ic_set.proofs.InPlace.{in_at}
-use Rattle.ic_set.proofs.JoinedInTurn.{Meets, joined_since, not_met, bare_first, slim_old}
+use Rattle.ic_set.proofs.JoinedInTurn.{Meets, joined_since, not_met, bare_first}
 use Rattle.ic_set.proofs.JoinsRead.{one_agent, kept_slim, joined_reads, reads_joined, absent_bare}
-use Rattle.ic_set.proofs.LinksMade.{link_at, made_at, length_made}
+use Rattle.ic_set.proofs.LinksMade.{made_at, length_made}
 use Rattle.ic_set.proofs.Partners.{LeadsNone, joined_apart, joined_back, joined_unled}
 use Rattle.ic_set.proofs.RuleDigits.{rule_digits}
 use Rattle.ic_set.proofs.RuleEnds.{IsOuter, rule_outer, rule_inner}
@@ -197,7 +197,7 @@ module _ (v w : SetView) (ls ls' : List Link) (k : IsKept v ls) (k' : IsKept w l
       let spot : l.a ≡ Agent (slice_index_or born inner.digit no_id) (suc inner.port) = first ∙ ap (spot_of p born) inner.child in
       let digit : HasDigit born (Child inner.digit (suc inner.port)) = subst (HasDigit born) inner.child digits.0 in
       let m = nth_child e born g.children g.are inner.digit digit in
-      let once = subst (λ x. degree shape (made ++ ls) (Agent x (suc inner.port)) ≤ 1) m.2 (child_once m.0 m.1 (suc inner.port)) in
+      let once = subst (λ x. degree shape (made ++ ls) (Agent x (suc inner.port)) ≤ 1) {x = m.0.id} m.2 (child_once m.0 m.1 (suc inner.port)) in
       let bare = bare_first ls made slim front back l split (subst (λ s. degree shape (made ++ ls) s ≤ 1) (sym spot) once) in
       no_inner (sym spot ∙ sym bare ∙ q)
 

@@ -45,8 +45,7 @@ pub mod Partners
 pub mod ConsumedAgents
 pub mod ActivePairs
 pub mod EventPairs
-pub mod FarTouched
-pub mod NewlyActive
+pub mod StillActive
 pub mod LedPairs
 pub mod GrownSets
 pub mod LookedUp

@@ -1,6 +1,6 @@
 -- The active pairs of some agents, looked up agent by agent.
-use Rattle.std.proofs.Common.{◌≡◌, ℕ, zero, suc, ◌<◌, ◌≤◌, List, [], ◌∷◌, length, ◌⊎◌, inl, inr, Option, Some, None, IfSome, IfNone, refl, sym, ap, arith, subst, ◌∙◌}
-use Rattle.std.specs.Prelude.{slice_get, slice_index_or, unwrap_or}
+use Rattle.std.proofs.Common.{◌≡◌, ℕ, ◌<◌, List, [], ◌∷◌, length, ◌⊎◌, inl, inr, Option, Some, None, IfSome, IfNone, refl, sym, ap, arith, subst, ◌∙◌}
+use Rattle.std.specs.Prelude.{slice_index_or, unwrap_or}
 use Rattle.ic_name.specs.Events.{Event}
 use Rattle.ic_name.specs.declared.ids.AgentId.{AgentId}
 use Rattle.ic_name.specs.declared.kinds.Kind.{Kind}

@@ -22,9 +22,8 @@ use std::alloc::AllocError;
 
 impl<L: LinkStore> StandingSet<L> {
     /// One event more, that of an active pair, under an id with this line, which no standing event has: with it its
-    /// children come, and the links of its rule are put in. It answers the pairs that became active by it, too: each has
-    /// a child, or, where the rule makes none, joins two agents that were beside the pair. At an error nothing changes but
-    /// that names may be known that weren't.
+    /// children come, and the links of its rule are put in. With the id come the pairs that became active by it. At an error
+    /// nothing changes but that names may be known that weren't.
     pub fn admit(
         &mut self,
         pair: ActivePair,
@@ -44,13 +43,11 @@ impl<L: LinkStore> StandingSet<L> {
         ensures unchanged { OnErr result (IsSame self.old.set self.new.set) }
     {
         self.bare.lawful();
-        let beside = self.bare.beside(pair, event);
         let names = self.bare.roster().names().len();
         self.queue.reserve(names + MAX_CHILDREN)?;
-        let id = self.bare.admit(pair, event, line)?;
+        let fired = self.bare.admit(pair, event, line)?;
         self.bare.lawful();
-        let awoken = self.bare.awoken(id, &beside);
-        put_leads(&mut self.queue, &self.bare, &awoken);
+        put_leads(&mut self.queue, &self.bare, &fired.awoken);
         self.front = front_after(
             self.alloc,
             &mut self.queue,
@@ -59,7 +56,7 @@ impl<L: LinkStore> StandingSet<L> {
             pair.lead,
             &mut self.passed_over,
         );
-        Ok(Fired { id, awoken })
+        Ok(fired)
     }
 
     /// A standing event goes on which nothing depends: with it its children go, and its links. It takes no memory.

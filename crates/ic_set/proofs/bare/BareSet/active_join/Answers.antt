@@ -1,10 +1,9 @@
 use Rattle.std.proofs.Common.{◌≡◌, true, false, inl, inr, sym, rules, ◌∙◌}
 use Rattle.std.proofs.lemmas.Bool.{true≢false}
 use borrow.Author.Tests.{tests}
-use Rattle.ic_name.specs.declared.ids.AgentId.{AgentId}
 use Rattle.ic_link.specs.declared.principals.Principals.{Principals}
 use Rattle.ic_set.specs.declared.pairs.ActivePair.{ActivePair}
-use Rattle.ic_set.proofs.LookedUp.{HasBoth, forth, back, has_both, one_between}
+use Rattle.ic_set.proofs.LookedUp.{forth, back, has_both, one_between}
 use Rattle.ic_set.proofs.bare.BareSet.active_join.Goals as goal
 use Rattle.ic_set.proofs.bare.BareSet.active_join.Goals.{then-eq, else-eq}
 
