@@ -1,3 +1,4 @@
 pub mod Packed
 pub mod Slots
+pub mod Principals
 pub mod Ports
