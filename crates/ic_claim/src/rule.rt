@@ -6,7 +6,7 @@ ghost use Rattle.ic_claim.specs.Plays.{Draws, Takes, Leaves, Stops, Looks};
 use crate::view::View;
 use atomic_table::{Join, Play, Split, TableRule};
 
-/// What holds of the words and of all views between any two steps.
+/// The invariant of the words and of all views between any two steps.
 pub struct ClaimRule;
 
 impl TableRule<u64, View, u64> for ClaimRule {

@@ -43,7 +43,7 @@ impl History {
         }
     }
 
-    /// What holds of every history, for whoever has to show it.
+    /// The invariant of every history.
     fn lawful(&self)
         ensures { length self.now.lines + self.now.room ≤ MAX_LINES }
     {

@@ -40,8 +40,8 @@ impl<L: LinkStore> Model for Bench<L> {
 }
 
 impl<L: LinkStore> Bench<L> {
-    /// A bench over the start: nothing stands yet, and there is no line and no room for one. An error where memory is
-    /// wanting, and then the start is gone.
+    /// A bench over the start. Nothing stands yet, and the history has no line and no room for one. If memory runs out, it
+    /// is an error, and the start is gone.
     pub fn over(alloc: Global, start: Start) -> Result<Bench<L>, AllocError>
         ensures { IfOk result (λ bench. Opens start bench) }
     {
@@ -53,7 +53,7 @@ impl<L: LinkStore> Bench<L> {
         })
     }
 
-    /// What holds of every bench, for whoever has to show it: its history is legal, what it shows is what stands after it,
+    /// The invariant of every bench: its history is legal, what it shows is what stands after it,
     /// and the serial number of an agent tells the line of the firing that made it.
     pub fn lawful(&self)
         ensures { IsBench self.now }
@@ -75,8 +75,8 @@ impl<L: LinkStore> Bench<L> {
         self.history.room()
     }
 
-    /// Reserves room for so many lines. It is `HistoryFull` exactly where the history would be too long with them. `Memory`
-    /// comes only where `room()` is less than that; with room, the call takes no memory. At an error nothing changes.
+    /// Reserves room for so many lines. It answers `HistoryFull` exactly if the history would be too long with them. It
+    /// answers `Memory` only if `room()` is less than that and no memory is left. At an error nothing changes.
     pub fn reserve(&mut self, lines: usize) -> Result<(), ReserveFault>
         ensures { Reserves self.old lines result self.new }
     {
@@ -89,12 +89,12 @@ impl<L: LinkStore> Bench<L> {
         Ok(())
     }
 
-    /// Fires an event: one step of the machine, which adds a line, and for an answer of `Ok` the event stands from then on
-    /// under this id.
+    /// Fires an event. This is one step of the machine and adds a line to the history. At `Ok` the event stands from then
+    /// on under this id.
     ///
-    /// `HistoryFull` before anything else, where the history has `MAX_LINES` lines; then `NotActive`, `Deep` and `Full`,
-    /// each exactly where the machine says so. `Memory` may stand in place of each but the first. `HistoryFull` and
-    /// `Memory` add no line and hand the proposal back. A refused call changes nothing that stands.
+    /// The refusals, in their order: `HistoryFull` if the history has `MAX_LINES` lines; then `NotActive`, `Deep` and
+    /// `Full`, each exactly if the machine says so. `Memory` can come in place of any answer but `HistoryFull`. These two
+    /// add no line and hand the proposal back. A refused call changes nothing that stands.
     pub fn fire(&mut self, proposal: Proposal) -> Result<EventId, FireFault>
         ensures { Fires self.old proposal result self.new }
     {
@@ -104,7 +104,7 @@ impl<L: LinkStore> Bench<L> {
         }
     }
 
-    /// Fires an event as `fire` does, and tells with its id the pairs that became active by it.
+    /// Fires an event as `fire` does. The answer has the event's id and the pairs that became active by it.
     pub fn fire_proposal(&mut self, proposal: Proposal) -> Result<Fired, FireFault>
         ensures fires { Fires self.old proposal (id_answer result) self.new }
         ensures awoken { IfOk result (λ fired. Awakes (set_of self.old) (set_of self.new) fired.awoken) }
@@ -141,13 +141,13 @@ impl<L: LinkStore> Bench<L> {
         }
     }
 
-    /// Undoes the firing of the event whose firing is the line of the id: one step of the machine, which adds a line. The
-    /// slot of the id doesn't matter.
+    /// Undoes the event that was fired in the line of the id. This is one step of the machine and adds a line to the
+    /// history. The slot of the id doesn't matter.
     ///
-    /// `HistoryFull` before anything else, where the history has `MAX_LINES` lines; then `NotStanding` and `Held`, with the
-    /// least direct dependent in canonical order, each exactly where the machine says so. `Memory` comes only where
-    /// `room()` is 0, and may then stand in place of each but the first; with room, the call takes no memory. A refused
-    /// call changes nothing that stands.
+    /// The refusals, in their order: `HistoryFull` if the history has `MAX_LINES` lines; then `NotStanding`, and `Held`
+    /// with the least direct dependent in canonical order, each exactly if the machine says so. With room for a line the
+    /// call takes no memory. Without, `Memory` can come in place of any answer but `HistoryFull`. A refused call changes
+    /// nothing that stands.
     pub fn undo(&mut self, id: EventId) -> Result<(), UndoFault>
         ensures { Undoes self.old id result self.new }
     {
@@ -177,9 +177,10 @@ impl<L: LinkStore> Bench<L> {
         }
     }
 
-    /// Undoes all events, the last of these ids first, each of which stands before those that rest on it: one step of the
-    /// machine for each, which adds a line. Then nothing stands, and the net is that of the start. It takes no memory, and
-    /// for many events less time than an `undo` for each, but a look at every slot that ever had an event.
+    /// Undoes all events, the last of these ids first. In the list, an event comes before those that depend on it. Each
+    /// undoing is one step of the machine and adds a line. Afterwards nothing stands, and the net is the start's. It takes
+    /// no memory. For many events it takes less time than an `undo` for each, but it looks at every slot that ever had an
+    /// event.
     pub fn clear(&mut self, ids: &[EventId])
         requires free { AreIdsOfFree self.old ids.now }
         requires all { AreAll (set_of self.old) ids.now }

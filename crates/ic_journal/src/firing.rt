@@ -17,12 +17,12 @@ use ic_set::{ActivePair, Fired};
 use std::alloc::AllocError;
 
 impl<L: LinkStore> Bench<L> {
-    /// Fires an active pair as `fire` does the proposal of its agents, but makes and looks up no name: one step of the
-    /// machine, which adds a line, and for an answer of `Ok` the event stands from then on under this id, and the pairs are
+    /// Fires an active pair as `fire` fires the proposal of its agents, but makes and looks up no name. This is one step of
+    /// the machine and adds a line to the history. At `Ok` the event stands from then on under this id, and the pairs are
     /// those that became active by it.
     ///
-    /// `HistoryFull` before anything else, where the history has `MAX_LINES` lines; then `Deep` and `Full`, each exactly
-    /// where the machine says so. `Memory` may stand in place of each but the first; it and `HistoryFull` add no line. A
+    /// The refusals, in their order: `HistoryFull` if the history has `MAX_LINES` lines; then `Deep` and `Full`, each
+    /// exactly if the machine says so. `Memory` can come in place of any answer but `HistoryFull`. These two add no line. A
     /// refused call changes nothing that stands.
     pub fn fire_pair(&mut self, pair: ActivePair) -> Result<Fired, PairFault>
         requires { IsActivePair (set_of self.old) pair }
@@ -47,8 +47,8 @@ impl<L: LinkStore> Bench<L> {
         }
     }
 
-    /// Admits an active pair that meets no limit, and notes the line of its event's firing, for which there is room. At an
-    /// error memory ran out, no line was added, and nothing that stands changed.
+    /// Admits an active pair that meets no limit, and notes the line of its event's firing. There is room for the line. An
+    /// error means that memory ran out; no line was added then, and nothing that stands changed.
     fn admit_noted(&mut self, pair: ActivePair, event: Interaction) -> Result<Fired, AllocError>
         requires room { 1 ≤ self.old.room }
         requires active { (e : AnEvent) × IsPairOf (set_of self.old) e pair × Meets (set_of self.old) e None }

@@ -48,7 +48,7 @@ impl EventName {
         }
     }
 
-    /// What holds of every event's name: the lead is the lesser one.
+    /// The invariant of every event's name: the lead is the lesser one.
     pub fn lawful(&self)
         ensures { name_cmp self.now.lead self.now.other ≡ Less }
     {

@@ -57,7 +57,7 @@ impl Event {
         }
     }
 
-    /// What holds of every event: the lead is the lesser one.
+    /// The invariant of every event: the lead is the lesser one.
     pub fn lawful(&self)
         ensures { name_cmp self.now.lead self.now.other ≡ Less }
     {

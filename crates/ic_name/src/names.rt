@@ -57,7 +57,7 @@ impl AgentName {
         AgentName { start, digits }
     }
 
-    /// What holds of every name, for whoever has to show it.
+    /// The invariant of every name.
     pub fn lawful(&self)
         ensures { IsName self.now }
     {

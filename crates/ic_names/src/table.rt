@@ -47,7 +47,7 @@ impl NameTable {
         }
     }
 
-    /// What holds of every table, for whoever has to show it.
+    /// The invariant of every table.
     pub fn lawful(&self)
         ensures { IsTable self.now }
     {

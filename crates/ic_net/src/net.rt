@@ -80,7 +80,7 @@ impl Net {
         })
     }
 
-    /// What holds of every net, for whoever has to show it.
+    /// The invariant of every net.
     pub fn lawful(&self)
         ensures listing { IsListing self.now }
         ensures few_agents { length self.now.agents < 2 ^ 32 }

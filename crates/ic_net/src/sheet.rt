@@ -52,7 +52,7 @@ pub struct NetLists {
 }
 
 impl NetSheet {
-    /// What holds of every net, for whoever has to show it.
+    /// The invariant of every net.
     pub fn lawful(&self)
         ensures listing { IsListing self.now }
         ensures few_agents { length self.now.agents < 2 ^ 32 }

@@ -61,7 +61,7 @@ impl AgentRecords {
         }
     }
 
-    /// What holds of all records, for whoever has to show it.
+    /// The invariant of all records.
     pub fn lawful(&self)
         ensures { HaveOwnPlaces self.now }
     {

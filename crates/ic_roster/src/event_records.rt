@@ -52,7 +52,7 @@ impl EventRecords {
         }
     }
 
-    /// What holds of all records, for whoever has to show it.
+    /// The invariant of all records.
     pub fn lawful(&self)
         ensures keys { HaveOwnKeys self.now }
         ensures kept { (x : PlacedEvent) → IsIn x self.now → AreKept self.now x.causes }

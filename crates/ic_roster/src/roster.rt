@@ -47,7 +47,7 @@ impl Roster {
         }
     }
 
-    /// What holds of every roster, for whoever has to show it.
+    /// The invariant of every roster.
     pub fn lawful(&self)
         ensures table { IsTable self.now.names }
         ensures names { HaveOwnNames self.now.agents }

@@ -54,7 +54,7 @@ impl<L: LinkStore> BareSet<L> {
         })
     }
 
-    /// What holds of every standing set, for whoever has to show it.
+    /// The invariant of every standing set.
     pub fn lawful(&self)
         ensures set { IsStandingSet self.now.set }
         ensures table { IsTable self.now.names }

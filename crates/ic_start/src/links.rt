@@ -69,7 +69,7 @@ impl StartLinks {
         }
     }
 
-    /// What holds of the links of every start, for whoever has to show it.
+    /// The invariant of the links of every start.
     pub fn lawful(&self)
         ensures numbered { AreNumbered 0 self.now }
         ensures few { length self.now ≤ 2 ^ 32 }

@@ -64,7 +64,7 @@ impl Start {
         Ok(Start { parts })
     }
 
-    /// What holds of every start, for whoever has to show it.
+    /// The invariant of every start.
     pub fn lawful(&self)
         ensures proper { IsProper self.now }
         ensures few_agents { length self.now.kinds ≤ MAX_START_AGENTS }

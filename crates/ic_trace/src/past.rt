@@ -67,7 +67,7 @@ impl Past {
         })
     }
 
-    /// What holds of every past, for whoever has to show it.
+    /// The invariant of every past.
     pub fn lawful(&self)
         ensures proper { IsProper self.now.start }
         ensures sound { IsSound self.now.start self.now.events }

@@ -21,9 +21,9 @@ pub(crate) const NOTHING: Counts = Counts {
     fired: 0,
 };
 
-/// Goes back to a mark over the bench's start: undoes what stands and isn't in the mark, the last in canonical order
-/// first, then fires what is in the mark and doesn't stand, in canonical order. Then just the mark's events stand, and
-/// those that stood before have the ids that they had. Each undoing and each firing adds a line.
+/// Goes back to a mark over the bench's start. It undoes the standing events that aren't in the mark, the last in canonical
+/// order first, and then fires the events of the mark that don't stand, in canonical order. Afterwards exactly the mark's
+/// events stand, and those that stood before keep their ids. Each undoing and each firing adds a line.
 ///
 /// `HistoryFull` exactly where a line for each of them doesn't fit into the history; nothing has changed then, the room
 /// included. `Memory` may stand in place of each answer, with the numbers of the events that were undone and fired

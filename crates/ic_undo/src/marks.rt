@@ -29,7 +29,7 @@ impl Model for Mark {
 }
 
 impl Mark {
-    /// What holds of every mark, for whoever has to show it.
+    /// The invariant of every mark.
     pub fn lawful(&self)
         ensures { IsMark self.now }
     {

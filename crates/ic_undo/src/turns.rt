@@ -72,7 +72,7 @@ pub(crate) fn fire_listed<L: LinkStore>(
     Ok(Turns { ids, missing })
 }
 
-/// No event was fired, for want of memory.
+/// No event was fired, because no memory was left.
 fn out_of_memory(alloc: Global) -> Stop
     ensures none { result.ids.items ≡ [] }
     ensures why { result.why ≡ Memory }

@@ -11,13 +11,12 @@ use ic_journal::{Bench, LinkStore};
 use ic_name::{EventId, EventName};
 use std::alloc::Global;
 
-/// Undoes an event with all events that rest on it: those that depend on it directly or through others. They are undone
-/// the last in canonical order first, and their names are answered in that order. Each undoing adds a line, and takes
-/// at most one line of room.
+/// Undoes an event with all events that depend on it, directly or through others. The last in canonical order is undone
+/// first, and their names are answered in that order. Each undoing adds a line, and takes at most one line of room.
 ///
-/// `NotStanding` exactly where no standing event was fired in the line of the id; else `HistoryFull` exactly where a
-/// line for each of them doesn't fit into the history, and then nothing has changed; else `Memory` may stand in place
-/// of an answer. A refused call changes nothing but the room.
+/// It answers `NotStanding` exactly if no standing event was fired in the line of the id, else `HistoryFull` exactly if a
+/// line for each of them doesn't fit into the history. `Memory` can come in place of any other answer. A refused call
+/// changes nothing but the room.
 pub fn unwind<L: LinkStore>(
     alloc: Global,
     bench: &mut Bench<L>,
@@ -41,11 +40,11 @@ pub fn unwind<L: LinkStore>(
     }
 }
 
-/// Undoes all events, the last in canonical order first, and answers their names in that order. The net is then that of
-/// the start. Each undoing adds a line, and takes at most one line of room.
+/// Undoes all events, the last in canonical order first, and answers their names in that order. Afterwards the net is the
+/// start's. Each undoing adds a line, and takes at most one line of room.
 ///
-/// `HistoryFull` exactly where a line for each of them doesn't fit into the history, and then nothing has changed;
-/// `Memory` may stand in place of each answer, and then nothing but the room has changed.
+/// It answers `HistoryFull` exactly if a line for each of them doesn't fit into the history; nothing has changed then.
+/// `Memory` can come in place of any answer; nothing but the room has changed then.
 pub fn undo_all<L: LinkStore>(
     alloc: Global,
     bench: &mut Bench<L>,
@@ -67,8 +66,8 @@ pub fn undo_all<L: LinkStore>(
 
 /// Undoes all events as `undo_all` does, and answers how many they are. It takes no memory for their names.
 ///
-/// `HistoryFull` exactly where a line for each of them doesn't fit into the history, and then nothing has changed; else
-/// `Memory` may stand in place of the answer, and then nothing but the room may have changed.
+/// It answers `HistoryFull` exactly if a line for each of them doesn't fit into the history; nothing has changed then.
+/// `Memory` can come in place of any other answer; nothing but the room has changed then.
 pub fn clear<L: LinkStore>(bench: &mut Bench<L>) -> Result<usize, UndoAllFault>
     ensures undone { IfOk result (λ count. IsCleared bench.old count bench.new) }
     ensures nothing { OnOk result (bench.new.events ≡ []) }

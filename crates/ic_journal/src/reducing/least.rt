@@ -4,9 +4,9 @@ ghost use Rattle.ic_journal.specs.Reduced.{FiresNext, Reduces};
 use crate::reducing::{End, Gate};
 use crate::{Bench, LinkStore, PairFault};
 
-/// Fires the active pair with the least lead again and again, at most so often; answers how many were fired, and why no
-/// more: `Normal` exactly where no pair is active any more, and each other end only where one is. The first call that
-/// meets a limit or finds no memory is the last one.
+/// Fires the active pair with the least lead again and again, at most so often. It answers how many were fired, and why no
+/// more. The end is `Normal` exactly if no pair is active any more. It stops at the first firing that meets a limit or
+/// finds no memory.
 ///
 /// The gate sees each commit as one of worker 0, with tickets from the first one on.
 pub fn fire_least<L: LinkStore, G: Gate>(

@@ -51,7 +51,7 @@ impl NetMaker {
         }
     }
 
-    /// What holds of every maker, for whoever has to show it.
+    /// The invariant of every maker.
     pub fn lawful(&self)
         ensures in_order { IsStrictlySortedBy name_cmp (map (λ a. a.name) self.now.agents) }
         ensures numbered { IsStrictlySortedBy nat_cmp (map (λ f. f.0) self.now.frees) }

@@ -51,7 +51,7 @@ impl<'a> NetView<'a> {
         }
     }
 
-    /// What holds of every net, for whoever has to show it.
+    /// The invariant of every net.
     pub fn lawful(&self)
         ensures listing { IsListing self.now }
         ensures few_agents { length self.now.agents < 2 ^ 32 }
