@@ -1,5 +1,5 @@
 -- The wires of a listed net, each once.
-use Rattle.std.proofs.Common.{◌≡◌, ℕ, zero, suc, ◌+◌, ◌<◌, Bool, true, false, List, [], ◌∷◌, ◌++◌, length, map, filter, ◌⊎◌, inl, inr, refl, sym, ap, subst, ◌∙◌, arith, Option, Some, None, eqb, eq-eqb, if◌then◌else◌}
+use Rattle.std.proofs.Common.{◌≡◌, ℕ, zero, suc, ◌+◌, Bool, true, false, List, [], ◌∷◌, ◌++◌, length, map, filter, ◌⊎◌, inl, inr, refl, sym, ap, subst, ◌∙◌, arith, Option, Some, None, eqb, eq-eqb, if◌then◌else◌}
 use Rattle.std.specs.Prelude.{slice_get}
 use Rattle.std.specs.List.{flat_map, AllByRecursion}
 use Rattle.std.specs.List.Sorted.{IsStrictlySortedBy}
@@ -14,7 +14,7 @@ use Rattle.ic_name.specs.declared.ports.Port.{Port}
 use Rattle.ic_name.specs.declared.ports.Port.TheVariants.{Of}
 use Rattle.ic_name.specs.declared.ports.Port.TheVariants as port
 use Rattle.ic_name.proofs.NameOrder.{name_less_apart}
-use Rattle.ic_path.specs.Orders.{Pick, here, there, IsIn, IsOnce}
+use Rattle.ic_path.specs.Orders.{here, IsIn, IsOnce}
 use Rattle.ic_path.specs.Rings.{HasEachOnce}
 use Rattle.ic_path.proofs.Picks.{none_in, in_first, in_more, in-cons_cases}
 use Rattle.ic_path.proofs.EachOnce.{once_cons, once_rest, each_once_length}

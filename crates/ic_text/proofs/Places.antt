@@ -89,6 +89,12 @@ module _ (xs : List AgentView) (n : Name) (s : IsStrictlySortedBy name_cmp (name
       let found : agent_among x.name.now (map shown_agent xs) ≡ Some (shown_agent x) = found_at (map shown_agent xs) k (shown_agent x) s at_k in
       at_k ∙ sym (subst (λ m. agent_among m (map shown_agent xs) ≡ Some (shown_agent x)) (name_tied x.name.now n tied) found)
 
+  -- an agent of this name at a place is the one that is found
+  pub stands_at : (k : ℕ) (d : AgentView) → k < length xs → (get_or xs k d).name.now ≡ n → slice_get (map shown_agent xs) k ≡ agent_among n (map shown_agent xs)
+  stands_at k d low named =
+      let at_k : slice_get (map shown_agent xs) k ≡ Some (shown_agent (get_or xs k d)) = slice_get-map shown_agent xs k ∙ ap (option_map shown_agent) (slice_get-get_or xs k d low) in
+      at_k ∙ sym (subst (λ m. agent_among m (map shown_agent xs) ≡ Some (shown_agent (get_or xs k d))) named (found_at (map shown_agent xs) k (shown_agent (get_or xs k d)) s at_k))
+
   -- an agent of this name is in neither part where a search has missed it
   missed : (k : ℕ) → IsPartitionPoint (λ (y : AgentView). name_cmp y.name.now n ≡ Less) (λ (y : AgentView). name_cmp y.name.now n ≡ Greater) xs k → (a : NetAgent) → agent_among n (map shown_agent xs) ≡ Some a → ⊥
   missed k parts a found =
