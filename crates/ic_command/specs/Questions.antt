@@ -3,7 +3,7 @@ use Rattle.std.specs.Prelude.{◌≡◌, ℕ, true, List, [], ◌∷◌, codes, 
 use Rattle.std.specs.Io.BufRead.{strip_last}
 use Rattle.ic_name.specs.Events.{Pair}
 use Rattle.ic_command.specs.declared.question.Question.{Question}
-use Rattle.ic_command.specs.declared.question.Question.TheVariants.{Agents, Causes, Dependents, History, Marks, Rules, Help, Step, Unstep}
+use Rattle.ic_command.specs.declared.question.Question.TheVariants.{Agents, Causes, Dependents, History, Marks, Rules, Help, Step, Steps, Unstep}
 use Rattle.ic_command.specs.Commands.{AreAgents, IsNumber, is_well_formed}
 use Rattle.ic_command.specs.Words.{words}
 
@@ -16,6 +16,7 @@ pub data AsksQuestion : List (List ℕ) → Question → Type 0 where
   rules : AsksQuestion (codes "rules" ∷ []) Rules
   help : AsksQuestion (codes "help" ∷ []) Help
   step : AsksQuestion (codes "step" ∷ []) Step
+  step_often : {w : List ℕ} {n : ℕ} → IsNumber w n → AsksQuestion (codes "step" ∷ w ∷ []) (Steps n)
   unstep : AsksQuestion (codes "unstep" ∷ []) (Unstep 1)
   unstep_often : {w : List ℕ} {n : ℕ} → IsNumber w n → AsksQuestion (codes "unstep" ∷ w ∷ []) (Unstep n)
   dependents : {ws : List (List ℕ)} {e : Pair} → AreAgents ws e → AsksQuestion (codes "dependents" ∷ ws) (Dependents e)

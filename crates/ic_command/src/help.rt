@@ -4,6 +4,7 @@ agents: tell which printed line is which agent's
 active: list the active pairs
 fire A B: fire the active pair of the agents A and B, such as fire 0 1
 step: fire the active pair with the least lead
+step N: fire up to N active pairs, each time the one with the least lead
 reduce N: fire up to N active pairs
 undo A B: undo the event of A and B, if no other rests on it
 unwind A B: undo the event of A and B and all that rests on it

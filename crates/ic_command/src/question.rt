@@ -8,8 +8,8 @@ use ic_name::EventName;
 use ic_name::limits::MAX_LINES;
 use std::alloc::{AllocError, Global};
 
-/// What a line of a session that explains itself may ask beside the requests of any session. Only `Step` and `Unstep`
-/// change something.
+/// What a line of a session that explains itself may ask beside the requests of any session. Only `Step`, `Steps`
+/// and `Unstep` change something.
 #[derive(Drop)]
 pub enum Question {
     /// Which line of the printed net is which agent's.
@@ -28,6 +28,8 @@ pub enum Question {
     Help,
     /// To fire the active pair with the least lead.
     Step,
+    /// To fire the active pair with the least lead, at most so many times.
+    Steps(u32),
     /// To undo the event that was fired last, at most so many times.
     Unstep(u32),
 }
@@ -58,6 +60,12 @@ fn question_in(alloc: Global, body: &[u8]) -> Result<Option<Question>, AllocErro
     if word == b"dependents".as_slice() {
         return match event_in(alloc, behind)? {
             Some(event) => Ok(Some(Question::Dependents(event))),
+            None => Ok(None),
+        };
+    }
+    if word == b"step".as_slice() {
+        return match number_in(alloc, behind, MAX_LINES as u32)? {
+            Some(most) => Ok(Some(Question::Steps(most))),
             None => Ok(None),
         };
     }
