@@ -13,15 +13,16 @@ use Rattle.ic_journal.proofs.LeastFired.{normal_at}
 use Rattle.ic_command.specs.declared.command.Command.TheVariants.{Fire}
 use Rattle.ic_command.specs.declared.help.TheConstants.{HELP}
 use Rattle.ic_command.specs.declared.question.Question.{Question}
-use Rattle.ic_command.specs.declared.question.Question.TheVariants.{Marks, Rules, Help, Step, Unstep}
+use Rattle.ic_command.specs.declared.question.Question.TheVariants.{Marks, Rules, Help, Step, Steps, Unstep}
 use Rattle.ic_command.specs.declared.request.Request.TheVariants.{Bench}
 use Rattle.ic_desk.specs.BenchQuestions.{InformsOf, rules}
 use Rattle.ic_desk.specs.LastFired.{UnstepsBench}
+use Rattle.ic_desk.specs.Stepping.{StepsBench}
 use Rattle.ic_desk.specs.Texts.{answer_text, refusal_text}
 use Rattle.ic_desk.specs.declared.answer.Answer.{Answer}
 use Rattle.ic_desk.specs.declared.answer.refused.Refused.TheVariants.{NotActive, Memory}
 use Rattle.ic_desk.specs.declared.answer.rules.TheConstants.{RULES}
-use Rattle.ic_desk.specs.Questions.{Told, marks_text, of_bench, marks, help, stepped, nothing_active, unstepped, memory}
+use Rattle.ic_desk.specs.Questions.{Told, marks_text, of_bench, marks, help, stepped, nothing_active, stepped_often, unstepped, memory}
 use Rattle.ic_desk.specs.Replies.{RepliesToRequest}
 use Rattle.ic_desk.specs.Views.{DeskView, NamedView, TurnsByRequest, note_of}
 
@@ -88,6 +89,15 @@ step_told old new e p text least is t = record {
       (r.0, stepped (least st.bench at.bench) (subst (λ n. RepliesToRequest old.bench.start st (Bench (Fire n)) text r.0) is r.1), r.2)
       );
 }
+
+-- the active pair with the least lead is fired, again and again
+pub steps_told : (d : DeskView) (v new : BenchView) (ms : List NamedView) (q : Question) (most : ℕ) (text : List ℕ) → record { bench = v; marks = ms } ≡ d → q ≡ Steps most
+    → StepsBench v most text new → Told d q text (record { bench = new; marks = ms })
+steps_told d v new ms q most text same is u =
+    subst (λ k. Told d k text (record { bench = new; marks = ms })) (sym is) (subst (λ e. Told e (Steps most) text (record { bench = new; marks = ms })) same (record {
+      start = u.start;
+      tells = λ st at. (let r = u.replies st.bench at.bench in (record st { bench = r.0 }, stepped_often r.1, record { bench = r.2; marks = at.marks }));
+    }))
 
 -- what was fired last is undone
 pub unstep_told : (d : DeskView) (v new : BenchView) (ms : List NamedView) (q : Question) (most : ℕ) (text : List ℕ) → record { bench = v; marks = ms } ≡ d → q ≡ Unstep most

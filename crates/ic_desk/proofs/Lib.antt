@@ -32,6 +32,8 @@ pub mod HistoryLines
 pub mod FiredBefore
 pub mod LastEvents
 pub mod UnstepReplies
+pub mod SteppedEvents
+pub mod StepReplies
 pub mod UntoldTurns
 pub use Rattle.ic_undo.proofs.Backs
 pub use Rattle.ic_undo.proofs.PairTests

@@ -17,5 +17,7 @@ pub mod Ends
 pub mod Turns
 pub mod Longer
 pub mod Unstepped
+pub mod Stepped
+pub mod Stepping
 pub mod LastFired
 pub use Rattle.ic_undo.specs.Absorbing

@@ -11,13 +11,14 @@ use Rattle.ic_journal.specs.Reducing.{IsLeastActive, IsNormal}
 use Rattle.ic_command.specs.declared.command.Command.TheVariants.{Fire}
 use Rattle.ic_command.specs.declared.help.TheConstants.{HELP}
 use Rattle.ic_command.specs.declared.question.Question.{Question}
-use Rattle.ic_command.specs.declared.question.Question.TheVariants.{Marks, Help, Step, Unstep}
+use Rattle.ic_command.specs.declared.question.Question.TheVariants.{Marks, Help, Step, Steps, Unstep}
 use Rattle.ic_command.specs.declared.request.Request.TheVariants.{Bench}
 use Rattle.ic_desk.specs.BenchQuestions.{Informs}
 use Rattle.ic_desk.specs.Texts.{refusal_text}
 use Rattle.ic_desk.specs.declared.answer.refused.Refused.TheVariants.{NotActive, Memory}
 use Rattle.ic_desk.specs.Desks.{Noted, State}
 use Rattle.ic_desk.specs.Replies.{RepliesToRequest}
+use Rattle.ic_desk.specs.Stepped.{StepsOften}
 use Rattle.ic_desk.specs.Unstepped.{Unsteps}
 use Rattle.ic_desk.specs.Views.{DeskView, IsDeskAt}
 
@@ -30,13 +31,14 @@ abbrev pub marks_text : List Noted → List ℕ
 marks_text xs = codes "marks " ++ decimal (length xs) ++ codes "\n" ++ flat_map mark_line xs
 
 -- What is told in answer to a question, and the state after it: the same, but for a step, which fires the active pair with
--- the least lead, and an unstep, which undoes what was fired last.
+-- the least lead, for many of them, and for an unstep, which undoes what was fired last.
 pub data Tells (s : Start) (st : State) : Question → List ℕ → State → Type 0 where
   of_bench : {q : Question} {text : List ℕ} → Informs s st.bench q text → Tells s st q text st
   marks : {xs : List Noted} → Alike xs st.marks → Tells s st Marks (marks_text xs) st
   help : Tells s st Help HELP.now st
   stepped : {e : Event} {text : List ℕ} {next : State} → IsLeastActive s (events st.bench) e → RepliesToRequest s st (Bench (Fire (pair e))) text next → Tells s st Step text next
   nothing_active : IsNormal s (events st.bench) → Tells s st Step (refusal_text NotActive) st
+  stepped_often : {most : ℕ} {text : List ℕ} {next : machine.State} → StepsOften s st.bench most text next → Tells s st (Steps most) text (record st { bench = next })
   unstepped : {most : ℕ} {text : List ℕ} {next : machine.State} → Unsteps s st.bench most text next → Tells s st (Unstep most) text (record st { bench = next })
   memory : {q : Question} → Tells s st q (refusal_text Memory) st
 

@@ -6,7 +6,8 @@ ghost use Rattle.ic_desk.specs.Questions.{Told, mark_line, marks_text};
 ghost use Rattle.ic_desk.specs.Views.{note_of};
 
 use crate::answer::{
-    Answer, RULES, Refused, tell_agents, tell_causes, tell_dependents, tell_history, unstep,
+    Answer, RULES, Refused, step_often, tell_agents, tell_causes, tell_dependents, tell_history,
+    unstep,
 };
 use crate::desk::Desk;
 use crate::named_mark::NamedMark;
@@ -15,9 +16,10 @@ use ic_journal::{LinkStore, NoGate};
 use std::alloc::{AllocError, Global};
 
 impl<L: LinkStore> Desk<L> {
-    /// Answers a question. Two questions change something: a step fires the active pair with the least lead as `fire` does,
-    /// and an unstep undoes the event that was fired last as `undo` does. If there is no memory for it, the answer is a
-    /// refusal, and then nothing has changed; an error only where the history has grown and there is no memory for the answer.
+    /// Answers a question. Three questions change something: a step fires the active pair with the least lead as `fire`
+    /// does, steps do so again and again, and an unstep undoes the event that was fired last as `undo` does. If there is no
+    /// memory for it, the answer is a refusal, and then nothing has changed; an error only where the history has grown and
+    /// there is no memory for the answer.
     pub fn tell(&mut self, alloc: Global, question: Question) -> Result<Answer, AllocError>
         ensures told { IfOk result (λ answer. Told self.old question (answer_text answer) self.new) }
         ensures grown { OnErr result (HasGrown self.old.bench self.new.bench) }
@@ -35,6 +37,7 @@ impl<L: LinkStore> Desk<L> {
             Question::Rules => Ok(Answer::text_or_memory(Vec::from_slice(alloc, RULES.as_bytes()))),
             Question::Help => Ok(Answer::text_or_memory(Vec::from_slice(alloc, HELP.as_bytes()))),
             Question::Step => self.step(alloc),
+            Question::Steps(most) => Ok(step_often(alloc, &mut self.bench, most)),
             Question::Unstep(most) => Ok(unstep(alloc, &mut self.bench, most)),
         }
     }

@@ -4,7 +4,7 @@ use Rattle.std.proofs.lemmas.Result.{IfOk-weaker}
 use Rattle.ic_command.specs.declared.question.Question.TheVariants.{Agents, Causes, Dependents, History}
 use Rattle.ic_desk.specs.Views.{DeskView}
 use Rattle.ic_desk.proofs.DeskTurns.{desk_still}
-use Rattle.ic_desk.proofs.DeskTellings.{bench_text, bench_answer, marks_told, rules_told, help_told, unstep_told}
+use Rattle.ic_desk.proofs.DeskTellings.{bench_text, bench_answer, marks_told, rules_told, help_told, steps_told, unstep_told}
 use Rattle.ic_desk.proofs.desk.Desk.tell.Goals as goal
 
 pub returns-in-Agents-clause-told : goal.returns-in-Agents-clause-told
@@ -29,7 +29,14 @@ pub returns-in-Help-clause-told : goal.returns-in-Help-clause-told
 returns-in-Help-clause-told g c = help_told c.args.self.now c.args.question _ c.from_slice-in-Help.result c.in-Help.is (IfOk-weaker c.from_slice-in-Help.result _ _ (λ t e. e ∙ c.as_bytes-in-Help.ensures.value) c.from_slice-in-Help.ensures.items) c.text_or_memory-in-Help.ensures.text c.text_or_memory-in-Help.ensures.memory
 
 pub invariant_of-self : goal.invariant_of-self
-invariant_of-self g c = desk_still c.self-in-Unstep.inside.bench c.unstep.new.bench c.self-in-Unstep.inside.marks.items c.self-in-Unstep.invariant c.unstep.ensures.turns.start c.unstep.ensures.lines
+invariant_of-self g c = desk_still c.self-in-Steps.inside.bench c.step_often.new.bench c.self-in-Steps.inside.marks.items c.self-in-Steps.invariant c.step_often.ensures.turns.start c.step_often.ensures.lines
+
+pub returns-in-Steps-clause-told : goal.returns-in-Steps-clause-told
+returns-in-Steps-clause-told g c =
+    steps_told c.args.self.now c.self-in-Steps.inside.bench c.step_often.new.bench c.self-in-Steps.inside.marks.items c.args.question c.in-Steps.most _ c.self-in-Steps.view_is c.in-Steps.is c.step_often.ensures.turns
+
+pub invariant_of-self-in-Unstep : goal.invariant_of-self-in-Unstep
+invariant_of-self-in-Unstep g c = desk_still c.self-in-Unstep.inside.bench c.unstep.new.bench c.self-in-Unstep.inside.marks.items c.self-in-Unstep.invariant c.unstep.ensures.turns.start c.unstep.ensures.lines
 
 pub returns-in-Unstep-clause-told : goal.returns-in-Unstep-clause-told
 returns-in-Unstep-clause-told g c =
