@@ -1,8 +1,6 @@
 -- What firing the active pair with the least lead again and again answers.
-use Rattle.std.proofs.Common.{◌≡◌, ◌≢◌, ℕ, ◌+◌, ◌<◌, ◌≤◌, List, [], ◌∷◌, ◌++◌, length, refl, sym, ap, ap₂, subst, append_assoc, append-nil, arith, ◌∙◌}
-use Rattle.std.specs.Prelude.{codes, vec_capacity, vec_len}
-use Rattle.std.specs.Fmt.{decimal}
-use Rattle.std.specs.List.{flat_map}
+use Rattle.std.proofs.Common.{◌≡◌, ℕ, ◌+◌, ◌<◌, ◌≤◌, List, [], ◌∷◌, ◌++◌, length, refl, sym, ap, ap₂, subst, append-nil, arith, ◌∙◌}
+use Rattle.std.specs.Prelude.{vec_capacity, vec_len}
 use Rattle.std.proofs.lemmas.List.{length-append}
 use Rattle.std.proofs.lemmas.List.Concat.{flat_map-append}
 use Rattle.ic_name.specs.Events.{Event}
@@ -11,13 +9,12 @@ use Rattle.ic_theory.specs.Active.{IsActive}
 use Rattle.ic_theory.specs.Machine.{State, events}
 use Rattle.ic_set.specs.Views.{standing}
 use Rattle.ic_journal.specs.Views.{BenchView, set_of}
-use Rattle.ic_journal.specs.Benches.{IsAt}
 use Rattle.ic_journal.specs.Reducing.{IsNormal}
 use Rattle.ic_journal.proofs.LeastFired.{normal_at}
 use Rattle.ic_desk.specs.declared.answer.listing.Listing.{Listing}
 use Rattle.ic_desk.specs.declared.answer.refused.Refused.{Refused}
 use Rattle.ic_desk.specs.declared.answer.refused.Refused.TheVariants as refused
-use Rattle.ic_desk.specs.Stepped.{AreStepped, none, more, RefusesNext, StopsAfter, enough, none_active, next_refused, stepped_head, stepped_text, StepsOften, stepped, first_refused, memory}
+use Rattle.ic_desk.specs.Stepped.{AreStepped, none, more, RefusesNext, enough, none_active, next_refused, stepped_head, stepped_text, StepsOften, stepped, first_refused, memory}
 use Rattle.ic_desk.specs.Stepping.{Lists, HasStepped, HasRefused, StepsBench}
 use Rattle.ic_desk.specs.Texts.{event_line, refusal_text}
 

@@ -1,5 +1,5 @@
 -- Active pairs that a bench fires in turn, fired in turn by the machine.
-use Rattle.std.proofs.Common.{◌≡◌, ◌<◌, List, [], ◌∷◌, ◌++◌, length, Err, refl, sym, ap, subst, append_assoc, append-nil, ◌∙◌}
+use Rattle.std.proofs.Common.{◌≡◌, List, [], ◌∷◌, ◌++◌, Err, refl, sym, ap, subst, append_assoc, append-nil, ◌∙◌}
 use Rattle.ic_name.specs.Events.{Event}
 use Rattle.ic_name.specs.declared.lines.Call.{Call}
 use Rattle.ic_name.specs.declared.lines.Call.TheVariants.{Fire}
@@ -11,16 +11,15 @@ use Rattle.ic_theory.proofs.Machines.{history_length}
 use Rattle.ic_set.specs.Pairs.{IsLeastPair}
 use Rattle.ic_set.specs.declared.pairs.ActivePair.{ActivePair}
 use Rattle.ic_journal.specs.Views.{BenchView, set_of}
-use Rattle.ic_journal.specs.Benches.{IsAt, IsBench}
+use Rattle.ic_journal.specs.Benches.{IsBench}
 use Rattle.ic_journal.specs.Calls.{Steps, FiresPair}
 use Rattle.ic_journal.specs.declared.faults.PairFault.{PairFault}
 use Rattle.ic_journal.specs.declared.faults.PairFault.TheVariants as fault
 use Rattle.ic_journal.proofs.BenchSteps.{still_at, line_left}
 use Rattle.ic_journal.proofs.LeastFired.{IsLeastAt, least_at}
-use Rattle.ic_desk.specs.declared.answer.refused.Refused.{Refused}
 use Rattle.ic_desk.specs.declared.answer.refused.Refused.TheVariants as refused
 use Rattle.ic_desk.specs.Longer.{IsLonger}
-use Rattle.ic_desk.specs.Stepped.{AreStepped, none, more, RefusesNext, history_full, deep, full, no_memory}
+use Rattle.ic_desk.specs.Stepped.{AreStepped, none, more, history_full, deep, full, no_memory}
 use Rattle.ic_desk.specs.Stepping.{HasStepped, HasRefused, refusal_of}
 
 -- some events are fired, and then others
