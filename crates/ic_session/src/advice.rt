@@ -6,7 +6,7 @@ use crate::topics::Topic;
 /// refused by.
 pub(crate) fn advice(topic: Topic, number: u8) -> Option<&'static str> {
     match number {
-        21 if topic == Topic::Alone => Some("no pair is active, so there is nothing to fire"),
+        21 if topic == Topic::Number => Some("no pair is active, so there is nothing to fire"),
         21 => Some(
             "the two agents aren't both there with their principal ports joined; active lists the pairs that can fire",
         ),

@@ -20,16 +20,16 @@ pub(crate) enum Topic {
 }
 
 /// The words that stand alone.
-const ALONE: [&str; 12] = [
+const ALONE: [&str; 11] = [
     "net", "active", "journal", "undo-all", "agents", "causes", "history", "marks", "rules",
-    "help", "step", "quit",
+    "help", "quit",
 ];
 
 /// The words that have the names of two agents behind them.
 const PAIRED: [&str; 5] = ["fire", "undo", "why", "unwind", "dependents"];
 
 /// The words that have a number behind them.
-const COUNTED: [&str; 2] = ["reduce", "unstep"];
+const COUNTED: [&str; 3] = ["reduce", "step", "unstep"];
 
 /// The words that have the name of a mark behind them.
 const MARKED: [&str; 2] = ["mark", "back"];
