@@ -38,15 +38,7 @@ pub(crate) fn wrong_in(
             None => Ok(None),
         },
         Topic::Pair => wrong_pair(alloc, behind),
-        Topic::Number => match next_word(behind) {
-            Some((word, _)) => said_of(
-                alloc,
-                "",
-                word,
-                " isn't one number from 0 to 1048576 without leading zeros",
-            ),
-            None => Ok(None),
-        },
+        Topic::Number => wrong_number(alloc, behind),
         Topic::Mark | Topic::List | Topic::TooLong => Ok(None),
     }
 }
@@ -54,6 +46,27 @@ pub(crate) fn wrong_in(
 /// Whether a command may have the byte.
 fn is_typed(byte: u8) -> bool {
     matches!(byte, b' '..=b'~' | b'\t')
+}
+
+/// What is wrong with the number that should stand there.
+fn wrong_number(alloc: Global, behind: &[u8]) -> Result<Option<String>, AllocError> {
+    let Some((number, rest)) = next_word(behind) else {
+        return Ok(None);
+    };
+    match next_word(rest) {
+        Some((word, _)) if number.iter().all(|byte| byte.is_ascii_digit()) => said_of(
+            alloc,
+            "nothing may stand after the number; found ",
+            word,
+            "",
+        ),
+        _ => said_of(
+            alloc,
+            "",
+            number,
+            " isn't one number from 0 to 1048576 without leading zeros",
+        ),
+    }
 }
 
 /// What is wrong with the two names that should stand there.
