@@ -1,4 +1,4 @@
-ghost use Rattle.std.specs.Prelude.{◌≡◌, ◌+◌, ◌<◌, ◌≤◌, ℕ, [], All, IfErr, IfOk, replicate, vec_len, vec_capacity};
+ghost use Rattle.std.specs.Prelude.{◌≡◌, ◌+◌, ◌<◌, ◌≤◌, ℕ, [], All, IfErr, IfOk, max, replicate, vec_len, vec_capacity};
 ghost use Rattle.ic_claim.specs.Views.{new_view};
 ghost use Rattle.ic_journal.specs.Reduced.{Reduces};
 ghost use Rattle.ic_shared.specs.Passes.{empty_pass};
@@ -26,7 +26,10 @@ use std::thread::Threads;
 
 /// Fires active pairs on a bench by so many workers, 1 to `MAX_WORKERS` of them, of which the first one is the caller; at
 /// most as many events as the budget says, which is at most `MAX_BUDGET`. What the workers leave of the budget is fired
-/// in the order of one worker. No more workers run than the caller and one for each pair that is active before that.
+/// in the order of one worker.
+///
+/// As many workers are started as were asked for, but no more than the budget says, and the caller even if it says 0. A worker
+/// whose thread can't be started is left out, and `ran` counts the others.
 ///
 /// The start stays, and so does all that stood; just the events that are counted are new (Lafont 1997). The end is
 /// `Normal` exactly where no pair is active any more, and then each sound set over the start is a part of what stands,
@@ -48,13 +51,13 @@ pub fn sweep<G: Gate, R: Threads + Wait + Sync>(
     requires workers { (0 < workers) × (workers ≤ MAX_WORKERS) }
     requires budget { budget ≤ MAX_BUDGET }
     ensures swept { IfOk result (λ s. Sweeps bench budget s.fired s.end s.bench) }
-    ensures ran { IfOk result (λ s. (0 < s.ran) × (s.ran ≤ workers)) }
+    ensures ran { IfOk result (λ s. (0 < s.ran) × (s.ran ≤ workers) × (s.ran ≤ max budget 1)) }
     ensures fault { IfErr result (λ f. IsGivenBack bench f) }
 {
     let Ok(leads) = bench.leads() else {
         return Err(SweepFault::Memory(bench));
     };
-    let workers = workers.min(useful(leads.len(), budget));
+    let workers = workers.min(budget.max(1));
     sweep_as::<Brand, G, R>(
         rt,
         alloc,
@@ -65,14 +68,6 @@ pub fn sweep<G: Gate, R: Threads + Wait + Sync>(
         budget,
         gate,
     )
-}
-
-/// How many workers are of use where there are so many hints: the caller, and one for each of these that may be followed.
-fn useful(hints: usize, budget: u32) -> u32
-    requires { budget ≤ MAX_BUDGET }
-    ensures { 0 < result }
-{
-    hints.min(budget as usize) as u32 + 1
 }
 
 /// How many events each of so many workers fires under one lock, at most: so few that none holds much of the budget.

@@ -123,11 +123,22 @@ fn nothing_is_fired_where_nothing_is_active(rt: HostRuntime) -> Result<(), Fail>
 }
 
 #[test]
-fn one_pair_takes_one_thread_at_most(rt: HostRuntime) -> Result<(), Fail> {
-    let Some(told) = outcome_of(&rt, rt.alloc(), b"E = E;", 64, 1_000) else {
-        return Err("a sweep that settles".into());
-    };
-    assert!(rt; told.fired == 1 && told.end == End::Normal && told.ran <= 2);
+fn as_many_workers_run_as_were_asked_for_but_no_more_than_the_budget(
+    rt: HostRuntime,
+) -> Result<(), Fail> {
+    for (workers, budget, ran) in [
+        (1, 1_000, 1),
+        (3, 1_000, 3),
+        (64, 1_000, 64),
+        (64, 5, 5),
+        (64, 1, 1),
+        (64, 0, 1),
+    ] {
+        let Some(told) = outcome_of(&rt, rt.alloc(), b"E = E;", workers, budget) else {
+            return Err("a sweep that settles".into());
+        };
+        assert!(rt; told.ran == ran, "{workers} workers, budget {budget}");
+    }
     Ok(())
 }
 
