@@ -88,6 +88,7 @@ sweeps old mid new budget by_workers left by_one end bench bench' fired shared r
           by_one = by_one;
           mid = one.0;
           firings = one.1;
+          few = fired.few;
           rest = subst (λ s. IsReduced s one.0 left by_one end two.0) fired.start two.1;
           shared_out = shared;
           together = refl;

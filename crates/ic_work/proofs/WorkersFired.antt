@@ -65,20 +65,25 @@ workers_fired old new budget n lines passes bench bench' agrees all few = record
     count = (let at = bench.running.at in count_fired (from bench.running.state at).firings ∙ counted bench.running.state at);
   };
   extends = (let x = from bench.running.state bench.running.at in subst (λ c. Extends old c new) (counted _ bench.running.at) (extends_from _ bench.running.at));
+  few = few_added;
   within = (
       let at = bench.running.at in
       let x = from bench.running.state at in
       let f = few_fired x.firings in
       let c = counted bench.running.state at in
-      let a = agrees.added in
-      let b = agrees.counted in
-      let l : length new.lines ≡ length old.lines + length added = ap length agrees.opened ∙ length-append old.lines added in
-      omega arith);
+      omega (arith, f, c, few_added));
   fired = λ st at. (let x = from st at in (x.next, subst (λ c. AreFirings old.start added c st x.next) (counted st at) x.firings, x.at));
 }
   where
     added : List Line
     added = drop (length old.lines) new.lines
+
+    few_added : length added ≤ budget
+    few_added =
+        let a = agrees.added in
+        let b = agrees.counted in
+        let l : length new.lines ≡ length old.lines + length added = ap length agrees.opened ∙ length-append old.lines added in
+        omega (arith, a, b, l, few)
 
     fires : (l : Line) → IsIn l added → IsFire l.call
     fires = lines_fire new.names (length old.lines) added passes agrees.settled all

@@ -21,7 +21,8 @@ use Rattle.ic_work.specs.declared.swept.SweepFault.{SweepFault}
 use Rattle.ic_work.specs.declared.swept.SweepFault.TheVariants as fault
 use Rattle.ic_work.specs.Firings.{AreFirings}
 
--- the workers fire events in some order, and what they leave of the budget is fired in the order of one worker
+-- the workers make calls to fire events in some order, at most as many as the budget says, and what they leave of the budget
+-- is fired in the order of one worker
 pub record IsSwept (s : Start) (st : State) (budget fired : ℕ) (end : End) (next : State) : Type 0 where
   pub lines : List Line
   pub by_workers : ℕ
@@ -29,6 +30,7 @@ pub record IsSwept (s : Start) (st : State) (budget fired : ℕ) (end : End) (ne
   pub by_one : ℕ
   pub mid : State
   pub firings : AreFirings s lines by_workers st mid
+  pub few : length lines ≤ budget
   pub rest : IsReduced s mid left by_one end next
   pub shared_out : budget ≡ by_workers + left
   pub together : fired ≡ by_workers + by_one
