@@ -17,6 +17,7 @@ use Rattle.ic_journal.specs.declared.reducing.end.End.TheVariants.{Normal, Budge
 use Rattle.ic_journal.specs.Continuing.{Continues}
 use Rattle.ic_journal.specs.Reduced.{IsReduced}
 use Rattle.ic_journal.specs.Reducing.{IsNormal, IsLeastActive}
+use Rattle.ic_shared.specs.declared.faults.SettleFault.TheVariants.{Mismatch, Missing}
 use Rattle.ic_work.specs.declared.swept.SweepFault.{SweepFault}
 use Rattle.ic_work.specs.declared.swept.SweepFault.TheVariants as fault
 use Rattle.ic_work.specs.Firings.{AreFirings}
@@ -72,7 +73,8 @@ pub record Sweeps (old : BenchView) (budget fired : ℕ) (end : End) (new : Benc
   pub whole : end ≡ Normal → HasAll new
   pub swept : (st : State) → IsAt old st → (next : State) × IsSwept old.start st budget fired end next × IsAt new next
 
--- the bench comes back as it was, where memory is wanting
+-- the bench comes back: as it was, where memory is wanting, else with all its lines and perhaps more; no pass is missing
 abbrev pub IsGivenBack : BenchView → SweepFault → Type 0
 IsGivenBack old (fault.Memory bench) = bench ≡ old
-IsGivenBack old (fault.Settle f) = Unit {0}
+IsGivenBack old (fault.Settle (Mismatch number bench)) = length old.lines ≤ length bench.lines
+IsGivenBack old (fault.Settle (Missing bench)) = ⊥
