@@ -7,6 +7,7 @@ use Rattle.std.specs.Borrow.{Bor}
 use Rattle.std.specs.Str.Parse.{ParsesUnsigned}
 use Rattle.std.proofs.lemmas.Slice.Eq.{bytes_eq-Decides}
 use Rattle.std.proofs.lemmas.List.Elements.{All-get_or}
+use Rattle.std.proofs.lemmas.List.{length-map}
 use Rattle.clap.specs.Facts.{Entry, EntryPasses, HasReading, PassesArg, args_of, groups_of, parser_of_value}
 use Rattle.clap.specs.Built.{IsAuto, IsParsedFrom, IsPlain, SameRules}
 use Rattle.clap.specs.Matches.{ReadsOne, found_of, matched_of, one_text}
@@ -23,7 +24,7 @@ use Rattle.clap.specs.declared.builder.value_parser.ValueParser.{ValueParser}
 use Rattle.clap.specs.declared.builder.value_parser.ValueParser.TheVariants.{Signed}
 use Rattle.clap.specs.declared.parser.matches.ArgMatches.{ArgMatches}
 use Rattle.clap.specs.declared.parser.matches.MatchedArg.{MatchedArg}
-use Rattle.ic_bench.specs.CommandLine.{IsChoice, budget_rule, explain_rule, files_rule, icbench, interactive_rule, workers_rule}
+use Rattle.ic_bench.specs.CommandLine.{IsChoice, icbench}
 
 -- the first value, of values of which each has a property
 first_value : (P : Bor (List ℕ) → Type 0) (how : Reading) (vs : List (Bor (List ℕ))) (t : List ℕ) → All P vs
@@ -120,128 +121,59 @@ given_number old m p plain local k d own name id low high width fits parser E G 
         let parsed = only t (Ok read.0) (subst (λ (o : Option ℕ). ReadsOne G t o) read.1 (value t e)) in
         record { number = same ∙ parsed.1; least = rw same read.2; most = rw same read.3 }
 
--- the five arguments of the program
-record FiveArguments (old : Command) : Type 0 where
-  first : Arg
-  second : Arg
-  third : Arg
-  fourth : Arg
-  fifth : Arg
-  are : args_of old ≡ first ∷ second ∷ third ∷ fourth ∷ fifth ∷ []
-  first_rule : rule_of first ≡ workers_rule
-  second_rule : rule_of second ≡ budget_rule
-  third_rule : rule_of third ≡ explain_rule
-  fourth_rule : rule_of fourth ≡ interactive_rule
-  fifth_rule : rule_of fifth ≡ files_rule
+-- the rule of the argument at a place
+rule_at : (xs : List Arg) (j : ℕ) (e : Arg) → rule_of (slice_index_or xs j e) ≡ slice_index_or (map rule_of xs) j (rule_of e)
+rule_at [] j e = refl
+rule_at (x ∷ xs) zero e = refl
+rule_at (x ∷ xs) (suc j) e = rule_at xs j e
 
-five_of : {A B : Type 0} (f : A → B) (xs : List A) (u v w y z : B) → map f xs ≡ u ∷ v ∷ w ∷ y ∷ z ∷ []
-    → (a : A) × (b : A) × (c : A) × (d : A) × (e : A) × (xs ≡ a ∷ b ∷ c ∷ d ∷ e ∷ []) × (f a ≡ u) × (f b ≡ v) × (f c ≡ w) × (f d ≡ y) × (f e ≡ z)
-five_of f [] u v w y z is = cc
-five_of f (a ∷ []) u v w y z is = cc
-five_of f (a ∷ b ∷ []) u v w y z is = cc
-five_of f (a ∷ b ∷ c ∷ []) u v w y z is = cc
-five_of f (a ∷ b ∷ c ∷ d ∷ []) u v w y z is = cc
-five_of f (a ∷ b ∷ c ∷ d ∷ e ∷ []) u v w y z is =
-    (a, b, c, d, e, refl, ap (λ rs. slice_index_or rs 0 u) is, ap (λ rs. slice_index_or rs 1 u) is, ap (λ rs. slice_index_or rs 2 u) is, ap (λ rs. slice_index_or rs 3 u) is, ap (λ rs. slice_index_or rs 4 u) is)
-five_of f (a ∷ b ∷ c ∷ d ∷ e ∷ x ∷ xs) u v w y z is = cc
+-- is that of the program
+program_rule : (old : Command) → app_of old ≡ icbench → (j : ℕ) (e : Arg) → rule_of (slice_index_or (args_of old) j e) ≡ slice_index_or icbench.top.rules j (rule_of e)
+program_rule old shape j e = rule_at (args_of old) j e ∙ ap (λ (a : App). slice_index_or a.top.rules j (rule_of e)) shape
 
-five_arguments : (old : Command) → app_of old ≡ icbench → FiveArguments old
-five_arguments old shape =
-    let five = five_of rule_of (args_of old) workers_rule budget_rule explain_rule interactive_rule files_rule (ap (λ (a : App). a.top.rules) shape) in
-    record { first = five.0; second = five.1; third = five.2; fourth = five.3; fifth = five.4; are = five.5; first_rule = five.6; second_rule = five.7; third_rule = five.8; fourth_rule = five.9; fifth_rule = five.10 }
+-- as many as the program has
+rule_count : (old : Command) → app_of old ≡ icbench → length (args_of old) ≡ 6
+rule_count old shape = sym (length-map (args_of old) rule_of) ∙ ap (λ (a : App). length a.top.rules) shape
 
-first_id : (old : Command) (t : FiveArguments old) (e : Arg) → (slice_index_or (args_of old) 0 e).id.now ≡ codes "workers"
-first_id old t e = subst (λ (xs : List Arg). (slice_index_or xs 0 e).id.now ≡ codes "workers") (sym t.are) (ap (λ (r : Rule). r.id) t.first_rule)
+-- one of the arguments
+an_argument : (xs : List Arg) → length xs ≡ 6 → Arg
+an_argument [] is = absurd (omega (arith, is))
+an_argument (x ∷ xs) is = x
 
-second_id : (old : Command) (t : FiveArguments old) (e : Arg) → (slice_index_or (args_of old) 1 e).id.now ≡ codes "budget"
-second_id old t e = subst (λ (xs : List Arg). (slice_index_or xs 1 e).id.now ≡ codes "budget") (sym t.are) (ap (λ (r : Rule). r.id) t.second_rule)
+-- the first argument alone is called workers
+workers_alone : (j : ℕ) (r : Rule) → j < 6 → bytes_eq (slice_index_or icbench.top.rules j r).id (codes "workers") ≡ true → j ≡ 0
+workers_alone zero r lt same = refl
+workers_alone (suc zero) r lt same = let no : false ≡ true = same in cc
+workers_alone (suc (suc zero)) r lt same = let no : false ≡ true = same in cc
+workers_alone (suc (suc (suc zero))) r lt same = let no : false ≡ true = same in cc
+workers_alone (suc (suc (suc (suc zero)))) r lt same = let no : false ≡ true = same in cc
+workers_alone (suc (suc (suc (suc (suc zero))))) r lt same = let no : false ≡ true = same in cc
+workers_alone (suc (suc (suc (suc (suc (suc j)))))) r lt same = absurd (omega arith)
 
-third_id : (old : Command) (t : FiveArguments old) (e : Arg) → (slice_index_or (args_of old) 2 e).id.now ≡ codes "explain"
-third_id old t e = subst (λ (xs : List Arg). (slice_index_or xs 2 e).id.now ≡ codes "explain") (sym t.are) (ap (λ (r : Rule). r.id) t.third_rule)
+-- and the second alone is called budget
+budget_alone : (j : ℕ) (r : Rule) → j < 6 → bytes_eq (slice_index_or icbench.top.rules j r).id (codes "budget") ≡ true → j ≡ 1
+budget_alone zero r lt same = let no : false ≡ true = same in cc
+budget_alone (suc zero) r lt same = refl
+budget_alone (suc (suc zero)) r lt same = let no : false ≡ true = same in cc
+budget_alone (suc (suc (suc zero))) r lt same = let no : false ≡ true = same in cc
+budget_alone (suc (suc (suc (suc zero)))) r lt same = let no : false ≡ true = same in cc
+budget_alone (suc (suc (suc (suc (suc zero))))) r lt same = let no : false ≡ true = same in cc
+budget_alone (suc (suc (suc (suc (suc (suc j)))))) r lt same = absurd (omega arith)
 
-fourth_id : (old : Command) (t : FiveArguments old) (e : Arg) → (slice_index_or (args_of old) 3 e).id.now ≡ codes "interactive"
-fourth_id old t e = subst (λ (xs : List Arg). (slice_index_or xs 3 e).id.now ≡ codes "interactive") (sym t.are) (ap (λ (r : Rule). r.id) t.fourth_rule)
-
-fifth_id : (old : Command) (t : FiveArguments old) (e : Arg) → (slice_index_or (args_of old) 4 e).id.now ≡ codes "files"
-fifth_id old t e = subst (λ (xs : List Arg). (slice_index_or xs 4 e).id.now ≡ codes "files") (sym t.are) (ap (λ (r : Rule). r.id) t.fifth_rule)
-
-one_of_five : (j : ℕ) → j < 5 → (j ≡ 0) ⊎ (j ≡ 1) ⊎ (j ≡ 2) ⊎ (j ≡ 3) ⊎ (j ≡ 4)
-one_of_five zero lt = inl refl
-one_of_five (suc zero) lt = inr (inl refl)
-one_of_five (suc (suc zero)) lt = inr (inr (inl refl))
-one_of_five (suc (suc (suc zero))) lt = inr (inr (inr (inl refl)))
-one_of_five (suc (suc (suc (suc zero)))) lt = inr (inr (inr (inr refl)))
-one_of_five (suc (suc (suc (suc (suc j))))) lt = absurd (omega arith)
-
--- an id with another first letter than those of the flags that clap adds, and some letter
-named_apart : (id name : List ℕ) → id ≡ name → (slice_index name 0 ≡ 0 → ⊥) → id ≡ [] → ⊥
-named_apart id name is apart empty = apart (ap (λ (t : List ℕ). slice_index t 0) (sym is ∙ empty))
-
--- each of those that take a number is alone in its id
-own_first : (old : Command) (t : FiveArguments old) → IsOwn old 0 t.first
-own_first old t = record {
-  stands = subst (λ (xs : List Arg). 0 < length xs) (sym t.are) (omega arith);
-  alone = λ j e lt same. elim (one_of_five j (subst (λ (xs : List Arg). j < length xs) t.are lt)) [
-    | inl zero_is ↦ zero_is
-    | inr (inl one_is) ↦
-        let here : (slice_index_or (args_of old) j e).id.now ≡ codes "budget" = rw one_is (second_id old t e) in
-        let bad : bytes_eq (codes "budget") (codes "workers") ≡ true = sym (ap₂ bytes_eq here (first_id old t t.first)) ∙ same in
-        cc
-    | inr (inr (inl two_is)) ↦
-        let here : (slice_index_or (args_of old) j e).id.now ≡ codes "explain" = rw two_is (third_id old t e) in
-        let bad : bytes_eq (codes "explain") (codes "workers") ≡ true = sym (ap₂ bytes_eq here (first_id old t t.first)) ∙ same in
-        cc
-    | inr (inr (inr (inl three_is))) ↦
-        let here : (slice_index_or (args_of old) j e).id.now ≡ codes "interactive" = rw three_is (fourth_id old t e) in
-        let bad : bytes_eq (codes "interactive") (codes "workers") ≡ true = sym (ap₂ bytes_eq here (first_id old t t.first)) ∙ same in
-        cc
-    | inr (inr (inr (inr four_is))) ↦
-        let here : (slice_index_or (args_of old) j e).id.now ≡ codes "files" = rw four_is (fifth_id old t e) in
-        let bad : bytes_eq (codes "files") (codes "workers") ≡ true = sym (ap₂ bytes_eq here (first_id old t t.first)) ∙ same in
-        cc
-  ];
-  named = named_apart _ (codes "workers") (first_id old t t.first) (λ e. let bad : 119 ≡ 0 = e in absurd (omega arith));
+-- an argument of this name is the caller's own: the name's first letter is none of those of the flags that clap adds
+own_at : (old : Command) (shape : app_of old ≡ icbench) (k : ℕ) (d : Arg) (name : List ℕ) → k < 6 → (slice_index_or (args_of old) k d).id.now ≡ name
+    → ((j : ℕ) (r : Rule) → j < 6 → bytes_eq (slice_index_or icbench.top.rules j r).id name ≡ true → j ≡ k)
+    → (slice_index name 0 ≡ 0 → ⊥) → (slice_index name 0 ≡ 104 → ⊥) → (slice_index name 0 ≡ 118 → ⊥) → IsOwn old k d
+own_at old shape k d name stands id alone some help version = record {
+  stands = subst (λ n. k < n) (sym (rule_count old shape)) stands;
+  alone = λ j e lt same. alone j (rule_of e) (subst (λ n. j < n) (rule_count old shape) lt)
+      (subst (λ t. bytes_eq t name ≡ true) (ap (λ (r : Rule). r.id) (program_rule old shape j e)) (subst (λ t. bytes_eq (slice_index_or (args_of old) j e).id.now t ≡ true) id same));
+  named = λ empty. some (ap (λ (t : List ℕ). slice_index t 0) (sym id ∙ empty));
   own = λ flag. elim flag [
-    | inl help ↦ let bad : 119 ≡ 104 = ap (λ (t : List ℕ). slice_index t 0) (sym (first_id old t t.first) ∙ help) in absurd (omega arith)
-    | inr version ↦ let bad : 119 ≡ 118 = ap (λ (t : List ℕ). slice_index t 0) (sym (first_id old t t.first) ∙ version) in absurd (omega arith)
+    | inl asks ↦ help (ap (λ (t : List ℕ). slice_index t 0) (sym id ∙ asks))
+    | inr asks ↦ version (ap (λ (t : List ℕ). slice_index t 0) (sym id ∙ asks))
   ];
 }
-
-own_second : (old : Command) (t : FiveArguments old) → IsOwn old 1 t.second
-own_second old t = record {
-  stands = subst (λ (xs : List Arg). 1 < length xs) (sym t.are) (omega arith);
-  alone = λ j e lt same. elim (one_of_five j (subst (λ (xs : List Arg). j < length xs) t.are lt)) [
-    | inl zero_is ↦
-        let here : (slice_index_or (args_of old) j e).id.now ≡ codes "workers" = rw zero_is (first_id old t e) in
-        let bad : bytes_eq (codes "workers") (codes "budget") ≡ true = sym (ap₂ bytes_eq here (second_id old t t.second)) ∙ same in
-        cc
-    | inr (inl one_is) ↦ one_is
-    | inr (inr (inl two_is)) ↦
-        let here : (slice_index_or (args_of old) j e).id.now ≡ codes "explain" = rw two_is (third_id old t e) in
-        let bad : bytes_eq (codes "explain") (codes "budget") ≡ true = sym (ap₂ bytes_eq here (second_id old t t.second)) ∙ same in
-        cc
-    | inr (inr (inr (inl three_is))) ↦
-        let here : (slice_index_or (args_of old) j e).id.now ≡ codes "interactive" = rw three_is (fourth_id old t e) in
-        let bad : bytes_eq (codes "interactive") (codes "budget") ≡ true = sym (ap₂ bytes_eq here (second_id old t t.second)) ∙ same in
-        cc
-    | inr (inr (inr (inr four_is))) ↦
-        let here : (slice_index_or (args_of old) j e).id.now ≡ codes "files" = rw four_is (fifth_id old t e) in
-        let bad : bytes_eq (codes "files") (codes "budget") ≡ true = sym (ap₂ bytes_eq here (second_id old t t.second)) ∙ same in
-        cc
-  ];
-  named = named_apart _ (codes "budget") (second_id old t t.second) (λ e. let bad : 98 ≡ 0 = e in absurd (omega arith));
-  own = λ flag. elim flag [
-    | inl help ↦ let bad : 98 ≡ 104 = ap (λ (t : List ℕ). slice_index t 0) (sym (second_id old t t.second) ∙ help) in absurd (omega arith)
-    | inr version ↦ let bad : 98 ≡ 118 = ap (λ (t : List ℕ). slice_index t 0) (sym (second_id old t t.second) ∙ version) in absurd (omega arith)
-  ];
-}
-
--- their parsers
-first_parser : (old : Command) (t : FiveArguments old) → (slice_index_or (args_of old) 0 t.first).value_parser ≡ Some (Signed (pos 1) (pos 64))
-first_parser old t = subst (λ (xs : List Arg). (slice_index_or xs 0 t.first).value_parser ≡ Some (Signed (pos 1) (pos 64))) (sym t.are) (ap (λ (r : Rule). r.parser) t.first_rule)
-
-second_parser : (old : Command) (t : FiveArguments old) → (slice_index_or (args_of old) 1 t.second).value_parser ≡ Some (Signed (pos 0) (pos 1048576))
-second_parser old t = subst (λ (xs : List Arg). (slice_index_or xs 1 t.second).value_parser ≡ Some (Signed (pos 0) (pos 1048576))) (sym t.are) (ap (λ (r : Rule). r.parser) t.second_rule)
 
 -- the text that an option was given is that of the words
 pub chosen_text : (old : Command) (m : ArgMatches) (words : List Text) (name : List ℕ) → app_of old ≡ icbench → HasMatchesOf (app_of old) words m
@@ -256,9 +188,12 @@ pub workers_chosen : (old : Command) (m : ArgMatches) (words : List Text) → Is
     → (r : Option ℕ) → (one_text (found_of m) (codes "workers") ≡ None → r ≡ None) → ((t : List ℕ) → one_text (found_of m) (codes "workers") ≡ Some t → ReadsOne G t r)
     → (n : ℕ) → n ≡ unwrap_or r 1 → IsChoice 1 1 64 (one_of (codes "workers") (matches_of icbench words)) n
 workers_chosen old m words p plain local shape matches E G only r none value n is =
-    let five = five_arguments old shape in
+    let d = an_argument (args_of old) (rule_count old shape) in
+    let rule = program_rule old shape 0 d in
+    let id : (slice_index_or (args_of old) 0 d).id.now ≡ codes "workers" = ap (λ (r : Rule). r.id) rule in
+    let own = own_at old shape 0 d (codes "workers") (omega arith) id workers_alone (λ e. absurd (omega (arith, e))) (λ e. absurd (omega (arith, e))) (λ e. absurd (omega (arith, e))) in
     subst (λ (o : Option (List ℕ)). IsChoice 1 1 64 o n) (chosen_text old m words (codes "workers") shape matches)
-    (given_number old m p plain local 0 five.first (own_first old five) (codes "workers") (first_id old five five.first) 1 64 8 (omega arith) (first_parser old five) E G only r none value 1 n is (omega arith) (omega arith))
+    (given_number old m p plain local 0 d own (codes "workers") id 1 64 8 (omega arith) (ap (λ (r : Rule). r.parser) rule) E G only r none value 1 n is (omega arith) (omega arith))
 
 -- the budget that the words choose
 pub budget_chosen : (old : Command) (m : ArgMatches) (words : List Text) → IsParsedFrom old m → IsPlain old → (out-Command old).has_globals ≡ false
@@ -267,6 +202,9 @@ pub budget_chosen : (old : Command) (m : ArgMatches) (words : List Text) → IsP
     → (r : Option ℕ) → (one_text (found_of m) (codes "budget") ≡ None → r ≡ None) → ((t : List ℕ) → one_text (found_of m) (codes "budget") ≡ Some t → ReadsOne G t r)
     → (n : ℕ) → n ≡ unwrap_or r 1048576 → IsChoice 1048576 0 1048576 (one_of (codes "budget") (matches_of icbench words)) n
 budget_chosen old m words p plain local shape matches E G only r none value n is =
-    let five = five_arguments old shape in
+    let d = an_argument (args_of old) (rule_count old shape) in
+    let rule = program_rule old shape 1 d in
+    let id : (slice_index_or (args_of old) 1 d).id.now ≡ codes "budget" = ap (λ (r : Rule). r.id) rule in
+    let own = own_at old shape 1 d (codes "budget") (omega arith) id budget_alone (λ e. absurd (omega (arith, e))) (λ e. absurd (omega (arith, e))) (λ e. absurd (omega (arith, e))) in
     subst (λ (o : Option (List ℕ)). IsChoice 1048576 0 1048576 o n) (chosen_text old m words (codes "budget") shape matches)
-    (given_number old m p plain local 1 five.second (own_second old five) (codes "budget") (second_id old five five.second) 0 1048576 32 (omega arith) (second_parser old five) E G only r none value 1048576 n is (omega arith) (omega arith))
+    (given_number old m p plain local 1 d own (codes "budget") id 0 1048576 32 (omega arith) (ap (λ (r : Rule). r.parser) rule) E G only r none value 1048576 n is (omega arith) (omega arith))

@@ -2,4 +2,4 @@ pub mod GivenFiles
 pub mod GivenFlag
 pub mod GivenNumbers
 pub mod RunFacts
-pub mod RunModes
+pub mod RunInputs

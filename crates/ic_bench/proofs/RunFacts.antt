@@ -6,7 +6,7 @@ use Rattle.clap.specs.Words.{Text}
 use Rattle.clap.specs.declared.error.kind.ErrorKind.{ErrorKind}
 use Rattle.ic_session.specs.Sessions.{NamesFault}
 use Rattle.ic_session.specs.declared.fault.Fault.TheVariants.{Read, Write, Memory, Settle}
-use Rattle.ic_session.specs.declared.session.Status.TheVariants.{Ended, NetRefused}
+use Rattle.ic_session.specs.declared.session.Status.TheVariants.{Ended, Stopped, NetRefused}
 use Rattle.ic_bench.specs.CommandLine.{files_in}
 use Rattle.ic_bench.specs.Runs.{Explains, Held, Runs, RunsFiles, RunsSession}
 use Rattle.ic_bench.specs.Runs.Explains.{helped, unheard, wanting, refused}
@@ -21,6 +21,7 @@ Named input output = IfSome input (λ bytes. (text : List ℕ) × NamesFault byt
 
 session_named : (options : Options) (input : Option (List ℕ)) (output errors : Held) (n : ℕ) → RunsSession options input output errors n → n ≡ 2 → Named input output
 session_named options input output errors n (ended Ended wrote same) is = absurd (omega arith)
+session_named options input output errors n (ended Stopped wrote same) is = absurd (omega arith)
 session_named options input output errors n (ended NetRefused wrote same) is = wrote
 session_named options input output errors n (broken Read begun said) is = absurd (omega arith)
 session_named options input output errors n (broken Write begun said) is = absurd (omega arith)
@@ -40,6 +41,7 @@ run_named words input output errors n (explained kind fault told) none is = expl
 
 session_unwritten : (options : Options) (input : Option (List ℕ)) (output errors : Held) (n : ℕ) → RunsSession options input output errors n → n ≡ 64 → output.after ≡ output.before
 session_unwritten options input output errors n (ended Ended wrote same) is = absurd (omega arith)
+session_unwritten options input output errors n (ended Stopped wrote same) is = absurd (omega arith)
 session_unwritten options input output errors n (ended NetRefused wrote same) is = absurd (omega arith)
 session_unwritten options input output errors n (broken Read begun said) is = absurd (omega arith)
 session_unwritten options input output errors n (broken Write begun said) is = absurd (omega arith)

@@ -30,6 +30,10 @@ budget_rule = number_rule (codes "budget") 0 MAX_BUDGET
 abbrev pub explain_rule : Rule
 explain_rule = record (new_rule (codes "explain")) { long = Some (codes "explain"); action = Some SetTrue }
 
+-- `--stop`
+abbrev pub stop_rule : Rule
+stop_rule = record (new_rule (codes "stop")) { long = Some (codes "stop"); action = Some SetTrue }
+
 -- `--interactive`, or `-i`
 abbrev pub interactive_rule : Rule
 interactive_rule = record (new_rule (codes "interactive")) { long = Some (codes "interactive"); short = Some 105; action = Some SetTrue }
@@ -44,7 +48,7 @@ versioned app = record app { top = record app.top { has_version = true } }
 
 -- the program over the standard input, without the option for a terminal
 abbrev pub scripted : App
-scripted = with_rule (with_rule (with_rule (versioned (new_app (codes "icbench"))) workers_rule) budget_rule) explain_rule
+scripted = with_rule (with_rule (with_rule (with_rule (versioned (new_app (codes "icbench"))) workers_rule) budget_rule) explain_rule) stop_rule
 
 -- the program, as its command line is read
 abbrev pub icbench : App
@@ -72,6 +76,7 @@ pub record Choose (words : List Text) (options : Options) : Type 0 where
   pub workers : IsChoice 1 1 MAX_WORKERS (one_of (codes "workers") (matches_of icbench words)) options.workers
   pub budget : IsChoice MAX_BUDGET 0 MAX_BUDGET (one_of (codes "budget") (matches_of icbench words)) options.budget
   pub explains : IsFlag (one_of (codes "explain") (matches_of icbench words)) options.explains
+  pub stops : IsFlag (one_of (codes "stop") (matches_of icbench words)) options.stops
   pub interactive : IsFlag (one_of (codes "interactive") (matches_of icbench words)) options.interactive
 
 -- memory was wanting, or it is a fault of these words

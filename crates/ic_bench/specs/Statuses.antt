@@ -3,12 +3,13 @@ use Rattle.std.specs.Prelude.{ℕ, List, ◌++◌, codes}
 use Rattle.ic_session.specs.declared.fault.Fault.{Fault}
 use Rattle.ic_session.specs.declared.fault.Fault.TheVariants.{Read, Write, Memory, Settle}
 use Rattle.ic_session.specs.declared.session.Status.{Status}
-use Rattle.ic_session.specs.declared.session.Status.TheVariants.{Ended, NetRefused}
+use Rattle.ic_session.specs.declared.session.Status.TheVariants.{Ended, Stopped, NetRefused}
 
 -- the status of a session that ended so
 abbrev pub session_status : Status → ℕ
 session_status Ended = 0
 session_status NetRefused = 2
+session_status Stopped = 5
 
 -- the status of a fault
 abbrev pub fault_status : Fault → ℕ

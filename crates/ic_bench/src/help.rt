@@ -2,7 +2,8 @@
 pub const VERSION: &str = "0.2.0";
 
 /// How the program is called.
-pub const USE: &str = "icbench [--workers 1..64] [--budget 0..1048576] [--explain] [-i] [FILE..]";
+pub const USE: &str =
+    "icbench [--workers 1..64] [--budget 0..1048576] [--explain] [--stop] [-i] [FILE..]";
 
 /// What stands in the help above the usage.
 pub const ABOUT: &str =
@@ -65,4 +66,5 @@ Exit status:
   2    the net was refused, and its first fault named
   3    there was no memory
   4    workers disagree with the history
+  5    a command was refused, with --stop
   64   the command line is wrong";

@@ -1,7 +1,7 @@
 ghost use Rattle.std.specs.Prelude.{◌≡◌, IfErr, IfOk, map, false};
 ghost use Rattle.clap.specs.Words.{IsPlain, IsPlainArg, app_of, kind_of, rule_of};
 ghost use Rattle.clap.specs.declared.builder.command.Command.TheViews.{out-Command};
-ghost use Rattle.ic_bench.specs.CommandLine.{Choose, IsFaultOf, budget_rule, explain_rule, files_in, files_rule, icbench, interactive_rule, scripted, workers_rule};
+ghost use Rattle.ic_bench.specs.CommandLine.{Choose, IsFaultOf, budget_rule, explain_rule, files_in, files_rule, icbench, interactive_rule, scripted, stop_rule, workers_rule};
 ghost use Rattle.ic_bench.specs.Runs.{mode_of};
 
 use crate::help::{ABOUT, LESSON, USE, VERSION};
@@ -19,7 +19,9 @@ pub struct Options {
     pub budget: u32,
     /// Whether the session explains itself.
     pub explains: bool,
-    /// Whether it does so at a terminal, and asks for each line.
+    /// Whether the session ends at the first refused command.
+    pub stops: bool,
+    /// Whether the session is one at a terminal, which explains itself and asks for each line.
     pub interactive: bool,
 }
 
@@ -32,6 +34,7 @@ impl Options {
             workers: self.workers,
             budget: self.budget,
             explains: self.explains || self.interactive,
+            stops: self.stops,
         }
     }
 
@@ -66,6 +69,7 @@ pub fn read_options<'a, S: AsStr>(alloc: Global, words: &'a [S]) -> Result<Asked
         workers: workers.unwrap_or(1),
         budget: budget.unwrap_or(MAX_BUDGET),
         explains: matches.get_flag("explain"),
+        stops: matches.get_flag("stop"),
         interactive: matches.get_flag("interactive"),
     };
     let files = Vec::from_slice(alloc, matches.get_strs("files").unwrap_or(&[]))?;
@@ -96,7 +100,8 @@ fn scripted_command<'a>(alloc: Global) -> Result<Command<'a>, AllocError>
         .after_help(LESSON)
         .arg(workers_argument(alloc))?
         .arg(budget_argument(alloc))?
-        .arg(explain_argument(alloc))
+        .arg(explain_argument(alloc))?
+        .arg(stop_argument(alloc))
 }
 
 /// The option that says how many worker threads there are.
@@ -136,6 +141,17 @@ fn explain_argument<'a>(alloc: Global) -> Arg<'a>
         .help(
             "answers questions, too, and says on standard error what is wrong with what is refused",
         )
+}
+
+/// The option that says that the session ends at the first refused command.
+fn stop_argument<'a>(alloc: Global) -> Arg<'a>
+    ensures rule { rule_of result ≡ stop_rule }
+    ensures plain { IsPlainArg result × (result.global ≡ false) }
+{
+    Arg::new(alloc, "stop")
+        .long("stop")
+        .action(ArgAction::SetTrue)
+        .help("ends at the first refused command, with status 5")
 }
 
 /// The option that says that the session is one at a terminal.

@@ -17,7 +17,7 @@ use crate::statuses::{
 use clap::Error;
 use clap::error::ErrorKind;
 use ic_command::write_reply;
-use ic_session::{Fault, Gate, MAX_WORKERS, Setting, Status, run_in, run_session};
+use ic_session::{Fault, Gate, MAX_READS, MAX_WORKERS, Setting, Status, run_in, run_quietly};
 use std::alloc::Global;
 use std::convert::AsStr;
 use std::fs::Files;
@@ -145,14 +145,7 @@ fn session<R: Read, W: Write, E: Write, T: Threads + Wait + Sync, G: Gate, F: Fi
         };
         return run_in(&setting, reader, writer, errors);
     }
-    run_session(
-        host.threads,
-        host.alloc,
-        reader,
-        writer,
-        mode.workers,
-        mode.budget,
-    )
+    run_quietly(host.threads, host.alloc, reader, writer, mode, MAX_READS)
 }
 
 /// Says that a file can't be read, and answers the status.

@@ -18,6 +18,9 @@ pub const NO_MEMORY: u8 = 3;
 /// What workers say that they did isn't what the history says.
 pub const UNSETTLED: u8 = 4;
 
+/// A command was refused, and the session stopped there.
+pub const STOPPED: u8 = 5;
+
 /// The command line was refused.
 pub const USAGE: u8 = 64;
 
@@ -27,6 +30,7 @@ pub fn session_status(status: Status) -> u8
 {
     match status {
         Status::Ended => ENDED,
+        Status::Stopped => STOPPED,
         Status::NetRefused => NET_REFUSED,
     }
 }

@@ -120,6 +120,39 @@ fn a_net_that_is_refused(rt: HostRuntime) {
 }
 
 #[test]
+fn a_session_stops_at_a_refusal_if_it_is_told_to(rt: HostRuntime) {
+    let input = b"G(x,a) = D(x,b);\n---\nfire 0 1\nfire 0 1\nundo 0 1\n".as_slice();
+    let all = b"fired 0 1\nrefused 21 not active\nundone 0 1\n".as_slice();
+    let front = b"fired 0 1\nrefused 21 not active\n".as_slice();
+    let said =
+        b"line 4: the two agents aren't both there with their principal ports joined; active lists the pairs that can fire\n".as_slice();
+    let rows = [
+        (["icbench", "--workers=1"], input, 0, all, b"".as_slice()),
+        (["icbench", "--stop"], input, 5, front, b""),
+        (
+            ["icbench", "--stop"],
+            b"E = E;\n---\nreduce 0\n",
+            0,
+            b"reduced 0 budget\n",
+            b"",
+        ),
+        (
+            ["icbench", "--stop"],
+            b"G(a,b) = !;",
+            2,
+            b"refused 2 at 9\n",
+            b"",
+        ),
+        (["icbench", "--explain"], input, 0, all, said),
+    ];
+    for (words, input, status, output, errors) in rows {
+        assert!(rt; runs(&rt, rt.alloc(), &words, input, status, output, errors));
+    }
+    let both = ["icbench", "--explain", "--stop"];
+    assert!(rt; runs(&rt, rt.alloc(), &both, input, 5, front, said));
+}
+
+#[test]
 fn a_session_that_explains_itself(rt: HostRuntime) {
     let input =
         b"G(x,a) = D(x,b);\n---\nagents\nstep\ndependents 1 0\nhistory\nfire 0 1\nmark m\nmarks\nNET\nundo 0 0\n";
@@ -222,7 +255,7 @@ fn command_lines_that_are_refused(rt: HostRuntime) {
         b"error: invalid value '1048577' for '--budget <0..1048576>': 1048577 is not in 0..=1048576\n\nFor more information, try '--help'.\n";
     assert!(rt; refuses(&rt, rt.alloc(), &["icbench", "--budget", "1048577"], much));
     let word =
-        b"error: unexpected argument '--net' found\n\n  tip: to pass '--net' as a value, use '-- --net'\n\nUsage: icbench [--workers 1..64] [--budget 0..1048576] [--explain] [-i] [FILE..]\n\nFor more information, try '--help'.\n";
+        b"error: unexpected argument '--net' found\n\n  tip: to pass '--net' as a value, use '-- --net'\n\nUsage: icbench [--workers 1..64] [--budget 0..1048576] [--explain] [--stop] [-i] [FILE..]\n\nFor more information, try '--help'.\n";
     assert!(rt; refuses(&rt, rt.alloc(), &["icbench", "--net"], word));
 }
 
@@ -257,6 +290,7 @@ fn the_help_names_each_command(rt: HostRuntime) -> Result<(), Fail> {
         "--workers <1..64>",
         "--budget <0..1048576>",
         "--explain",
+        "--stop",
         "-i, --interactive",
     ];
     for name in names {

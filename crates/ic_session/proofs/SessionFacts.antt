@@ -14,12 +14,12 @@ use Rattle.ic_text.specs.declared.grammar.refusal.Refusal.TheVariants.{TooLong, 
 use Rattle.ic_session.specs.declared.net_input.NetInput.{NetInput}
 use Rattle.ic_session.specs.declared.net_input.NetInput.TheVariants as inputs
 use Rattle.ic_session.specs.declared.session.Status.{Status}
-use Rattle.ic_session.specs.declared.session.Status.TheVariants.{Ended, NetRefused}
+use Rattle.ic_session.specs.declared.session.Status.TheVariants.{Ended, Stopped, NetRefused}
 use Rattle.ic_session.specs.InputLines.{lines, net_part}
 use Rattle.ic_session.specs.NetInput.{ReadsNet}
 use Rattle.ic_session.specs.declared.mode.Mode.{Mode}
 use Rattle.ic_session.specs.Refusals.{refusal_line}
-use Rattle.ic_session.specs.Sessions.{AreAnswers, Writes, AreBegun, IsBegun, nothing, naming, answering}
+use Rattle.ic_session.specs.Sessions.{AnswersCommands, AreAnswers, IsSessionText, Writes, AreBegun, IsBegun, nothing, naming, answering}
 
 -- where nothing was read and not yet taken, what is left is what the reader has left
 pub fresh_left : {held : List ℕ} (known : Option (List ℕ)) → held ≡ [] → prepend_known held known ≡ known
@@ -60,24 +60,28 @@ wrote_fault m (Some xs) now before after input text f e h first s a =
     let read = subst (λ i. ReadsNet i xs now) e h in
     rw a.0 (refusal_line f, record { fault = f; first = subst (λ t. IsFirstFault t f) read.0 first; named = refl }, a.1)
 
+-- answers to commands are the text of a session
+answers_text : (m : Mode) (status : Status) (input text : List ℕ) → AnswersCommands m status input text → IsSessionText m input status text
+answers_text m Ended input text a = a
+answers_text m Stopped input text a = a
+answers_text m NetRefused input text a = absurd a.answers
+
 -- the net was read, and the commands were answered
-pub wrote_answers : (m : Mode) (known now before after : Option (List ℕ)) (input : NetInput) (text : Vec ℕ Global) (start : Start)
+pub wrote_answers : (m : Mode) (known now before after : Option (List ℕ)) (input : NetInput) (text : Vec ℕ Global) (start : Start) (status : Status)
     → input ≡ inputs.Whole text
     → IfSome known (λ xs. ReadsNet input xs now) → Denotes text.items start → ((f : Refusal) → Stands text.items f → ⊥)
-    → IfSome now (λ ys. (reply : List ℕ) × AreAnswers start m initial (lines ys) reply × Appends before after reply) → IfSome known (λ xs. Writes m xs Ended before after)
-wrote_answers m None now before after input text start e h d n a = tt
-wrote_answers m (Some xs) None before after input text start e h d n a = let read = subst (λ i. ReadsNet i xs None) e h in absurd read.1
-wrote_answers m (Some xs) (Some ys) before after input text start e h d n a =
-    let read = subst (λ i. ReadsNet i xs (Some ys)) e h in (
-      a.0,
-      record {
-        start = start;
-        denoted = subst (λ t. Denotes t start) read.0 d;
-        faultless = subst (λ t. (f : Refusal) → Stands t f → ⊥) read.0 n;
-        answers = subst (λ ls. AreAnswers start m initial ls a.0) read.1 a.1;
-      },
-      a.2,
-    )
+    → IfSome now (λ ys. (reply : List ℕ) × AreAnswers status start m initial (lines ys) reply × Appends before after reply) → IfSome known (λ xs. Writes m xs status before after)
+wrote_answers m None now before after input text start status e h d n a = tt
+wrote_answers m (Some xs) None before after input text start status e h d n a = let read = subst (λ i. ReadsNet i xs None) e h in absurd read.1
+wrote_answers m (Some xs) (Some ys) before after input text start status e h d n a =
+    let read = subst (λ i. ReadsNet i xs (Some ys)) e h in
+    let answers : AnswersCommands m status xs a.0 = record {
+      start = start;
+      denoted = subst (λ t. Denotes t start) read.0 d;
+      faultless = subst (λ t. (f : Refusal) → Stands t f → ⊥) read.0 n;
+      answers = subst (λ ls. AreAnswers status start m initial ls a.0) read.1 a.1;
+    } in
+    (a.0, answers_text m status xs a.0 answers, a.2)
 
 -- nothing was written
 pub begun_nothing : (m : Mode) (known before : Option (List ℕ))

@@ -1,5 +1,5 @@
 -- A session has one text, where memory isn't wanting.
-use Rattle.std.proofs.Common.{◌≡◌, ℕ, List, [], ◌++◌, refl, sym, ap, ap₂, subst, arith, ◌∙◌}
+use Rattle.std.proofs.Common.{◌≡◌, ℕ, true, false, List, [], ◌++◌, refl, sym, ap, ap₂, subst, arith, ◌∙◌}
 use Rattle.ic_theory.specs.Starts.{Start, IsProper}
 use Rattle.ic_text.proofs.Proper.{proper}
 use Rattle.ic_text.proofs.Spelling.{one_start}
@@ -15,7 +15,7 @@ use Rattle.ic_session.specs.declared.demand.Demand.TheVariants.{Requests}
 use Rattle.ic_session.specs.Refusals.{refusal_line}
 use Rattle.ic_session.specs.Sessions.{AreAnswers, AreAnswered, none, more, AnswersCommands, NamesFault, IsSessionText}
 use Rattle.ic_session.specs.declared.session.Status.{Status}
-use Rattle.ic_session.specs.declared.session.Status.TheVariants.{Ended, NetRefused}
+use Rattle.ic_session.specs.declared.session.Status.TheVariants.{Ended, Stopped, NetRefused}
 use Rattle.ic_session.specs.Wants.{Wants}
 use Rattle.ic_session.specs.NextRequest.{Takes, alone, listed, unlisted, wanting}
 use Rattle.ic_session.proofs.DeskReplies.{in_use_on, AreOneAnswer, one_absorbing, one_reply}
@@ -62,9 +62,9 @@ one_answers : {s : Start} → IsProper s → (budget : ℕ) {st tt last end : St
     → IsInUse s st → IsInUse s tt → AreSameDesks st tt
     → AreAnswered s (plain 1 budget) st ls a last left → AreAnswered s (plain 1 budget) tt ks b end others → ¬ (Wants a) → ¬ (Wants b) → a ≡ b
 one_answers ok budget lines all whole used other same none none n m = refl
-one_answers ok budget lines all whole used other same none (more asked b bs) n m = absurd (nothing_taken (sym lines ∙ all) (plain_taken asked).2)
-one_answers ok budget lines all whole used other same (more asked a as') none n m = absurd (nothing_taken (lines ∙ whole) (plain_taken asked).2)
-one_answers ok budget lines all whole used other same (more {reply = x} {behind = xs} first a as') (more {reply = y} {behind = ys} second b bs) n m =
+one_answers ok budget lines all whole used other same none (more asked b on bs) n m = absurd (nothing_taken (sym lines ∙ all) (plain_taken asked).2)
+one_answers ok budget lines all whole used other same (more asked a on as') none n m = absurd (nothing_taken (lines ∙ whole) (plain_taken asked).2)
+one_answers ok budget lines all whole used other same (more {reply = x} {behind = xs} first a on as') (more {reply = y} {behind = ys} second b goes bs) n m =
     let q = plain_taken first in
     let r = plain_taken second in
     let took = takes_once lines q.2 r.2 in
@@ -75,14 +75,18 @@ one_answers ok budget lines all whole used other same (more {reply = x} {behind 
     ap₂ (λ us vs. us ++ vs) one.texts others
 
 -- a session that answers commands
-one_ended : (budget : ℕ) (input a b : List ℕ) → AnswersCommands (plain 1 budget) input a → AnswersCommands (plain 1 budget) input b
+one_ended : (budget : ℕ) (input a b : List ℕ) → AnswersCommands (plain 1 budget) Ended input a → AnswersCommands (plain 1 budget) Ended input b
     → ¬ (Wants a) → ¬ (Wants b) → a ≡ b
 one_ended budget input a b h k n m =
     let ok = proper (net_part (lines input)) h.start h.denoted in
     let one = one_start (net_part (lines input)) k.start h.start k.denoted h.denoted in
-    let answers = subst (λ (s : Start). AreAnswers s (plain 1 budget) initial (command_lines (lines input)) b) one k.answers in
+    let answers = subst (λ (s : Start). AreAnswers Ended s (plain 1 budget) initial (command_lines (lines input)) b) one k.answers in
     let used = first_in_use h.start in
     one_answers ok budget refl (plain_done h.answers.3) (plain_done answers.3) used used first_same h.answers.2 answers.2 n m
+
+-- a session that only answers stops at no refusal
+not_stopped : {budget : ℕ} {input a : List ℕ} → AnswersCommands (plain 1 budget) Stopped input a → ⊥
+not_stopped h = let no : false ≡ true = h.answers.3 in cc
 
 -- a session that names a fault
 one_named : (input a b : List ℕ) → NamesFault input a → NamesFault input b → a ≡ b
@@ -95,5 +99,7 @@ pub one_text : (budget : ℕ) (input a b : List ℕ) (i j : Status)
     → IsSessionText (plain 1 budget) input i a → IsSessionText (plain 1 budget) input j b → ¬ (Wants a) → ¬ (Wants b) → (i ≡ j) × (a ≡ b)
 one_text budget input a b Ended Ended h k n m = (refl, one_ended budget input a b h k n m)
 one_text budget input a b NetRefused NetRefused h k n m = (refl, one_named input a b h k)
+one_text budget input a b Stopped j h k n m = absurd (not_stopped h)
+one_text budget input a b i Stopped h k n m = absurd (not_stopped k)
 one_text budget input a b Ended NetRefused h k n m = absurd (h.faultless k.fault k.first.stands)
 one_text budget input a b NetRefused Ended h k n m = absurd (k.faultless h.fault h.first.stands)

@@ -1,5 +1,6 @@
 -- How a session is run, what its lines ask for then, and what is answered.
-use Rattle.std.specs.Prelude.{◌≡◌, ℕ, true, false, List, ◌∷◌, Option, Some, None, [], IsSomeAnd}
+use Rattle.std.specs.Prelude.{◌≡◌, ◌&&◌, ℕ, nat_eq, codes, Bool, true, false, List, ◌∷◌, Option, Some, None, [], IsSomeAnd}
+use Rattle.std.specs.List.{starts_with}
 use Rattle.ic_theory.specs.Starts.{Start}
 use Rattle.ic_command.specs.declared.question.Question.{Question}
 use Rattle.ic_command.specs.declared.request.Request.{Request}
@@ -15,9 +16,9 @@ use Rattle.ic_session.specs.declared.mode.Mode.{Mode}
 use Rattle.ic_session.specs.InputLines.{TextLine, lines}
 use Rattle.ic_session.specs.NextRequest.{Takes}
 
--- a session of so many workers and this budget that only answers
+-- a session of so many workers and this budget that only answers, to the end
 abbrev pub plain : ℕ → ℕ → Mode
-plain workers budget = record { workers = workers; budget = budget; explains = false }
+plain workers budget = record { workers = workers; budget = budget; explains = false; stops = false }
 
 -- the line ends the session
 abbrev pub Quits : Mode → List ℕ → Type 0
@@ -49,6 +50,14 @@ TakesNext m None old new = IsDone m (lines old)
 pub data Gives (m : Mode) (s : Start) (st : State) : Demand → List ℕ → State → Type 0 where
   replied : {r : Request} {text : List ℕ} {next : State} → RepliesWith m.workers s st (within m.budget r) text next → Gives m s st (demand.Requests r) text next
   told : {q : Question} {text : List ℕ} {next : State} → Tells s st q text next → Gives m s st (demand.Asks q) text next
+
+-- the reply refuses what was asked for
+abbrev pub is_refusal : List ℕ → Bool
+is_refusal reply = starts_with nat_eq reply (codes "refused ")
+
+-- the session ends with this reply
+abbrev pub stops_at : Mode → List ℕ → Bool
+stops_at m reply = m.stops && is_refusal reply
 
 -- the answer to a demand, and the desk after it
 pub record TurnsIn (m : Mode) (old : DeskView) (d : Demand) (text : List ℕ) (new : DeskView) : Type 0 where

@@ -61,15 +61,35 @@ pub fn run_bounded<R: Read, W: Write, T: Threads + Wait + Sync>(
     ensures begun { OnErr result (IfSome (R.remaining reader.old) (λ input. (text : List ℕ) × IsBegun (plain workers budget) input text × Appends (W.contents writer.old) (W.contents writer.new) text)) }
     ensures settle { IfErr result (λ fault. fault ≡ Settle → 1 < workers) }
 {
+    let mode = Mode {
+        workers,
+        budget,
+        explains: false,
+        stops: false,
+    };
+    run_quietly(threads, alloc, reader, writer, mode, reads)
+}
+
+/// Runs a session of a mode, as `run_bounded` does. Where it explains itself, it answers questions, too, but says nothing
+/// beside its answers.
+pub fn run_quietly<R: Read, W: Write, T: Threads + Wait + Sync>(
+    threads: &T,
+    alloc: Global,
+    reader: &mut R,
+    writer: &mut W,
+    mode: Mode,
+    reads: u32,
+) -> Result<Status, Fault>
+    requires { (0 < mode.workers) × (mode.workers ≤ MAX_WORKERS) }
+    ensures written { IfOk result (λ status. IfSome (R.remaining reader.old) (λ input. Writes mode input status (W.contents writer.old) (W.contents writer.new))) }
+    ensures begun { OnErr result (IfSome (R.remaining reader.old) (λ input. (text : List ℕ) × IsBegun mode input text × Appends (W.contents writer.old) (W.contents writer.new) text)) }
+    ensures settle { IfErr result (λ fault. fault ≡ Settle → 1 < mode.workers) }
+{
     let setting = Setting {
         threads,
         alloc,
         gate: &NoGate,
-        mode: Mode {
-            workers,
-            budget,
-            explains: false,
-        },
+        mode,
         prompts: Prompts::Silent,
     };
     let mut unheard: Vec<u8> = Vec::new(alloc);

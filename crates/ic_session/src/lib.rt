@@ -23,7 +23,7 @@ mod taken_line;
 mod topics;
 mod wrong_words;
 
-pub use bounded::{MAX_READS, run_bounded, run_in, run_on, run_session};
+pub use bounded::{MAX_READS, run_bounded, run_in, run_on, run_quietly, run_session};
 pub use demand::Demand;
 pub use fault::Fault;
 pub use ic_desk::{Gate, MAX_BUDGET, MAX_WORKERS, NoGate};

@@ -7,4 +7,6 @@ pub struct Mode {
     pub budget: u32,
     /// Whether the session answers questions, and says on a second writer what was wrong with what it refused.
     pub explains: bool,
+    /// Whether the session ends at the first command that it refuses.
+    pub stops: bool,
 }

@@ -1,4 +1,4 @@
-ghost use Rattle.std.specs.Prelude.{◌≡◌, ◌≢◌, ◌<◌, ◌≤◌, ℕ, List, true, IfErr, IfOk, IfSome, OnErr, OnOk};
+ghost use Rattle.std.specs.Prelude.{◌≡◌, ◌≢◌, ◌<◌, ◌≤◌, ℕ, List, true, IfErr, IfOk, IfSome, OnErr};
 ghost use Rattle.std.specs.Io.KnownBytes.{Appends};
 ghost use Rattle.ic_command.specs.Left.{left};
 ghost use Rattle.ic_command.specs.Faults.{AppendsFront};
@@ -9,7 +9,7 @@ ghost use Rattle.ic_session.specs.Refusals.{refusal_line};
 ghost use Rattle.ic_desk.specs.Texts.{answer_text};
 ghost use Rattle.ic_desk.specs.Questions.{Told};
 ghost use Rattle.ic_desk.specs.declared.fault.DeskFault.TheVariants as desk_fault;
-ghost use Rattle.ic_session.specs.Modes.{TurnsIn};
+ghost use Rattle.ic_session.specs.Modes.{TurnsIn, stops_at};
 ghost use Rattle.ic_session.specs.Sessions.{AreAnswers, AreBegun, IsAnswered, IsBegun, IsBrokenOff, Writes};
 ghost use Rattle.ic_session.specs.declared.fault.Fault.TheVariants.{Read, Settle, Write};
 ghost use Rattle.ic_session.specs.declared.session.Status.TheVariants.{NetRefused};
@@ -38,6 +38,8 @@ use std::thread::Threads;
 pub enum Status {
     /// The input ended, or `quit` was read, and each command before was answered.
     Ended,
+    /// A command was refused, in a session that stops there.
+    Stopped,
     /// The net text was refused, and its first fault was named.
     NetRefused,
 }
@@ -91,8 +93,7 @@ pub(crate) fn run_over<R: Read, W: Write, E: Write, T: Threads + Wait + Sync, G:
     let agents = start.agents();
     let desk: Desk<Store> = Desk::over(alloc, start)?;
     greet(alloc, errors, agents, &desk, setting.prompts);
-    answer_all(setting, desk, input, reader, output, writer, errors, place)?;
-    Ok(Status::Ended)
+    answer_all(setting, desk, input, reader, output, writer, errors, place)
 }
 
 /// Names the fault of a net text, and says what is wrong where the session explains itself.
@@ -118,7 +119,7 @@ fn refuse<W: Write, E: Write>(
     Ok(Status::NetRefused)
 }
 
-/// Answers the lines that are left.
+/// Answers the lines that are left, up to a refusal where the session stops there.
 fn answer_all<R: Read, W: Write, E: Write, T: Threads + Wait + Sync, G: Gate>(
     setting: &Setting<'_, T, G>,
     mut desk: Desk<Store>,
@@ -128,10 +129,10 @@ fn answer_all<R: Read, W: Write, E: Write, T: Threads + Wait + Sync, G: Gate>(
     writer: &mut W,
     errors: &mut E,
     place: &mut Place,
-) -> Result<(), Fault>
+) -> Result<Status, Fault>
     requires { (0 < setting.now.mode.workers) × (setting.now.mode.workers ≤ MAX_WORKERS) }
-    ensures answered { OnOk result (IfSome (left input.old (R.remaining reader.old)) (λ bytes. (st : State) → IsDeskAt desk st →
-        (text : List ℕ) × AreAnswers desk.bench.start setting.now.mode st (lines bytes) text × Appends (W.contents writer.old) (W.contents writer.new) text)) }
+    ensures answered { IfOk result (λ status. IfSome (left input.old (R.remaining reader.old)) (λ bytes. (st : State) → IsDeskAt desk st →
+        (text : List ℕ) × AreAnswers status desk.bench.start setting.now.mode st (lines bytes) text × Appends (W.contents writer.old) (W.contents writer.new) text)) }
     ensures begun { OnErr result (IfSome (left input.old (R.remaining reader.old)) (λ bytes. (st : State) → IsDeskAt desk st →
         (text : List ℕ) × AreBegun desk.bench.start setting.now.mode st (lines bytes) text × Appends (W.contents writer.old) (W.contents writer.new) text)) }
     ensures fewer { input.new.reads ≤ input.old.reads }
@@ -145,15 +146,21 @@ fn answer_all<R: Read, W: Write, E: Write, T: Threads + Wait + Sync, G: Gate>(
         ask_for_command(errors, setting.prompts);
         match next_demand(alloc, input, reader, &mut line, place, setting.mode)? {
             Some(demand) => {
-                desk = answer(setting, desk, demand, &line, output, writer, errors, *place)?;
+                let (after, stops) = answer(
+                    setting, desk, demand, &line, output, writer, errors, *place,
+                )?;
+                if stops {
+                    return Ok(Status::Stopped);
+                }
+                desk = after;
             }
-            None => return Ok(()),
+            None => return Ok(Status::Ended),
         }
     }
 }
 
-/// Meets a demand, and writes the answer to it; the desk comes back. Where the session explains itself, it says what is
-/// wrong with what is refused.
+/// Meets a demand, and writes the answer to it; the desk comes back, and whether the session ends with this answer. Where
+/// the session explains itself, it says what is wrong with what is refused.
 fn answer<W: Write, E: Write, T: Threads + Wait + Sync, G: Gate>(
     setting: &Setting<'_, T, G>,
     desk: Desk<Store>,
@@ -163,9 +170,9 @@ fn answer<W: Write, E: Write, T: Threads + Wait + Sync, G: Gate>(
     writer: &mut W,
     errors: &mut E,
     place: Place,
-) -> Result<Desk<Store>, Fault>
+) -> Result<(Desk<Store>, bool), Fault>
     requires { (0 < setting.now.mode.workers) × (setting.now.mode.workers ≤ MAX_WORKERS) }
-    ensures answered { IfOk result (λ after. IsAnswered setting.now.mode desk demand after (W.contents writer.old) (W.contents writer.new)) }
+    ensures answered { IfOk result (λ r. IsAnswered setting.now.mode desk demand r.0 r.1 (W.contents writer.old) (W.contents writer.new)) }
     ensures begun { OnErr result (IsBrokenOff setting.now.mode desk demand (W.contents writer.old) (W.contents writer.new)) }
     ensures fault { IfErr result (λ fault. fault ≢ Read) }
     ensures write { IfErr result (λ fault. fault ≡ Write → output.new.failed ≡ true) }
@@ -176,7 +183,14 @@ fn answer<W: Write, E: Write, T: Threads + Wait + Sync, G: Gate>(
     if setting.mode.explains {
         explain_answer(setting.alloc, errors, place, line, answer.bytes());
     }
-    Ok(after)
+    Ok((after, stops_at(setting.mode, answer.bytes())))
+}
+
+/// Whether a session of this mode ends with this answer.
+fn stops_at(mode: Mode, answer: &[u8]) -> bool
+    ensures { result ≡ stops_at mode answer.now }
+{
+    mode.stops && answer.starts_with(b"refused ")
 }
 
 /// Meets a demand; the desk comes back with the answer.

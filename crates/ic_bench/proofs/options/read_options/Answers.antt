@@ -21,8 +21,10 @@ returns-clause-chosen g c =
           c.get_one-budget.result c.get_one-budget.ensures.none c.get_one-budget.ensures.value c.unwrap_or-2.result c.unwrap_or-2.ensures;
       explains = flag_chosen (codes "explain") c.in_ok-command.field-0 c.in_ok-matches.matches words made.shape parsed.matches
           c.get_flag.result c.get_flag.ensures.none c.get_flag.ensures.value c.get_flag.ensures.other;
-      interactive = flag_chosen (codes "interactive") c.in_ok-command.field-0 c.in_ok-matches.matches words made.shape parsed.matches
+      stops = flag_chosen (codes "stop") c.in_ok-command.field-0 c.in_ok-matches.matches words made.shape parsed.matches
           c.get_flag-2.result c.get_flag-2.ensures.none c.get_flag-2.ensures.value c.get_flag-2.ensures.other;
+      interactive = flag_chosen (codes "interactive") c.in_ok-command.field-0 c.in_ok-matches.matches words made.shape parsed.matches
+          c.get_flag-3.result c.get_flag-3.ensures.none c.get_flag-3.ensures.value c.get_flag-3.ensures.other;
     }
 
 pub returns-clause-files : goal.returns-clause-files

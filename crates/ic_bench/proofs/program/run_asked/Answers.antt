@@ -1,5 +1,5 @@
 use Rattle.ic_bench.specs.Runs.RunsFiles.{over}
-use Rattle.ic_bench.proofs.RunModes.{unknown}
+use Rattle.ic_bench.proofs.RunInputs.{unknown}
 use Rattle.ic_bench.proofs.program.run_asked.Goals as goal
 
 pub returns-then-is_empty-clause-files : goal.returns-then-is_empty-clause-files

@@ -3,7 +3,7 @@ use Rattle.std.specs.Borrow.{Bor}
 use Rattle.std.specs.Prelude.{Contains, slice_index_or}
 use Rattle.ic_bench.specs.Runs.RunsFiles.{over, unread}
 use Rattle.ic_bench.specs.Runs.RunsSession.{ended, broken}
-use Rattle.ic_bench.proofs.RunModes.{named_at}
+use Rattle.ic_bench.proofs.RunInputs.{named_at}
 use Rattle.ic_bench.proofs.program.run_files.Goals as goal
 
 pub returns-in-Ok : goal.returns-in-Ok

@@ -2,7 +2,7 @@ use Rattle.std.proofs.Common.{map}
 use Rattle.clap.specs.Words.{kind_of}
 use Rattle.ic_bench.specs.Runs.Runs.{explained}
 use Rattle.ic_bench.proofs.RunFacts.{run_named, run_unwritten}
-use Rattle.ic_bench.proofs.RunModes.{chose_files}
+use Rattle.ic_bench.proofs.RunInputs.{chose_files}
 use Rattle.ic_bench.proofs.program.run_program.Goals as goal
 
 pub returns-in-Ok-clause-ran : goal.returns-in-Ok-clause-ran

@@ -1,6 +1,5 @@
 use Rattle.std.proofs.Common.{◌∙◌, ap, sym}
 use Rattle.ic_session.specs.declared.mode.Mode.{Mode}
-use Rattle.ic_bench.proofs.RunModes.{mode_plain}
 use Rattle.ic_bench.proofs.program.session.Goals as goal
 
 pub returns-then-mode-clause-wrote : goal.returns-then-mode-clause-wrote
@@ -13,7 +12,7 @@ pub returns-then-mode-clause-silent : goal.returns-then-mode-clause-silent
 returns-then-mode-clause-silent g c = λ off. let bad = sym c.if-mode.true ∙ ap (λ (m : Mode). m.explains) c.mode-mode.ensures ∙ off in cc
 
 pub returns-clause-wrote : goal.returns-clause-wrote
-returns-clause-wrote g c = rw (sym c.mode-mode.ensures, mode_plain c.mode-mode.result c.if-mode.false) c.run_session.ensures.written
+returns-clause-wrote g c = rw c.mode-mode.ensures at c.run_quietly.ensures.written
 
 pub returns-clause-began : goal.returns-clause-began
-returns-clause-began g c = rw (sym c.mode-mode.ensures, mode_plain c.mode-mode.result c.if-mode.false) c.run_session.ensures.begun
+returns-clause-began g c = rw c.mode-mode.ensures at c.run_quietly.ensures.begun

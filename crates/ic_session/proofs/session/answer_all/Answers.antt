@@ -1,7 +1,8 @@
 use Rattle.std.proofs.Common.{refl, arith, ◌∙◌}
 use Rattle.ic_command.specs.Left.{left}
 use Rattle.ic_path.proofs.Errors.{at_error}
-use Rattle.ic_session.proofs.AnswerFacts.{answered_none, answered_more, answered_all, all_answered, answered_begun, answered_broken, all_begun}
+use Rattle.ic_session.specs.declared.session.Status.TheVariants.{Ended, Stopped}
+use Rattle.ic_session.proofs.AnswerFacts.{answered_none, answered_more, answered_all, answered_last, all_answered, answered_begun, answered_broken, all_begun}
 use Rattle.ic_session.proofs.session.answer_all.Goals as goal
 
 pub loop-line-init : goal.loop-line-init
@@ -13,24 +14,33 @@ loop-line-init g c = record {
 
 pub loop-line-preserved : goal.loop-line-preserved
 loop-line-preserved g c =
-    let done = c.in_ok-desk-in-Some.ensures.answered in
+    let done = c.in_ok-after-in-Some.ensures.answered in
     let before = c.loop-line.invariant.fewer in
     let fewer = c.in_ok-demand.ensures.fewer in
     record {
       start = done.turn.start ∙ c.loop-line.invariant.start;
-      answered = λ st at. answered_more c.args.desk.bench.start c.args.setting.now.mode st c.loop-line.desk c.in_ok-desk-in-Some.desk
+      answered = λ st at. answered_more c.args.desk.bench.start c.args.setting.now.mode st c.loop-line.desk _
           (left c.args.input.now (g.R.Read.remaining c.args.reader.now)) (left c.loop-line.input (g.R.Read.remaining c.loop-line.reader)) (left c.next_demand.new.input (g.R.Read.remaining c.next_demand.new.reader))
           (g.W.Write.contents c.args.writer.now) (g.W.Write.contents c.loop-line.writer) (g.W.Write.contents c.answer.new.writer)
-          c.in_ok-demand.field-0 c.in-Some.demand c.loop-line.invariant.start (c.loop-line.invariant.answered st at) c.in-Some.is c.in_ok-demand.ensures.taken done;
+          c.in_ok-demand.field-0 c.in-Some.demand _ c.loop-line.invariant.start (c.loop-line.invariant.answered st at) c.in-Some.is c.in_ok-demand.ensures.taken done c.if-stops.false;
       fewer = omega arith;
     }
 
 pub returns-in-None-clause-answered : goal.returns-in-None-clause-answered
 returns-in-None-clause-answered g c =
-    all_answered c.args.setting.now.mode (left c.args.input.now (g.R.Read.remaining c.args.reader.now)) c.args.desk (g.W.Write.contents c.args.writer.now) (g.W.Write.contents c.loop-line.writer) (λ st at.
+    all_answered Ended c.args.setting.now.mode (left c.args.input.now (g.R.Read.remaining c.args.reader.now)) c.args.desk (g.W.Write.contents c.args.writer.now) (g.W.Write.contents c.loop-line.writer) (λ st at.
     answered_all c.args.desk.bench.start c.args.setting.now.mode st c.loop-line.desk (left c.args.input.now (g.R.Read.remaining c.args.reader.now)) (left c.loop-line.input (g.R.Read.remaining c.loop-line.reader))
     (left c.next_demand.new.input (g.R.Read.remaining c.next_demand.new.reader)) (g.W.Write.contents c.args.writer.now) (g.W.Write.contents c.loop-line.writer)
     c.in_ok-demand.field-0 (c.loop-line.invariant.answered st at) c.in-None.is c.in_ok-demand.ensures.taken)
+
+pub returns-then-stops-clause-answered : goal.returns-then-stops-clause-answered
+returns-then-stops-clause-answered g c =
+    let done = c.in_ok-after-in-Some.ensures.answered in
+    all_answered Stopped c.args.setting.now.mode (left c.args.input.now (g.R.Read.remaining c.args.reader.now)) c.args.desk (g.W.Write.contents c.args.writer.now) (g.W.Write.contents c.answer.new.writer) (λ st at.
+    answered_last c.args.desk.bench.start c.args.setting.now.mode st c.loop-line.desk _
+    (left c.args.input.now (g.R.Read.remaining c.args.reader.now)) (left c.loop-line.input (g.R.Read.remaining c.loop-line.reader)) (left c.next_demand.new.input (g.R.Read.remaining c.next_demand.new.reader))
+    (g.W.Write.contents c.args.writer.now) (g.W.Write.contents c.loop-line.writer) (g.W.Write.contents c.answer.new.writer)
+    c.in_ok-demand.field-0 c.in-Some.demand _ c.loop-line.invariant.start (c.loop-line.invariant.answered st at) c.in-Some.is c.in_ok-demand.ensures.taken done c.if-stops.true)
 
 pub returns-in_err-demand-clause-begun : goal.returns-in_err-demand-clause-begun
 returns-in_err-demand-clause-begun g c =
@@ -39,10 +49,10 @@ returns-in_err-demand-clause-begun g c =
     answered_begun c.args.desk.bench.start c.args.setting.now.mode st c.loop-line.desk (left c.args.input.now (g.R.Read.remaining c.args.reader.now)) (left c.loop-line.input (g.R.Read.remaining c.loop-line.reader))
     (g.W.Write.contents c.args.writer.now) (g.W.Write.contents c.loop-line.writer) (c.loop-line.invariant.answered st at)))
 
-pub returns-in_err-desk-in-Some-clause-begun : goal.returns-in_err-desk-in-Some-clause-begun
-returns-in_err-desk-in-Some-clause-begun g c =
-    let broken = c.in_err-desk-in-Some.ensures.begun in
-    at_error c.from_residual-in_err-desk-in-Some.result
+pub returns-in_err-after-in-Some-clause-begun : goal.returns-in_err-after-in-Some-clause-begun
+returns-in_err-after-in-Some-clause-begun g c =
+    let broken = c.in_err-after-in-Some.ensures.begun in
+    at_error c.from_residual-in_err-after-in-Some.result
     (all_begun c.args.setting.now.mode (left c.args.input.now (g.R.Read.remaining c.args.reader.now)) c.args.desk (g.W.Write.contents c.args.writer.now) (g.W.Write.contents c.answer.new.writer) (λ st at.
     answered_broken c.args.desk.bench.start c.args.setting.now.mode st c.loop-line.desk
     (left c.args.input.now (g.R.Read.remaining c.args.reader.now)) (left c.loop-line.input (g.R.Read.remaining c.loop-line.reader)) (left c.next_demand.new.input (g.R.Read.remaining c.next_demand.new.reader))

@@ -33,9 +33,11 @@ returns-clause-written g c =
     let read = c.in_ok-read_net_text.ensures.read in
     let denoted = subst (λ bytes. Denotes bytes c.in-Ok.start) c.deref.ensures.value c.in-Ok.ensures.found in
     let faultless = subst (λ bytes. (f : Refusal) → Stands bytes f → ⊥) c.deref.ensures.value c.in-Ok.ensures.faultless in
-    wrote_answers c.args.setting.now.mode (left c.args.input.now (g.R.Read.remaining c.args.reader.now)) now (g.W.Write.contents c.args.writer.now) (g.W.Write.contents c.answer_all.new.writer)
-    c.in_ok-read_net_text.field-0 c.in-Whole.text c.in-Ok.start c.in-Whole.is read denoted faultless
-    (opened_answers now c.in-Ok.start c.args.setting.now.mode c.in_ok-desk.desk (g.W.Write.contents c.args.writer.now) (g.W.Write.contents c.answer_all.new.writer) c.in_ok-desk.ensures c.in_ok-answer_all.ensures.answered)
+    IfOk-weaker c.answer_all.result _ _
+    (λ status answered. wrote_answers c.args.setting.now.mode (left c.args.input.now (g.R.Read.remaining c.args.reader.now)) now (g.W.Write.contents c.args.writer.now) (g.W.Write.contents c.answer_all.new.writer)
+    c.in_ok-read_net_text.field-0 c.in-Whole.text c.in-Ok.start status c.in-Whole.is read denoted faultless
+    (opened_answers status now c.in-Ok.start c.args.setting.now.mode c.in_ok-desk.desk (g.W.Write.contents c.args.writer.now) (g.W.Write.contents c.answer_all.new.writer) c.in_ok-desk.ensures answered))
+    c.answer_all.ensures.answered
 
 pub returns-in_err-read_net_text-clause-begun : goal.returns-in_err-read_net_text-clause-begun
 returns-in_err-read_net_text-clause-begun g c =
@@ -67,13 +69,14 @@ pub returns-in_err-desk-clause-begun : goal.returns-in_err-desk-clause-begun
 returns-in_err-desk-clause-begun g c =
     at_error c.from_residual-in_err-desk.result (begun_nothing c.args.setting.now.mode (left c.args.input.now (g.R.Read.remaining c.args.reader.now)) (g.W.Write.contents c.args.writer.now))
 
-pub returns-in_err-answer_all-clause-begun : goal.returns-in_err-answer_all-clause-begun
-returns-in_err-answer_all-clause-begun g c =
+pub returns-clause-begun : goal.returns-clause-begun
+returns-clause-begun g c =
     let now = left c.read_net_text.new.input (g.R.Read.remaining c.read_net_text.new.reader) in
     let read = c.in_ok-read_net_text.ensures.read in
     let denoted = subst (λ bytes. Denotes bytes c.in-Ok.start) c.deref.ensures.value c.in-Ok.ensures.found in
     let faultless = subst (λ bytes. (f : Refusal) → Stands bytes f → ⊥) c.deref.ensures.value c.in-Ok.ensures.faultless in
-    at_error c.from_residual-in_err-answer_all.result
-    (begun_answers c.args.setting.now.mode (left c.args.input.now (g.R.Read.remaining c.args.reader.now)) now (g.W.Write.contents c.args.writer.now) (g.W.Write.contents c.answer_all.new.writer)
+    on_err_weaker c.answer_all.result
+    (λ begun. begun_answers c.args.setting.now.mode (left c.args.input.now (g.R.Read.remaining c.args.reader.now)) now (g.W.Write.contents c.args.writer.now) (g.W.Write.contents c.answer_all.new.writer)
     c.in_ok-read_net_text.field-0 c.in-Whole.text c.in-Ok.start c.in-Whole.is read denoted faultless
-    (opened_begun now c.in-Ok.start c.args.setting.now.mode c.in_ok-desk.desk (g.W.Write.contents c.args.writer.now) (g.W.Write.contents c.answer_all.new.writer) c.in_ok-desk.ensures c.in_err-answer_all.ensures.begun))
+    (opened_begun now c.in-Ok.start c.args.setting.now.mode c.in_ok-desk.desk (g.W.Write.contents c.args.writer.now) (g.W.Write.contents c.answer_all.new.writer) c.in_ok-desk.ensures begun))
+    c.answer_all.ensures.begun

@@ -1,34 +1,13 @@
--- What a session wrote, by the mode that it was run in.
-use Rattle.std.proofs.Common.{◌≡◌, ℕ, ◌<◌, zero, suc, length, Bool, false, List, [], ◌∷◌, map, IfOk, IfSome, OnErr, None, refl, ap, subst, arith, ◌∙◌}
+-- What a session is read from.
+use Rattle.std.proofs.Common.{◌≡◌, ℕ, ◌<◌, zero, suc, length, List, [], ◌∷◌, map, None, refl, subst, arith, ◌∙◌}
 use Rattle.std.specs.Borrow.{Bor}
-use Rattle.std.specs.Prelude.{Option, Result, Contains, slice_index_or}
-use Rattle.std.specs.Io.KnownBytes.{Appends}
-use Rattle.ic_session.specs.Modes.{plain}
-use Rattle.ic_session.specs.Sessions.{IsBegun, Writes}
-use Rattle.ic_session.specs.declared.fault.Fault.{Fault}
-use Rattle.ic_session.specs.declared.mode.Mode.{Mode}
-use Rattle.ic_session.specs.declared.session.Status.{Status}
+use Rattle.std.specs.Prelude.{Option, Contains, slice_index_or}
 use Rattle.clap.specs.Words.{Text}
 use Rattle.ic_bench.specs.CommandLine.{Choose, files_in}
 use Rattle.ic_bench.specs.Runs.{Held, Runs, RunsFiles, RunsSession}
 use Rattle.ic_bench.specs.Runs.Runs.{session}
 use Rattle.ic_bench.specs.Runs.RunsSession.{ended, broken}
 use Rattle.ic_bench.specs.declared.options.Options.{Options}
-
--- its text, where it ended
-abbrev pub Wrote : Mode → Option (List ℕ) → Held → Result Status Fault → Type 0
-Wrote m input output ran = IfOk ran (λ status. IfSome input (λ bytes. Writes m bytes status output.before output.after))
-
--- and a front of it, where it broke off
-abbrev pub Began : Mode → Option (List ℕ) → Held → Result Status Fault → Type 0
-Began m input output ran = OnErr ran (IfSome input (λ bytes. (text : List ℕ) × IsBegun m bytes text × Appends output.before output.after text))
-
-abbrev flagged : Mode → Bool → Mode
-flagged m on = record { workers = m.workers; budget = m.budget; explains = on }
-
--- one that doesn't explain itself only answers
-pub mode_plain : (m : Mode) → m.explains ≡ false → m ≡ plain m.workers m.budget
-mode_plain m off = ap (flagged m) off
 
 -- a session over the files that the words name, or over the input
 pub chose_files : (words files : List Text) (options : Options) (input : Option (List ℕ)) (output errors : Held) (n : ℕ) → Choose words options → files ≡ files_in words
