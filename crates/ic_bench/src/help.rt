@@ -33,7 +33,7 @@ Commands:
   undo-all     undo all events
 
 With --explain also:
-  agents, causes, history, marks, dependents A B, step, unstep N, rules, help, quit: help tells what they do; each refusal is explained
+  agents, causes, history, marks, dependents A B, step N, unstep N, rules, help, quit: help tells what they do; each refusal is explained
 
 Example:
   G(x,a) = D(x,b);
