@@ -46,13 +46,13 @@ files_rule = record (new_rule (codes "files")) { action = Some Append; value_nam
 abbrev pub versioned : App → App
 versioned app = record app { top = record app.top { has_version = true } }
 
--- the program over the standard input, without the option for a terminal
+-- the program over the standard input, without the options for a script that stops and for a terminal
 abbrev pub scripted : App
-scripted = with_rule (with_rule (with_rule (with_rule (versioned (new_app (codes "icbench"))) workers_rule) budget_rule) explain_rule) stop_rule
+scripted = with_rule (with_rule (with_rule (versioned (new_app (codes "icbench"))) workers_rule) budget_rule) explain_rule
 
 -- the program, as its command line is read
 abbrev pub icbench : App
-icbench = with_rule (with_rule scripted interactive_rule) files_rule
+icbench = with_rule (with_rule (with_rule scripted stop_rule) interactive_rule) files_rule
 
 -- the files that the words name, in their order
 abbrev pub files_in : List Text → List Text

@@ -83,6 +83,7 @@ fn command<'a>(alloc: Global) -> Result<Command<'a>, AllocError>
     ensures local { IfOk result (λ command. (out-Command command).has_globals ≡ false) }
 {
     scripted_command(alloc)?
+        .arg(stop_argument(alloc))?
         .arg(interactive_argument(alloc))?
         .arg(files_argument(alloc))
 }
@@ -100,8 +101,7 @@ fn scripted_command<'a>(alloc: Global) -> Result<Command<'a>, AllocError>
         .after_help(LESSON)
         .arg(workers_argument(alloc))?
         .arg(budget_argument(alloc))?
-        .arg(explain_argument(alloc))?
-        .arg(stop_argument(alloc))
+        .arg(explain_argument(alloc))
 }
 
 /// The option that says how many worker threads there are.

@@ -98,6 +98,7 @@ fn on_explained<T: Threads + Wait + Sync>(
             workers: row.workers,
             budget: row.budget,
             explains: true,
+            stops: false,
         },
         prompts: Prompts::Silent,
     };

@@ -12,5 +12,4 @@ returns-clause-plain c =
     let bare : IsPlain c.after_help.result = (subst (All IsPlainArg) (sym none) (All-nil IsPlainArg), search rules) in
     let one = added_plain c.after_help.result c.in_ok-arg.field-0 c.workers_argument.result c.in_ok-arg.ensures bare c.workers_argument.ensures.plain.0 in
     let two = added_plain c.in_ok-arg.field-0 c.in_ok-arg-2.field-0 c.budget_argument.result c.in_ok-arg-2.ensures one c.budget_argument.ensures.plain.0 in
-    let three = added_plain c.in_ok-arg-2.field-0 c.in_ok-arg-3.field-0 c.explain_argument.result c.in_ok-arg-3.ensures two c.explain_argument.ensures.plain.0 in
-    IfOk-weaker c.arg-4.result _ _ (λ command added. added_plain c.in_ok-arg-3.field-0 command c.stop_argument.result added three c.stop_argument.ensures.plain.0) c.arg-4.ensures
+    IfOk-weaker c.arg-3.result _ _ (λ command added. added_plain c.in_ok-arg-2.field-0 command c.explain_argument.result added two c.explain_argument.ensures.plain.0) c.arg-3.ensures
