@@ -38,8 +38,8 @@ use std::thread::Threads;
 /// lead meets a limit, and `Memory` where fewer were fired and memory was wanting.
 ///
 /// `SweepFault::Memory` comes only before anything is fired, and `SweepFault::Settle` where the workers' passes
-/// aren't what the history says; each hands the bench back. The gate sees each commit; no lock is held then. It may be
-/// asked of tickets that aren't used in the end.
+/// aren't what the history says. Each hands the bench back: the first as it was, the second with at least as many lines.
+/// The gate sees each commit; no lock is held then. It may be asked of tickets that aren't used in the end.
 pub fn sweep<G: Gate, R: Threads + Wait + Sync>(
     rt: &R,
     alloc: Global,
