@@ -97,15 +97,17 @@ loop-place-preserved g c =
       | then-place-lt-MAX_JOINS+in_ok-joins w ↦ (
           let put = rw (c.spot_of.ensures, c.spot_of-in-loop-place.ensures) at w.in_ok-joins.ensures.ok in
           let joins = rw (c.spot_of.ensures, c.spot_of-in-loop-place.ensures) at w.in_ok-joins.ensures.joined in
-          rw (w.store-is, w.joins-is)
-          (one_more c.args.event c.args.pair c.args.born.now c.args.ends.now old now _ place c.loop-place-test.true held.0 put,
-          note c.args.event c.args.pair c.args.born.now c.args.ends.now old now place c.loop-place.joins _ c.loop-place-test.true w.if-place-lt-MAX_JOINS.true c.requires.slim c.requires.own_ids held.0 held.1 joins))
+          rw (w.store-is, w.joins-is) (
+            one_more c.args.event c.args.pair c.args.born.now c.args.ends.now old now _ place c.loop-place-test.true held.0 put,
+            note c.args.event c.args.pair c.args.born.now c.args.ends.now old now place c.loop-place.joins _ c.loop-place-test.true w.if-place-lt-MAX_JOINS.true c.requires.slim c.requires.own_ids held.0 held.1 joins,
+          ))
       | else-place-lt-MAX_JOINS+in_ok-add w ↦ (
           let put = rw (c.spot_of.ensures, c.spot_of-in-loop-place.ensures) at w.in_ok-add.ensures.ok in
           let made = made_links c.args.event c.args.pair c.args.born.now 0 c.args.ends.now in
-          rw (w.store-is, w.joins-is)
-          (one_more c.args.event c.args.pair c.args.born.now c.args.ends.now old now _ place c.loop-place-test.true held.0 put,
-          noted_later old made place c.loop-place.joins held.1 (below c.args.event c.args.pair c.args.born.now c.args.ends.now old place c.loop-place-test.true) w.if-place-lt-MAX_JOINS.false))
+          rw (w.store-is, w.joins-is) (
+            one_more c.args.event c.args.pair c.args.born.now c.args.ends.now old now _ place c.loop-place-test.true held.0 put,
+            noted_later old made place c.loop-place.joins held.1 (below c.args.event c.args.pair c.args.born.now c.args.ends.now old place c.loop-place-test.true) w.if-place-lt-MAX_JOINS.false,
+          ))
     ]
 
 pub returns-clause-added : goal.returns-clause-added
