@@ -1,4 +1,4 @@
-//! Tests of public calls: steps and replays of nets, benches, undoing, and lists of firings and undos. A folder is named after the crate whose calls its modules test.
+//! Tests of public calls: steps and replays of nets, benches, and undoing. A folder is named after the crate whose calls its modules test.
 #![tactic(auto)]
 
 #[cfg(test)]
@@ -7,7 +7,5 @@ mod journal;
 mod net;
 #[cfg(test)]
 mod orders;
-#[cfg(test)]
-mod trace;
 #[cfg(test)]
 mod undo;

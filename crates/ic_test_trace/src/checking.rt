@@ -1,4 +1,4 @@
-use crate::trace::traces::{firings, leads};
+use crate::traces::{firings, leads};
 use ic_journal::{Bench, LinkStore};
 use ic_test_games::calls::{fired, some_agents, some_event};
 use ic_test_games::numbers::Numbers;
