@@ -9,7 +9,7 @@ pub mod shown;
 
 pub use journal::{RankedEvent, journal_head, journal_text, push_line};
 pub use laws::{one_future, one_journal};
-pub use makers::direct_causes;
+pub use makers::{direct_causes, path_makers};
 pub use order::{canonical_cmp, rank_of, rank_with};
 
 #[cfg(test)]

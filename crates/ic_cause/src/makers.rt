@@ -1,6 +1,7 @@
 ghost use Rattle.std.specs.Prelude.{◌≡◌, List, IfOk};
 ghost use Rattle.ic_path.specs.Links.{degree};
 ghost use Rattle.ic_name.specs.declared.ids.LinkId.{LinkId as ALinkId};
+ghost use Rattle.ic_name.specs.declared.ids.Spot.{Spot as ASpot};
 ghost use Rattle.ic_name.specs.declared.ids.Spot.TheVariants as spots;
 ghost use Rattle.ic_link.specs.Links.{shape, Joins};
 ghost use Rattle.ic_cause.specs.Makers.{AreMakers};
@@ -21,8 +22,16 @@ pub fn direct_causes<L: LinkStore>(
     ensures { IfOk result (λ causes. (ids : List ALinkId) × Joins (L.links store.now) (spots.Agent a 0) ids (spots.Agent b 0) × AreMakers ids causes.items) }
 {
     store.lawful();
-    let mut causes = store.makers(Spot::Agent(a, 0))?;
-    causes.sort_unstable();
-    causes.dedup();
-    Ok(causes)
+    path_makers(store, Spot::Agent(a, 0))
+}
+
+/// The events that made links of the path from a spot with one link end, each once.
+pub fn path_makers<L: LinkStore>(store: &L, spot: Spot) -> Result<Vec<EventId>, AllocError>
+    requires { degree shape (L.links store.now) spot ≡ 1 }
+    ensures { IfOk result (λ makers. (ids : List ALinkId) × ((q : ASpot) × Joins (L.links store.now) spot ids q) × AreMakers ids makers.items) }
+{
+    let mut makers = store.makers(spot)?;
+    makers.sort_unstable();
+    makers.dedup();
+    Ok(makers)
 }

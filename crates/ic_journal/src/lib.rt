@@ -18,6 +18,6 @@ pub use bench::Bench;
 pub use faults::{FireFault, PairFault, ProposeFault, ReserveFault, UndoFault};
 pub use ic_history::{EarlierLines, PairNote, Proposal};
 pub use ic_link::LinkStore;
-pub use ic_set::{ActivePair, Fired};
+pub use ic_set::{ActivePair, Fired, Wire};
 pub use ic_table::PortTable as Store;
 pub use reducing::{End, Gate, NoGate, fire_least};

@@ -3,6 +3,7 @@ ghost use Rattle.ic_name.specs.Events.{Event as AnEvent, event_of, pair};
 ghost use Rattle.ic_name.specs.Events.{pair as pair_name};
 ghost use Rattle.ic_name.specs.declared.ids.EventId.{EventId as AnEventId};
 ghost use Rattle.ic_name.specs.declared.kinds.Kind.{Kind as AKind};
+ghost use Rattle.ic_name.specs.declared.ports.Port.{Port as APort};
 ghost use Rattle.ic_names.specs.Tables.{name_at};
 ghost use Rattle.ic_path.specs.Orders.{Alike, IsIn, Pick};
 ghost use Rattle.ic_theory.specs.Active.{IsActive};
@@ -10,6 +11,7 @@ ghost use Rattle.ic_theory.specs.Firings.{AreAfterCauses, then_fired};
 ghost use Rattle.ic_theory.specs.Listed.{shown};
 ghost use Rattle.ic_theory.specs.Nets.{IsSameNet, net_of};
 ghost use Rattle.ic_theory.specs.Steps.{AreDefined, steps};
+ghost use Rattle.ic_theory.specs.Wires.{IsWire};
 ghost use Rattle.ic_cause.specs.Journals.{Ranked, IsJournal, journal_text};
 ghost use Rattle.ic_roster.specs.Rosters.{Stander, IsNewName};
 ghost use Rattle.ic_set.specs.declared.pairs.ActivePair.{ActivePair as APair};
@@ -17,6 +19,7 @@ ghost use Rattle.ic_set.specs.Views.{standing};
 ghost use Rattle.ic_set.specs.Removal.{Stands};
 ghost use Rattle.ic_set.specs.Orders.{AreCanonical, AreInOrder, IsAny};
 ghost use Rattle.ic_set.specs.Pairs.{IsPairOf, IsActivePair, IsLeastPair, AreActivePairs};
+ghost use Rattle.ic_set.specs.Wires.{IsWireAt};
 ghost use Rattle.ic_journal.specs.Views.{set_of};
 ghost use Rattle.ic_journal.specs.Proposals.{Proposes};
 ghost use Rattle.ic_journal.specs.Reads.{IsKindOf, IsNameOf, IsEventUnder, IsRankOf, AreCausesOf, AreDependentsOf};
@@ -25,11 +28,11 @@ use crate::bench::Bench;
 use crate::faults::ProposeFault;
 use ic_history::Proposal;
 use ic_link::LinkStore;
-use ic_name::{AgentId, AgentName, Event, EventId, EventName, Kind, Line};
+use ic_name::{AgentId, AgentName, Event, EventId, EventName, Kind, Line, Port};
 use ic_names::NameTable;
 use ic_net::{Net, NetSheet};
 use ic_roster::AgentEntry;
-use ic_set::ActivePair;
+use ic_set::{ActivePair, Wire};
 use std::alloc::AllocError;
 
 impl<L: LinkStore> Bench<L> {
@@ -220,6 +223,15 @@ impl<L: LinkStore> Bench<L> {
             Some(standing) => Ok(Some(self.set.bare().dependents(standing)?)),
             None => Ok(None),
         }
+    }
+
+    /// The wire of the net at this port: the port at its other end, and the standing events that made it, in canonical order.
+    /// `None` if no agent of the net has this port, or the name isn't free. It changes nothing and adds no line.
+    pub fn wire(&self, port: &Port) -> Result<Option<Wire>, AllocError>
+        ensures found { IfOk result (λ wire. IfSome wire (λ w. IsWireAt (set_of self.now) port.now w.far w.makers.items)) }
+        ensures absent { IfOk result (λ wire. IfNone wire ((q : APort) → IsWire self.now.start (standing (set_of self.now)) port.now q → ⊥)) }
+    {
+        self.set.bare().wire(port)
     }
 
     /// These standing events, in canonical order.

@@ -12,5 +12,6 @@ pub mod Admission
 pub mod Placed
 pub mod Queues
 pub mod Reading
+pub mod Wires
 pub mod Meetings
 pub mod Cleared

@@ -12,6 +12,8 @@ pub mod orders;
 pub mod pairs;
 mod reading;
 pub mod removal;
+pub mod wires;
 
 pub use bare::BareSet;
 pub use pairs::{ActivePair, Fired};
+pub use wires::Wire;

@@ -109,7 +109,7 @@ impl<L: LinkStore> BareSet<L> {
     }
 
     /// The port that the spot stands for. At an error memory ran out.
-    fn port_of(&self, spot: Spot) -> Result<Port, AllocError>
+    pub(crate) fn port_of(&self, spot: Spot) -> Result<Port, AllocError>
         requires { (p : APort) × IsPortAt self.now.set spot p }
         ensures { IfOk result (λ p. IsPortAt self.now.set spot p) }
     {

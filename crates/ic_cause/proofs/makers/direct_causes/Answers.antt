@@ -1,14 +1,17 @@
-use Rattle.std.proofs.Common.{subst, sym}
-use Rattle.std.proofs.lemmas.List.Filters.{dedup_is}
-use Rattle.ic_name.specs.Spots.{same_event}
-use Rattle.ic_cause.proofs.MakerFacts.{HasMakers, has_makers, makers_once}
+use Rattle.std.proofs.Common.{List}
+use Rattle.std.proofs.lemmas.Result.{IfOk-weaker}
+use Rattle.ic_name.specs.declared.ids.LinkId.{LinkId}
+use Rattle.ic_name.specs.declared.ids.Spot.{Spot}
+use Rattle.ic_name.specs.declared.ids.Spot.TheVariants as spot
+use Rattle.ic_link.specs.Links.{Joins}
+use Rattle.ic_cause.specs.Makers.{AreMakers}
 use Rattle.ic_cause.proofs.PathEnds.{one_end}
 use Rattle.ic_cause.proofs.makers.direct_causes.Goals as goal
 
 pub returns : goal.returns
 returns g c =
     let ls = g.L.LinkStore.links c.args.store.now in
-    let (ids, found, are) = c.in_ok-causes.ensures in
-    let joins = one_end ls _ _ _ _ _ c.lawful.ensures.slim c.requires.loose found.1 c.requires.joined.1 in
-    let makers = subst (HasMakers ids) (sym are) (has_makers ids) in
-    (ids, joins, rw (dedup_is same_event _ _ c.dedup.ensures.filtered) (makers_once ids c.in_ok-causes.causes.items c.sort_unstable.new.self.items makers c.sort_unstable.ensures.permutation c.sort_unstable.ensures.sorted))
+    IfOk-weaker c.path_makers.result
+    (λ makers. (ids : List LinkId) × ((q : Spot) × Joins ls (spot.Agent c.args.a 0) ids q) × AreMakers ids makers.items)
+    (λ makers. (ids : List LinkId) × Joins ls (spot.Agent c.args.a 0) ids (spot.Agent c.args.b 0) × AreMakers ids makers.items)
+    (λ makers w. (w.0, one_end ls _ _ _ _ _ c.lawful.ensures.slim c.requires.loose w.1.1 c.requires.joined.1, w.2)) c.path_makers.ensures
