@@ -58,3 +58,5 @@ pub mod RankedEvents
 pub mod SetNets
 pub mod LastNames
 pub mod ReadNets
+pub mod WirePaths
+pub mod LooseSpots

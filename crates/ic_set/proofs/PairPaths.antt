@@ -24,7 +24,7 @@ use Rattle.ic_cause.specs.Naming.{port_of}
 use Rattle.ic_cause.proofs.ByPorts.{reaches_named, trail_held}
 use Rattle.ic_path.proofs.InLists.{map_cases}
 use Rattle.ic_cause.proofs.OnePort.{one_port, HasSpot}
-use Rattle.ic_cause.proofs.PathMakers.{cause_maker, maker_cause}
+use Rattle.ic_cause.proofs.PathMakers.{maker_held, cause_maker, maker_cause}
 use Rattle.ic_cause.proofs.SameEnds.{degree_is}
 use Rattle.ic_cause.specs.Makers.{IsMaker, AreMakers}
 use Rattle.ic_path.proofs.OnceLists.{each_once_so}
@@ -101,15 +101,9 @@ module _ (v : SetView) (ls : List Link) (k : IsKept v ls) (e : Event) (p : Activ
   pub pair_causes : (ids : List LinkId) (causes : List EventId) → Joins ls lead_spot ids other_spot → AreMakers ids causes → AreCausesOf v e causes
   pair_causes ids causes j h = each_once_so {P = IsMaker ids} {Q = ByEvent} to from h
     where
-      has : (d : EventId) (id : LinkId) → IsIn id ids → id.maker ≡ maker.Event d → k.naming.has_event d ≡ true
-      has d id i q =
-          let l = map_cases (λ (l : Link). l.id) j.links (subst (λ xs. IsIn id xs) (sym j.named) i) in
-          let made : l.0.id.maker ≡ maker.Event d = ap (λ x. x.maker) l.2 ∙ q in
-          rw made at ((k.shows.held l.0 (in-trail shape j.trail l.1)).maker)
-
       to : (d : EventId) → IsMaker ids d → ByEvent d
       to d m =
-          let held = has d m.0 m.1 m.2 in
+          let held = maker_held k.naming v.start (standing v) ls k.shows ids j d m in
           let y = k.named.no_other_events d held in
           let is : k.naming.event d ≡ y.0.event = ap k.naming.event (sym y.2) ∙ (k.named.events y.0 y.1).1 in
           (y.0, y.1, y.2, maker_cause k.naming v.start (standing v) ls k.set.proper k.set.sound k.shows p.lead p.other ids e y.0.event lead_named other_named j (d, m.0, m.1, m.2, held, is))

@@ -64,7 +64,7 @@ if_ok (Ok x) h f = f x h
 if_ok (Err e) h f = tt
 
 -- ends at two spots are equal only where the spots are
-end_spot : {p q : Spot} → ◌≡◌ {A = Far} (far.End p) (far.End q) → p ≡ q
+pub end_spot : {p q : Spot} → ◌≡◌ {A = Far} (far.End p) (far.End q) → p ≡ q
 end_spot e = cc
 
 -- where a spot's path leads to, whose port is its partner
@@ -79,7 +79,7 @@ IsNameFar v j far.Joint = None ≡ (net_in v).partner (port.Name j)
 
 module _ (v : SetView) (set : IsStandingSet v) where
   -- one link ends at a loose port
-  one_end : (p : Port) → IsLoose v.start (standing v) p → degree net_shape (links v.start (standing v)) p ≡ 1
+  pub one_end : (p : Port) → IsLoose v.start (standing v) p → degree net_shape (links v.start (standing v)) p ≡ 1
   one_end p loose =
       let o = sound_order v.start set.proper (standing v) set.sound in
       degree-alike net_shape (made_alike (born_links v.start.profile) (start_links v.start) o.1) p
@@ -136,19 +136,19 @@ module _ (v : SetView) (ls : List Link) (k : IsKept v ls) where
   port_there (spot.Name j) h = refl
 
   -- and for no other
-  only_port : (q : Spot) (p : Port) → IsPortAt v q p → port_of k.naming q ≡ p
+  pub only_port : (q : Spot) (p : Port) → IsPortAt v q p → port_of k.naming q ≡ p
   only_port (spot.Agent a i) p (m, there, s, e) = ap (λ x. port.Of x i) (ap k.naming.agent (sym s) ∙ (k.named.agents m there).1) ∙ sym e
   only_port (spot.Name j) p e = sym e
 
   -- where the path from a loose port's spot leads
-  path_to : (p q : Spot) (ids : List LinkId) → HasSpot k.naming p → IsLoose v.start (standing v) (port_of k.naming p) → Joins ls p ids q → LeadsTo v (port_of k.naming p) q
+  pub path_to : (p q : Spot) (ids : List LinkId) → HasSpot k.naming p → IsLoose v.start (standing v) (port_of k.naming p) → Joins ls p ids q → LeadsTo v (port_of k.naming p) q
   path_to p q ids held loose t =
       let its = sound_partner k.naming v.start (standing v) ls p q ids k.set.proper k.set.sound k.shows held loose t in
       let there = (trail_held k.naming k.shows.held held t.trail).0 in
       ((port_of k.naming q, port_there q there), λ x at. its ∙ ap Some (only_port q x at))
 
   -- there is one
-  loose_far : (p : Spot) (f : Far) → HasSpot k.naming p → IsLoose v.start (standing v) (port_of k.naming p) → IsFar ls p f → (q : Spot) × (f ≡ far.End q) × LeadsTo v (port_of k.naming p) q
+  pub loose_far : (p : Spot) (f : Far) → HasSpot k.naming p → IsLoose v.start (standing v) (port_of k.naming p) → IsFar ls p f → (q : Spot) × (f ≡ far.End q) × LeadsTo v (port_of k.naming p) q
   loose_far p f held loose is = by f is
     where
       one : degree shape ls p ≡ 1

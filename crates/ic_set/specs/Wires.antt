@@ -27,4 +27,4 @@ pub record IsWireMaker (s : Start) (es : List Event) (p : Port) (c : Event) : Ty
 -- the wire of the net at a port: the port at its other end, and the standing events that made it, each once, in canonical order
 pub record IsWireAt (v : SetView) (p far : Port) (makers : List EventId) : Type 0 where
   pub joins : IsWire v.start (standing v) p far
-  pub makers : AreInOrder v (λ x. IsWireMaker v.start (standing v) p x.event) makers
+  pub made_by : AreInOrder v (λ x. IsWireMaker v.start (standing v) p x.event) makers

@@ -51,7 +51,10 @@ impl<L: LinkStore> BareSet<L> {
     {
         let agent = self.roster.find(name)?;
         let entry = self.roster.agent(agent)?;
-        if number > entry.kind.arity() || self.is_consumed(agent, entry.name) {
+        if number > entry.kind.arity() {
+            return None;
+        }
+        if self.is_consumed(agent, entry.name) {
             return None;
         }
         Some(Spot::Agent(agent, number))
