@@ -85,11 +85,7 @@ module _ (v : SetView) (set : IsStandingSet v) where
       degree-alike net_shape (made_alike (born_links v.start.profile) (start_links v.start) o.1) p
       ∙ loose_degree v.start set.proper o.0 o.2 p (loose-alike v.start p o.1 loose)
 
-  -- the ports of an agent that isn't consumed are loose
-  living_loose : (a : AgentId) (n : Name) (k : Kind) (i : ℕ) → IsLiving v a n k → i ≤ arity k → IsLoose v.start (standing v) (port.Of n i)
-  living_loose a n k i living few = (k, alike-in set.agents (in-map agent_of living.0), few, living.1)
-
-  -- and it has its kind
+  -- an agent that isn't consumed has its kind
   pub living_kind : (a : AgentId) (n : Name) (k : Kind) → IsLiving v a n k → kind_of v.start (standing v) n ≡ Some k
   living_kind a n k living = sym (kind_there v set (record { id = a; name = n; kind = k }) n living.0 refl living.1)
 
@@ -159,16 +155,7 @@ module _ (v : SetView) (ls : List Link) (k : IsKept v ls) where
       by far.Joint z = absurd (omega (arith, one, z))
       by (far.End q) (d, ids, t) = (q, refl, path_to p q ids held loose t)
 
-  -- so it is with the ports of an agent that isn't consumed
-  pub living_far : (a : AgentId) (n : Name) (kind : Kind) (i : ℕ) (f : Far) → IsLiving v a n kind → i ≤ arity kind → IsFar ls (spot.Agent a i) f → (q : Spot) × (f ≡ far.End q) × LeadsTo v (port.Of n i) q
-  living_far a n kind i f living few is =
-      let named = k.named.agents (record { id = a; name = n; kind = kind }) living.0 in
-      let same : port_of k.naming (spot.Agent a i) ≡ port.Of n i = ap (λ x. port.Of x i) named.1 in
-      let loose = living_loose v k.set a n kind i living few in
-      let r = loose_far (spot.Agent a i) f named.0 (subst (IsLoose v.start (standing v)) (sym same) loose) is in
-      (r.0, r.1, subst (λ x. LeadsTo v x r.0) same r.2)
-
-  -- and with the names
+  -- so it is with the names
   pub name_far : (j : ℕ) (f : Far) → IsFar ls (spot.Name j) f → IsNameFar v j f
   name_far j f is = by f is
     where
@@ -181,11 +168,6 @@ module _ (v : SetView) (ls : List Link) (k : IsKept v ls) where
       by (far.End q) (d, ids, t) = path_to (spot.Name j) q ids refl (sym same ∙ d) t
 
   -- what is read there leads to the partner
-  pub living_leads : (a : AgentId) (n : Name) (kind : Kind) (i : ℕ) (f : Far) → IsLiving v a n kind → i ≤ arity kind → IsFar ls (spot.Agent a i) f → (q : Spot) → f ≡ far.End q → LeadsTo v (port.Of n i) q
-  living_leads a n kind i f living few is q e =
-      let r = living_far a n kind i f living few is in
-      subst (LeadsTo v (port.Of n i)) (end_spot (sym r.1 ∙ e)) r.2
-
   pub name_leads : (j : ℕ) (f : Far) → IsFar ls (spot.Name j) f → (q : Spot) → f ≡ far.End q → LeadsTo v (port.Name j) q
   name_leads j f is q e = subst (IsNameFar v j) e (name_far j f is)
 

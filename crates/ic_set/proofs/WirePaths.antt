@@ -59,7 +59,13 @@ module _ (v : SetView) (set : IsStandingSet v) where
       let o = sound_order v.start set.proper (standing v) set.sound in
       wire_alike v.start p q (alike_back o.1) (partner_wire v.start set.proper o.0 o.2 p q (sym ((net-alike v.start set.proper set.sound o.1).partners p) ∙ e))
 
-  -- and its ends are two
+  -- and a port's partner is at the other end of its wire
+  pub joined_partner : (p q : Port) → IsWire v.start (standing v) p q → (net_in v).partner p ≡ Some q
+  joined_partner p q w =
+      let o = sound_order v.start set.proper (standing v) set.sound in
+      (net-alike v.start set.proper set.sound o.1).partners p ∙ wire_partner v.start set.proper o.0 o.2 p q (wire_alike v.start p q o.1 w)
+
+  -- the ends of a wire are two
   ends_apart : (p q : Port) → IsWire v.start (standing v) p q → q ≢ p
   ends_apart p q w =
       let o = sound_order v.start set.proper (standing v) set.sound in

@@ -7,7 +7,10 @@ ghost use Rattle.ic_name.specs.declared.ports.Port.TheVariants as port_variants;
 ghost use Rattle.ic_names.specs.Tables.{name_at};
 ghost use Rattle.ic_net.specs.Makings.{IsLastName};
 ghost use Rattle.ic_net.specs.Sheets.{partner_list};
+ghost use Rattle.ic_theory.specs.Wires.{IsWire};
 ghost use Rattle.ic_set.specs.Reading.{net_in, IsPortAt, IsLiving, ArePartners, AreNetAgents, AreNetFrees, IsPut};
+ghost use Rattle.ic_set.specs.Views.{standing};
+ghost use Rattle.ic_set.specs.Wires.{IsLooseSpot};
 
 use crate::bare::BareSet;
 use ic_link::{Far, LinkStore};
@@ -92,10 +95,19 @@ impl<L: LinkStore> BareSet<L> {
         requires { (n : AName) × (k : AKind) × IsLiving self.now.set agent n k × (port ≤ arity k) }
         ensures { IfOk result (λ q. (n : AName) (k : AKind) → IsLiving self.now.set agent n k → port ≤ arity k → (net_in self.now.set).partner (port_variants.Of n port) ≡ Some q) }
     {
-        let Far::End(spot) = self.store.far(Spot::Agent(agent, port)) else {
+        self.lawful();
+        self.far_port(Spot::Agent(agent, port))
+    }
+
+    /// The port at the other end of the wire at the spot of a port of the net. At an error memory ran out.
+    pub(crate) fn far_port(&self, spot: Spot) -> Result<Port, AllocError>
+        requires { (p : APort) × IsLooseSpot self.now.set spot p }
+        ensures { IfOk result (λ far. (p : APort) → IsLooseSpot self.now.set spot p → IsWire self.now.set.start (standing self.now.set) p far) }
+    {
+        let Far::End(end) = self.store.far(spot) else {
             unreachable!()
         };
-        self.port_of(spot)
+        self.port_of(end)
     }
 
     /// The partner of the name of this number; `None` where the name isn't free. At an error memory ran out.
@@ -109,7 +121,7 @@ impl<L: LinkStore> BareSet<L> {
     }
 
     /// The port that the spot stands for. At an error memory ran out.
-    pub(crate) fn port_of(&self, spot: Spot) -> Result<Port, AllocError>
+    fn port_of(&self, spot: Spot) -> Result<Port, AllocError>
         requires { (p : APort) × IsPortAt self.now.set spot p }
         ensures { IfOk result (λ p. IsPortAt self.now.set spot p) }
     {

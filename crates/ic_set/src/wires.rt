@@ -8,7 +8,7 @@ ghost use Rattle.ic_set.specs.Wires.{IsLooseSpot, IsWireMaker, IsWireAt};
 
 use crate::bare::BareSet;
 use ic_cause::path_makers;
-use ic_link::{Far, LinkStore};
+use ic_link::LinkStore;
 use ic_name::{AgentName, EventId, Port, Spot};
 use std::alloc::AllocError;
 
@@ -81,17 +81,6 @@ impl<L: LinkStore> BareSet<L> {
             far: self.far_port(spot)?,
             makers: self.wire_makers(spot)?,
         })
-    }
-
-    /// The port at the other end of the wire at the spot of a port of the net. At an error memory ran out.
-    fn far_port(&self, spot: Spot) -> Result<Port, AllocError>
-        requires { (p : APort) × IsLooseSpot self.now.set spot p }
-        ensures { IfOk result (λ far. (p : APort) → IsLooseSpot self.now.set spot p → IsWire self.now.set.start (standing self.now.set) p far) }
-    {
-        let Far::End(end) = self.store.far(spot) else {
-            unreachable!()
-        };
-        self.port_of(end)
     }
 
     /// The events that made the wire at the spot of a port of the net, in canonical order. At an error memory ran out.

@@ -20,10 +20,10 @@ returns-then-number-arity-clause-absent g c =
     let i = c.in_ok-agent.ensures.found in
     let n = entry_named v c.self.invariant.set c.in_ok-agent.agent c.args.name.now _ i.0 c.in_ok-entry.entry.kind i.1 c.in_ok-entry.ensures.found in
     rw (← c.self.view_is) (λ loose. (
-        let few = (loose_entry v c.self.invariant.set _ c.args.number n.0 loose).0 in
-        let is = c.arity.ensures in
-        let past = c.if-number-arity.true in
-        omega (arith, few, is, past)))
+    let few = (loose_entry v c.self.invariant.set _ c.args.number n.0 loose).0 in
+    let is = c.arity.ensures in
+    let past = c.if-number-arity.true in
+    omega (arith, few, is, past)))
 
 pub is_consumed-requires-clause-there : goal.is_consumed-requires-clause-there
 is_consumed-requires-clause-there g c = rw (← c.self.view_is) (_, c.in_ok-entry.ensures.found)
