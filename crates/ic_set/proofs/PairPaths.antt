@@ -1,5 +1,5 @@
 -- The path between the principal ports of an active pair, by ids, and the direct causes that it has.
-use Rattle.std.proofs.Common.{◌≡◌, true, List, map, refl, sym, ap, arith, ◌∙◌, subst}
+use Rattle.std.proofs.Common.{◌≡◌, List, map, refl, sym, ap, arith, ◌∙◌, subst}
 use Rattle.ic_name.specs.Events.{Event}
 use Rattle.ic_name.specs.declared.ids.EventId.{EventId}
 use Rattle.ic_name.specs.declared.ids.Link.{Link}
@@ -12,7 +12,6 @@ use Rattle.ic_path.specs.Links.{degree, IsSlim}
 use Rattle.ic_path.specs.Orders.{IsIn}
 use Rattle.ic_path.specs.Trails.{Reaches}
 use Rattle.ic_path.proofs.Ends.{degree-trail, starts, reaches_one}
-use Rattle.ic_path.proofs.Rotated.{in-trail}
 use Rattle.ic_path.proofs.Walks.{Whole, whole}
 use Rattle.ic_link.specs.Links.{shape, Joins}
 use Rattle.ic_theory.specs.Starts.{net_shape}
@@ -22,7 +21,6 @@ use Rattle.ic_theory.proofs.Counts.{slim, principal}
 use Rattle.ic_theory.proofs.Future.{loose_end, port_agent, unequal}
 use Rattle.ic_cause.specs.Naming.{port_of}
 use Rattle.ic_cause.proofs.ByPorts.{reaches_named, trail_held}
-use Rattle.ic_path.proofs.InLists.{map_cases}
 use Rattle.ic_cause.proofs.OnePort.{one_port, HasSpot}
 use Rattle.ic_cause.proofs.PathMakers.{maker_held, cause_maker, maker_cause}
 use Rattle.ic_cause.proofs.SameEnds.{degree_is}

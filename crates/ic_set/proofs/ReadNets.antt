@@ -53,7 +53,7 @@ use Rattle.ic_net.proofs.Makings.{found_last, found_last_free, parts_show}
 use Rattle.ic_roster.specs.Rosters.{Member, AreByName}
 use Rattle.ic_set.specs.Reading.{net_in, IsPortAt, IsLiving, ArePartners, AreNetAgents, AreNetFrees, IsPut}
 use Rattle.ic_set.specs.Sets.{IsStandingSet, IsKept}
-use Rattle.ic_set.specs.Views.{SetView, NamedView, standing, agent_of}
+use Rattle.ic_set.specs.Views.{SetView, NamedView, standing}
 use Rattle.ic_set.proofs.ConsumedAgents.{kind_there, member_of}
 use Rattle.ic_set.proofs.LastNames.{ComeFrom}
 use Rattle.ic_set.proofs.Namings.{same_member}

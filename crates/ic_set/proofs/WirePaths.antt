@@ -1,5 +1,5 @@
 -- The wire at a port of the net, read off the links by ids, and the events that made it.
-use Rattle.std.proofs.Common.{◌≡◌, ◌≢◌, ◌≤◌, ◌↔◌, true, List, ◌∷◌, map, Some, refl, sym, ap, arith, subst, ◌∙◌}
+use Rattle.std.proofs.Common.{◌≡◌, ◌≢◌, ◌↔◌, true, List, ◌∷◌, map, Some, refl, sym, ap, arith, subst, ◌∙◌}
 use Rattle.ic_name.specs.Events.{Event}
 use Rattle.ic_name.specs.declared.ids.EventId.{EventId}
 use Rattle.ic_name.specs.declared.ids.Link.{Link}
@@ -26,7 +26,7 @@ use Rattle.ic_theory.proofs.Counts.{slim}
 use Rattle.ic_theory.proofs.Future.{made_alike}
 use Rattle.ic_theory.proofs.Loose.{partners_back, partner_wire, wire_partner}
 use Rattle.ic_theory.proofs.Ranks.{sound_order}
-use Rattle.ic_cause.specs.Makers.{IsMaker, AreMakers}
+use Rattle.ic_cause.specs.Makers.{AreMakers}
 use Rattle.ic_cause.specs.Naming.{port_of, link_of}
 use Rattle.ic_cause.proofs.ByPorts.{trail_held, trail_named}
 use Rattle.ic_cause.proofs.FarSpots.{loose-alike}
