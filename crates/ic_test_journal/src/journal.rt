@@ -5,3 +5,4 @@ mod histories;
 mod ids;
 mod proposals;
 mod reducing;
+mod wires;
