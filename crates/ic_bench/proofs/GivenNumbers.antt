@@ -132,37 +132,39 @@ program_rule : (old : Command) → app_of old ≡ icbench → (j : ℕ) (e : Arg
 program_rule old shape j e = rule_at (args_of old) j e ∙ ap (λ (a : App). slice_index_or a.top.rules j (rule_of e)) shape
 
 -- as many as the program has
-rule_count : (old : Command) → app_of old ≡ icbench → length (args_of old) ≡ 6
+rule_count : (old : Command) → app_of old ≡ icbench → length (args_of old) ≡ 7
 rule_count old shape = sym (length-map (args_of old) rule_of) ∙ ap (λ (a : App). length a.top.rules) shape
 
 -- one of the arguments
-an_argument : (xs : List Arg) → length xs ≡ 6 → Arg
+an_argument : (xs : List Arg) → length xs ≡ 7 → Arg
 an_argument [] is = absurd (omega (arith, is))
 an_argument (x ∷ xs) is = x
 
 -- the first argument alone is called workers
-workers_alone : (j : ℕ) (r : Rule) → j < 6 → bytes_eq (slice_index_or icbench.top.rules j r).id (codes "workers") ≡ true → j ≡ 0
+workers_alone : (j : ℕ) (r : Rule) → j < 7 → bytes_eq (slice_index_or icbench.top.rules j r).id (codes "workers") ≡ true → j ≡ 0
 workers_alone zero r lt same = refl
 workers_alone (suc zero) r lt same = let no : false ≡ true = same in cc
 workers_alone (suc (suc zero)) r lt same = let no : false ≡ true = same in cc
 workers_alone (suc (suc (suc zero))) r lt same = let no : false ≡ true = same in cc
 workers_alone (suc (suc (suc (suc zero)))) r lt same = let no : false ≡ true = same in cc
 workers_alone (suc (suc (suc (suc (suc zero))))) r lt same = let no : false ≡ true = same in cc
-workers_alone (suc (suc (suc (suc (suc (suc j)))))) r lt same = absurd (omega arith)
+workers_alone (suc (suc (suc (suc (suc (suc zero)))))) r lt same = let no : false ≡ true = same in cc
+workers_alone (suc (suc (suc (suc (suc (suc (suc j))))))) r lt same = absurd (omega arith)
 
 -- and the second alone is called budget
-budget_alone : (j : ℕ) (r : Rule) → j < 6 → bytes_eq (slice_index_or icbench.top.rules j r).id (codes "budget") ≡ true → j ≡ 1
+budget_alone : (j : ℕ) (r : Rule) → j < 7 → bytes_eq (slice_index_or icbench.top.rules j r).id (codes "budget") ≡ true → j ≡ 1
 budget_alone zero r lt same = let no : false ≡ true = same in cc
 budget_alone (suc zero) r lt same = refl
 budget_alone (suc (suc zero)) r lt same = let no : false ≡ true = same in cc
 budget_alone (suc (suc (suc zero))) r lt same = let no : false ≡ true = same in cc
 budget_alone (suc (suc (suc (suc zero)))) r lt same = let no : false ≡ true = same in cc
 budget_alone (suc (suc (suc (suc (suc zero))))) r lt same = let no : false ≡ true = same in cc
-budget_alone (suc (suc (suc (suc (suc (suc j)))))) r lt same = absurd (omega arith)
+budget_alone (suc (suc (suc (suc (suc (suc zero)))))) r lt same = let no : false ≡ true = same in cc
+budget_alone (suc (suc (suc (suc (suc (suc (suc j))))))) r lt same = absurd (omega arith)
 
 -- an argument of this name is the caller's own: the name's first letter is none of those of the flags that clap adds
-own_at : (old : Command) (shape : app_of old ≡ icbench) (k : ℕ) (d : Arg) (name : List ℕ) → k < 6 → (slice_index_or (args_of old) k d).id.now ≡ name
-    → ((j : ℕ) (r : Rule) → j < 6 → bytes_eq (slice_index_or icbench.top.rules j r).id name ≡ true → j ≡ k)
+own_at : (old : Command) (shape : app_of old ≡ icbench) (k : ℕ) (d : Arg) (name : List ℕ) → k < 7 → (slice_index_or (args_of old) k d).id.now ≡ name
+    → ((j : ℕ) (r : Rule) → j < 7 → bytes_eq (slice_index_or icbench.top.rules j r).id name ≡ true → j ≡ k)
     → (slice_index name 0 ≡ 0 → ⊥) → (slice_index name 0 ≡ 104 → ⊥) → (slice_index name 0 ≡ 118 → ⊥) → IsOwn old k d
 own_at old shape k d name stands id alone some help version = record {
   stands = subst (λ n. k < n) (sym (rule_count old shape)) stands;

@@ -34,6 +34,10 @@ explain_rule = record (new_rule (codes "explain")) { long = Some (codes "explain
 abbrev pub stop_rule : Rule
 stop_rule = record (new_rule (codes "stop")) { long = Some (codes "stop"); action = Some SetTrue }
 
+-- `--echo`
+abbrev pub echo_rule : Rule
+echo_rule = record (new_rule (codes "echo")) { long = Some (codes "echo"); action = Some SetTrue }
+
 -- `--interactive`, or `-i`
 abbrev pub interactive_rule : Rule
 interactive_rule = record (new_rule (codes "interactive")) { long = Some (codes "interactive"); short = Some 105; action = Some SetTrue }
@@ -46,13 +50,13 @@ files_rule = record (new_rule (codes "files")) { action = Some Append; value_nam
 abbrev pub versioned : App → App
 versioned app = record app { top = record app.top { has_version = true } }
 
--- the program over the standard input, without the options for a script that stops and for a terminal
+-- the program over the standard input, without the options for a script that stops or echoes and for a terminal
 abbrev pub scripted : App
 scripted = with_rule (with_rule (with_rule (versioned (new_app (codes "icbench"))) workers_rule) budget_rule) explain_rule
 
 -- the program, as its command line is read
 abbrev pub icbench : App
-icbench = with_rule (with_rule (with_rule scripted stop_rule) interactive_rule) files_rule
+icbench = with_rule (with_rule (with_rule (with_rule scripted stop_rule) echo_rule) interactive_rule) files_rule
 
 -- the files that the words name, in their order
 abbrev pub files_in : List Text → List Text
@@ -77,6 +81,7 @@ pub record Choose (words : List Text) (options : Options) : Type 0 where
   pub budget : IsChoice MAX_BUDGET 0 MAX_BUDGET (one_of (codes "budget") (matches_of icbench words)) options.budget
   pub explains : IsFlag (one_of (codes "explain") (matches_of icbench words)) options.explains
   pub stops : IsFlag (one_of (codes "stop") (matches_of icbench words)) options.stops
+  pub echoes : IsFlag (one_of (codes "echo") (matches_of icbench words)) options.echoes
   pub interactive : IsFlag (one_of (codes "interactive") (matches_of icbench words)) options.interactive
 
 -- memory was wanting, or it is a fault of these words

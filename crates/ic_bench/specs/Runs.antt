@@ -21,7 +21,7 @@ pub record Held : Type 0 where
 
 -- the mode of a session that is run with these options: one at a terminal explains itself, too
 abbrev pub mode_of : Options → Mode
-mode_of options = record { workers = options.workers; budget = options.budget; explains = options.explains || options.interactive; stops = options.stops }
+mode_of options = record { workers = options.workers; budget = options.budget; explains = options.explains || options.interactive; stops = options.stops; echoes = options.echoes }
 
 -- A session with these options over this input ends in a status: it wrote its text, or it broke off in a fault and said so. A writer that
 -- fails holds a front of what it was given. One that explains itself says more.

@@ -3,7 +3,7 @@ pub const VERSION: &str = "0.2.0";
 
 /// How the program is called.
 pub const USE: &str =
-    "icbench [--workers 1..64] [--budget 0..1048576] [--explain] [--stop] [-i] [FILE..]";
+    "icbench [--workers 1..64] [--budget 0..1048576] [--explain] [--stop] [--echo] [-i] [FILE..]";
 
 /// What stands in the help above the usage.
 pub const ABOUT: &str =

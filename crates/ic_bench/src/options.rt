@@ -1,7 +1,7 @@
 ghost use Rattle.std.specs.Prelude.{◌≡◌, IfErr, IfOk, map, false};
 ghost use Rattle.clap.specs.Words.{IsPlain, IsPlainArg, app_of, kind_of, rule_of};
 ghost use Rattle.clap.specs.declared.builder.command.Command.TheViews.{out-Command};
-ghost use Rattle.ic_bench.specs.CommandLine.{Choose, IsFaultOf, budget_rule, explain_rule, files_in, files_rule, icbench, interactive_rule, scripted, stop_rule, workers_rule};
+ghost use Rattle.ic_bench.specs.CommandLine.{Choose, IsFaultOf, budget_rule, echo_rule, explain_rule, files_in, files_rule, icbench, interactive_rule, scripted, stop_rule, workers_rule};
 ghost use Rattle.ic_bench.specs.Runs.{mode_of};
 
 use crate::help::{ABOUT, LESSON, USE, VERSION};
@@ -21,6 +21,8 @@ pub struct Options {
     pub explains: bool,
     /// Whether the session ends at the first refused command.
     pub stops: bool,
+    /// Whether each command stands before its answer.
+    pub echoes: bool,
     /// Whether the session is one at a terminal, which explains itself and asks for each line.
     pub interactive: bool,
 }
@@ -35,6 +37,7 @@ impl Options {
             budget: self.budget,
             explains: self.explains || self.interactive,
             stops: self.stops,
+            echoes: self.echoes,
         }
     }
 
@@ -70,6 +73,7 @@ pub fn read_options<'a, S: AsStr>(alloc: Global, words: &'a [S]) -> Result<Asked
         budget: budget.unwrap_or(MAX_BUDGET),
         explains: matches.get_flag("explain"),
         stops: matches.get_flag("stop"),
+        echoes: matches.get_flag("echo"),
         interactive: matches.get_flag("interactive"),
     };
     let files = Vec::from_slice(alloc, matches.get_strs("files").unwrap_or(&[]))?;
@@ -84,6 +88,7 @@ fn command<'a>(alloc: Global) -> Result<Command<'a>, AllocError>
 {
     scripted_command(alloc)?
         .arg(stop_argument(alloc))?
+        .arg(echo_argument(alloc))?
         .arg(interactive_argument(alloc))?
         .arg(files_argument(alloc))
 }
@@ -152,6 +157,17 @@ fn stop_argument<'a>(alloc: Global) -> Arg<'a>
         .long("stop")
         .action(ArgAction::SetTrue)
         .help("ends at the first refused command, with status 5")
+}
+
+/// The option that says that each command stands before its answer.
+fn echo_argument<'a>(alloc: Global) -> Arg<'a>
+    ensures rule { rule_of result ≡ echo_rule }
+    ensures plain { IsPlainArg result × (result.global ≡ false) }
+{
+    Arg::new(alloc, "echo")
+        .long("echo")
+        .action(ArgAction::SetTrue)
+        .help("each command stands before its answer")
 }
 
 /// The option that says that the session is one at a terminal.

@@ -153,6 +153,27 @@ fn a_session_stops_at_a_refusal_if_it_is_told_to(rt: HostRuntime) {
 }
 
 #[test]
+fn a_session_echoes_if_it_is_told_to(rt: HostRuntime) {
+    let input = b"E = E;\n---\n# One pair.\nfire 0 1\nquit\n".as_slice();
+    let silent = b"fired 0 1\nrefused 40 command\n".as_slice();
+    let echoed = b"> fire 0 1\nfired 0 1\n> quit\nrefused 40 command\n".as_slice();
+    let asked = b"> fire 0 1\nfired 0 1\n".as_slice();
+    let said =
+        b"net> net> net read: 2 agents, 1 active pair; help lists the commands\nicbench> icbench> icbench> ".as_slice();
+    let rows = [
+        (["icbench", "--workers=1"], 0, silent),
+        (["icbench", "--echo"], 0, echoed),
+    ];
+    for (words, status, output) in rows {
+        assert!(rt; runs(&rt, rt.alloc(), &words, input, status, output, b""));
+    }
+    let terminal = ["icbench", "-i", "--echo"];
+    assert!(rt; runs(&rt, rt.alloc(), &terminal, input, 0, asked, said));
+    let stopped = ["icbench", "--stop", "--echo"];
+    assert!(rt; runs(&rt, rt.alloc(), &stopped, input, 5, echoed, b""));
+}
+
+#[test]
 fn a_session_that_explains_itself(rt: HostRuntime) {
     let input =
         b"G(x,a) = D(x,b);\n---\nagents\nstep\ndependents 1 0\nhistory\nfire 0 1\nmark m\nmarks\nNET\nundo 0 0\n";
@@ -255,7 +276,7 @@ fn command_lines_that_are_refused(rt: HostRuntime) {
         b"error: invalid value '1048577' for '--budget <0..1048576>': 1048577 is not in 0..=1048576\n\nFor more information, try '--help'.\n";
     assert!(rt; refuses(&rt, rt.alloc(), &["icbench", "--budget", "1048577"], much));
     let word =
-        b"error: unexpected argument '--net' found\n\n  tip: to pass '--net' as a value, use '-- --net'\n\nUsage: icbench [--workers 1..64] [--budget 0..1048576] [--explain] [--stop] [-i] [FILE..]\n\nFor more information, try '--help'.\n";
+        b"error: unexpected argument '--net' found\n\n  tip: to pass '--net' as a value, use '-- --net'\n\nUsage: icbench [--workers 1..64] [--budget 0..1048576] [--explain] [--stop] [--echo] [-i] [FILE..]\n\nFor more information, try '--help'.\n";
     assert!(rt; refuses(&rt, rt.alloc(), &["icbench", "--net"], word));
 }
 
@@ -291,6 +312,7 @@ fn the_help_names_each_command(rt: HostRuntime) -> Result<(), Fail> {
         "--budget <0..1048576>",
         "--explain",
         "--stop",
+        "--echo",
         "-i, --interactive",
     ];
     for name in names {

@@ -99,6 +99,7 @@ fn on_explained<T: Threads + Wait + Sync>(
             budget: row.budget,
             explains: true,
             stops: false,
+            echoes: false,
         },
         prompts: Prompts::Silent,
     };

@@ -1,5 +1,5 @@
 -- Commands answered one by one.
-use Rattle.std.proofs.Common.{◌≡◌, ℕ, Bool, true, false, List, [], ◌++◌, refl, sym, ◌∙◌, subst, map}
+use Rattle.std.proofs.Common.{◌≡◌, ℕ, Bool, true, false, List, [], ◌++◌, append-nil, refl, sym, ◌∙◌, subst, map}
 use Rattle.std.proofs.KnownBytes.{Appends-nil, Appends-trans}
 use Rattle.std.specs.Prelude.{Option, Some, None, IfSome}
 use Rattle.std.specs.Io.KnownBytes.{Appends}
@@ -11,13 +11,14 @@ use Rattle.ic_theory.specs.Machine as machine
 use Rattle.ic_theory.specs.Machine.{IsHistory, begins}
 use Rattle.ic_journal.specs.Views.{BenchView}
 use Rattle.ic_journal.specs.Benches.{IsAt, Opens, fired_in}
+use Rattle.ic_session.specs.Echoes.{WritesEcho, echoed}
 use Rattle.ic_session.specs.InputLines.{lines}
 use Rattle.ic_desk.specs.Desks.{State, initial}
 use Rattle.ic_desk.specs.Views.{DeskView, IsDeskAt, IsOver, note_of}
 use Rattle.ic_session.specs.Modes.{TakesNext, Gives, TurnsIn}
 use Rattle.ic_session.specs.declared.demand.Demand.{Demand}
 use Rattle.ic_session.specs.declared.mode.Mode.{Mode}
-use Rattle.ic_session.specs.Sessions.{AreAnswered, none, AnswersNext, AreAnswers, AreBegun, whole, within, IsAnswered, IsBrokenOff, silent, partly}
+use Rattle.ic_session.specs.Sessions.{AreAnswered, none, AnswersNext, AreAnswers, AreBegun, echoing, replying, IsAnswered, IsBrokenOff, silent, partly}
 use Rattle.ic_session.specs.declared.session.Status.{Status}
 use Rattle.ic_session.specs.declared.session.Status.TheVariants.{Ended, Stopped}
 use Rattle.ic_session.proofs.AnswerSteps.{answered_step}
@@ -39,16 +40,18 @@ answered_none s m st v (Some xs) before a = (st, a, [], Appends-nil before, none
 -- the reply to the command after those that were answered, and the state after it
 next_answered : (s : Start) (m : Mode) (st : State) (v w : DeskView) (xs ys zs : List ℕ) (before then : Option (List ℕ)) (o : Option Demand) (c : Demand) (reply : List ℕ)
     → v.bench.start ≡ s → (h : HasAnswered s m st v (Some xs) (Some ys) before then) → o ≡ Some c → TakesNext m o ys (Some zs) → TurnsIn m v c reply w
-    → (n : AnswersNext s m st (lines xs) h.2 reply) × IsDeskAt w n.next × (n.left ≡ lines zs)
+    → (n : AnswersNext s m st (lines xs) (h.2 ++ echoed m (lines ys)) reply) × IsDeskAt w n.next × (n.left ≡ lines zs)
 next_answered s m st v w xs ys zs before then o c reply i h e t r =
     let turn = r.gives h.0 h.1 in (
       record {
+        answers = h.2;
         now = h.0;
         next = turn.0;
         between = lines ys;
         left = lines zs;
         demand = c;
         answered = h.4;
+        said = refl;
         taken = subst (λ p. TakesNext m p ys (Some zs)) e t;
         gives = subst (λ z. Gives m z h.0 c reply turn.0) i turn.1;
       },
@@ -56,64 +59,91 @@ next_answered s m st v w xs ys zs before then o c reply i h e t r =
       refl,
     )
 
+-- what was written before, the echo of a line and the reply to it
+echo_appended : (m : Mode) (o : Option Demand) (c : Demand) (ys text reply : List ℕ) (before then said after : Option (List ℕ)) → o ≡ Some c
+    → Appends before then text → WritesEcho m o ys then said → Appends said after reply → Appends before after (text ++ echoed m (lines ys) ++ reply)
+echo_appended m o c ys text reply before then said after e first echo last =
+    let echo' : Appends then said (echoed m (lines ys)) = subst (λ p. WritesEcho m p ys then said) e echo in
+    Appends-trans before said after (text ++ echoed m (lines ys)) reply (Appends-trans before then said text (echoed m (lines ys)) first echo') last
+
 -- one command more was answered, and the session goes on
-pub answered_more : (s : Start) (m : Mode) (st : State) (v w : DeskView) (old now next before then after : Option (List ℕ)) (o : Option Demand) (c : Demand) (stops : Bool)
-    → v.bench.start ≡ s → HasAnswered s m st v old now before then → o ≡ Some c → IfSome now (λ ys. TakesNext m o ys next) → IsAnswered m v c w stops then after → stops ≡ false
+pub answered_more : (s : Start) (m : Mode) (st : State) (v w : DeskView) (old now next before then said after : Option (List ℕ)) (o : Option Demand) (c : Demand) (stops : Bool)
+    → v.bench.start ≡ s → HasAnswered s m st v old now before then → o ≡ Some c → IfSome now (λ ys. TakesNext m o ys next) → IfSome now (λ ys. WritesEcho m o ys then said)
+    → IsAnswered m v c w stops said after → stops ≡ false
     → HasAnswered s m st w old next before after
-answered_more s m st v w None now next before then after o c stops i h e t r off = tt
-answered_more s m st v w (Some xs) None next before then after o c stops i h e t r off = absurd h
-answered_more s m st v w (Some xs) (Some ys) None before then after o c stops i h e t r off = absurd (subst (λ p. TakesNext m p ys None) e t)
-answered_more s m st v w (Some xs) (Some ys) (Some zs) before then after o c stops i h e t r off =
+answered_more s m st v w None now next before then said after o c stops i h e t k r off = tt
+answered_more s m st v w (Some xs) None next before then said after o c stops i h e t k r off = absurd h
+answered_more s m st v w (Some xs) (Some ys) None before then said after o c stops i h e t k r off = absurd (subst (λ p. TakesNext m p ys None) e t)
+answered_more s m st v w (Some xs) (Some ys) (Some zs) before then said after o c stops i h e t k r off =
     let a = next_answered s m st v w xs ys zs before then o c r.reply i h e t r.turn in
     let step = answered_step a.0.answered a.0.taken a.0.gives (sym r.stopping ∙ off) in
-    (a.0.next, a.1, h.2 ++ r.reply, Appends-trans before then after h.2 r.reply h.3 r.written, subst (AreAnswered s m st (lines xs) (h.2 ++ r.reply) a.0.next) a.2 step)
+    let text = h.2 ++ echoed m (lines ys) ++ r.reply in
+    let whole = subst (λ t. AreAnswered s m st (lines xs) (t ++ r.reply) a.0.next a.0.left) (sym a.0.said) step in
+    (a.0.next, a.1, text, echo_appended m o c ys h.2 r.reply before then said after e h.3 k r.written, subst (AreAnswered s m st (lines xs) text a.0.next) a.2 whole)
 
 -- all were answered
-pub answered_all : (s : Start) (m : Mode) (st : State) (v : DeskView) (old now next before after : Option (List ℕ)) (o : Option Demand)
-    → HasAnswered s m st v old now before after → o ≡ None → IfSome now (λ ys. TakesNext m o ys next) → IfSome old (λ xs. (text : List ℕ) × AreAnswers Ended s m st (lines xs) text × Appends before after text)
-answered_all s m st v None now next before after o h e t = tt
-answered_all s m st v (Some xs) None next before after o h e t = absurd h
-answered_all s m st v (Some xs) (Some ys) next before after o h e t =
-    (h.2, (h.0, lines ys, h.4, subst (λ p. TakesNext m p ys next) e t), h.3)
+pub answered_all : (s : Start) (m : Mode) (st : State) (v : DeskView) (old now next before then after : Option (List ℕ)) (o : Option Demand)
+    → HasAnswered s m st v old now before then → o ≡ None → IfSome now (λ ys. TakesNext m o ys next) → IfSome now (λ ys. WritesEcho m o ys then after)
+    → IfSome old (λ xs. (text : List ℕ) × AreAnswers Ended s m st (lines xs) text × Appends before after text)
+answered_all s m st v None now next before then after o h e t k = tt
+answered_all s m st v (Some xs) None next before then after o h e t k = absurd h
+answered_all s m st v (Some xs) (Some ys) next before then after o h e t k =
+    let same : after ≡ then = subst (λ p. WritesEcho m p ys then after) e k in
+    (h.2, (h.0, lines ys, h.4, subst (λ p. TakesNext m p ys next) e t), subst (λ z. Appends before z h.2) (sym same) h.3)
 
 -- one command more was answered, and the session ends with that
-pub answered_last : (s : Start) (m : Mode) (st : State) (v w : DeskView) (old now next before then after : Option (List ℕ)) (o : Option Demand) (c : Demand) (stops : Bool)
-    → v.bench.start ≡ s → HasAnswered s m st v old now before then → o ≡ Some c → IfSome now (λ ys. TakesNext m o ys next) → IsAnswered m v c w stops then after → stops ≡ true
+pub answered_last : (s : Start) (m : Mode) (st : State) (v w : DeskView) (old now next before then said after : Option (List ℕ)) (o : Option Demand) (c : Demand) (stops : Bool)
+    → v.bench.start ≡ s → HasAnswered s m st v old now before then → o ≡ Some c → IfSome now (λ ys. TakesNext m o ys next) → IfSome now (λ ys. WritesEcho m o ys then said)
+    → IsAnswered m v c w stops said after → stops ≡ true
     → IfSome old (λ xs. (text : List ℕ) × AreAnswers Stopped s m st (lines xs) text × Appends before after text)
-answered_last s m st v w None now next before then after o c stops i h e t r on = tt
-answered_last s m st v w (Some xs) None next before then after o c stops i h e t r on = absurd h
-answered_last s m st v w (Some xs) (Some ys) None before then after o c stops i h e t r on = absurd (subst (λ p. TakesNext m p ys None) e t)
-answered_last s m st v w (Some xs) (Some ys) (Some zs) before then after o c stops i h e t r on =
+answered_last s m st v w None now next before then said after o c stops i h e t k r on = tt
+answered_last s m st v w (Some xs) None next before then said after o c stops i h e t k r on = absurd h
+answered_last s m st v w (Some xs) (Some ys) None before then said after o c stops i h e t k r on = absurd (subst (λ p. TakesNext m p ys None) e t)
+answered_last s m st v w (Some xs) (Some ys) (Some zs) before then said after o c stops i h e t k r on =
     let a = next_answered s m st v w xs ys zs before then o c r.reply i h e t r.turn in
-    (h.2 ++ r.reply, (h.2, r.reply, a.0, sym r.stopping ∙ on, refl), Appends-trans before then after h.2 r.reply h.3 r.written)
+    let text = h.2 ++ echoed m (lines ys) in
+    (text ++ r.reply, (text, r.reply, a.0, sym r.stopping ∙ on, refl), echo_appended m o c ys h.2 r.reply before then said after e h.3 k r.written)
 
--- the lines that are left could not be read: no more was written
-pub answered_begun : (s : Start) (m : Mode) (st : State) (v : DeskView) (old now before after : Option (List ℕ))
-    → HasAnswered s m st v old now before after
+-- of the echo of the next line, a front was written
+pub answered_begun : (s : Start) (m : Mode) (st : State) (v : DeskView) (old now before then after : Option (List ℕ))
+    → HasAnswered s m st v old now before then → IfSome now (λ ys. AppendsFront then after (echoed m (lines ys)))
     → IfSome old (λ xs. (text : List ℕ) × AreBegun s m st (lines xs) text × Appends before after text)
-answered_begun s m st v None now before after h = tt
-answered_begun s m st v (Some xs) None before after h = absurd h
-answered_begun s m st v (Some xs) (Some ys) before after h = (h.2, whole h.4, h.3)
+answered_begun s m st v None now before then after h a = tt
+answered_begun s m st v (Some xs) None before then after h a = absurd h
+answered_begun s m st v (Some xs) (Some ys) before then after h a = (h.2 ++ a.front, echoing a.front a.behind h.4 a.parts, Appends-trans before then after h.2 a.front h.3 a.appended)
+
+-- its whole echo was written, and no more
+answered_silent : (s : Start) (m : Mode) (st : State) (v : DeskView) (old now before then after : Option (List ℕ)) (o : Option Demand) (c : Demand)
+    → HasAnswered s m st v old now before then → o ≡ Some c → IfSome now (λ ys. WritesEcho m o ys then after)
+    → IfSome old (λ xs. (text : List ℕ) × AreBegun s m st (lines xs) text × Appends before after text)
+answered_silent s m st v None now before then after o c h e k = tt
+answered_silent s m st v (Some xs) None before then after o c h e k = absurd h
+answered_silent s m st v (Some xs) (Some ys) before then after o c h e k =
+    let echo : Appends then after (echoed m (lines ys)) = subst (λ p. WritesEcho m p ys then after) e k in
+    (h.2 ++ echoed m (lines ys), echoing (echoed m (lines ys)) [] h.4 (sym (append-nil (echoed m (lines ys)))), Appends-trans before then after h.2 (echoed m (lines ys)) h.3 echo)
 
 -- of the answer to one command more, a front was written
-answered_front : (s : Start) (m : Mode) (st : State) (v w : DeskView) (old now next before then after : Option (List ℕ)) (o : Option Demand) (c : Demand) (text : List ℕ)
-    → v.bench.start ≡ s → HasAnswered s m st v old now before then → o ≡ Some c → IfSome now (λ ys. TakesNext m o ys next) → TurnsIn m v c text w → AppendsFront then after text
+answered_front : (s : Start) (m : Mode) (st : State) (v w : DeskView) (old now next before then said after : Option (List ℕ)) (o : Option Demand) (c : Demand) (text : List ℕ)
+    → v.bench.start ≡ s → HasAnswered s m st v old now before then → o ≡ Some c → IfSome now (λ ys. TakesNext m o ys next) → IfSome now (λ ys. WritesEcho m o ys then said)
+    → TurnsIn m v c text w → AppendsFront said after text
     → IfSome old (λ xs. (text : List ℕ) × AreBegun s m st (lines xs) text × Appends before after text)
-answered_front s m st v w None now next before then after o c text i h e t r a = tt
-answered_front s m st v w (Some xs) None next before then after o c text i h e t r a = absurd h
-answered_front s m st v w (Some xs) (Some ys) None before then after o c text i h e t r a = absurd (subst (λ p. TakesNext m p ys None) e t)
-answered_front s m st v w (Some xs) (Some ys) (Some zs) before then after o c text i h e t r a =
+answered_front s m st v w None now next before then said after o c text i h e t k r a = tt
+answered_front s m st v w (Some xs) None next before then said after o c text i h e t k r a = absurd h
+answered_front s m st v w (Some xs) (Some ys) None before then said after o c text i h e t k r a = absurd (subst (λ p. TakesNext m p ys None) e t)
+answered_front s m st v w (Some xs) (Some ys) (Some zs) before then said after o c text i h e t k r a =
     let n = next_answered s m st v w xs ys zs before then o c text i h e t r in
-    (h.2 ++ a.front, within a.front a.behind (subst (AnswersNext s m st (lines xs) h.2) a.parts n.0), Appends-trans before then after h.2 a.front h.3 a.appended)
+    let first = h.2 ++ echoed m (lines ys) in
+    (first ++ a.front, replying a.front a.behind (subst (AnswersNext s m st (lines xs) first) a.parts n.0), echo_appended m o c ys h.2 a.front before then said after e h.3 k a.appended)
 
 -- the answer to one command more broke off
-pub answered_broken : (s : Start) (m : Mode) (st : State) (v : DeskView) (old now next before then after : Option (List ℕ)) (o : Option Demand) (c : Demand)
-    → v.bench.start ≡ s → HasAnswered s m st v old now before then → o ≡ Some c → IfSome now (λ ys. TakesNext m o ys next) → IsBrokenOff m v c then after
+pub answered_broken : (s : Start) (m : Mode) (st : State) (v : DeskView) (old now next before then said after : Option (List ℕ)) (o : Option Demand) (c : Demand)
+    → v.bench.start ≡ s → HasAnswered s m st v old now before then → o ≡ Some c → IfSome now (λ ys. TakesNext m o ys next) → IfSome now (λ ys. WritesEcho m o ys then said)
+    → IsBrokenOff m v c said after
     → IfSome old (λ xs. (text : List ℕ) × AreBegun s m st (lines xs) text × Appends before after text)
-answered_broken s m st v old now next before then after o c i h e t (silent same) =
-    rw same (answered_begun s m st v old now before then h)
-answered_broken s m st v old now next before then after o c i h e t (partly {new = w} {reply = text} r a) =
-    answered_front s m st v w old now next before then after o c text i h e t r a
+answered_broken s m st v old now next before then said after o c i h e t k (silent same) =
+    rw same (answered_silent s m st v old now before then said o c h e k)
+answered_broken s m st v old now next before then said after o c i h e t k (partly {new = w} {reply = text} r a) =
+    answered_front s m st v w old now next before then said after o c text i h e t k r a
 
 -- whatever state the desk was in
 pub all_begun : (m : Mode) (old : Option (List ℕ)) (v : DeskView) (before after : Option (List ℕ))

@@ -1,6 +1,10 @@
 -- Demands taken from the lines that are left.
-use Rattle.std.proofs.Common.{◌≡◌, ℕ, Bool, List, [], sym, ap, subst}
-use Rattle.std.specs.Prelude.{Option, Some, None, IfSome}
+use Rattle.std.proofs.Common.{◌≡◌, ℕ, ◌+◌, ◌<◌, Bool, true, false, List, [], ◌∷◌, length, append-nil, refl, sym, ap, ◌∙◌, subst}
+use Rattle.std.proofs.KnownBytes.{Appends-nil}
+use Rattle.std.specs.Prelude.{Option, Some, None, IfSome, IsSomeAnd, if◌then◌else◌}
+use Rattle.std.specs.Io.KnownBytes.{Appends}
+use Rattle.ic_command.specs.Faults.{AppendsFront}
+use Rattle.ic_command.specs.declared.command.TheConstants.{MAX_COMMAND}
 use Rattle.ic_command.specs.declared.lines.piece.Piece.{Piece}
 use Rattle.ic_command.specs.declared.lines.piece.Piece.TheVariants.{End, Line, TooLong}
 use Rattle.ic_command.specs.declared.command.Command.TheVariants.{Malformed}
@@ -11,29 +15,37 @@ use Rattle.ic_session.specs.InputLines.{lines}
 use Rattle.ic_session.specs.NextRequest.{alone}
 use Rattle.ic_session.specs.Modes.{IsDone, IsQuestionAt, Quits, TakesDemand, TakesNext, asks, no_line, quits, requests}
 use Rattle.ic_session.specs.TakenLines.{TakesLine}
+use Rattle.ic_session.specs.Echoes.{WritesEcho, echo_in, echo_of, echoed}
+use Rattle.ic_session.specs.declared.demand.Demand.{Demand}
 use Rattle.ic_session.specs.declared.demand.Demand.TheVariants.{Asks, Requests}
 use Rattle.ic_session.specs.declared.mode.Mode.{Mode}
-use Rattle.ic_session.proofs.LongLines.{long_asked, long_stays, long_unasked}
+use Rattle.ic_session.proofs.LongLines.{long_asked, long_stays, long_unasked, long_unechoed}
 use Rattle.ic_session.proofs.RequestsTaken.{TakesAt}
 
--- a line that asks a question
-pub question_taken : (m : Mode) (old now : Option (List ℕ)) (line : List ℕ) (ended : Bool) (p : Piece) (q : Question) → p ≡ Line ended → IfSome old (λ xs. TakesLine p line xs now)
-    → IsQuestionAt m line (Some q) → IfSome old (λ xs. TakesNext m (Some (Asks q)) xs now)
-question_taken m None now line ended p q is t a = tt
-question_taken m (Some xs) None line ended p q is t a = absurd (subst (λ r. TakesLine r line xs None) is t)
-question_taken m (Some xs) (Some ys) line ended p q is t a =
-    let taken = subst (λ r. TakesLine r line xs (Some ys)) is t in
-    subst (λ ls. TakesDemand m ls (Asks q) (lines ys)) (sym taken) (asks a.0 a.1)
+-- a line, whether it had a line feed or not, asks for this with some of those behind it, if it doesn't end the session
+abbrev pub AsksAt : Mode → List ℕ → Demand → Option (List ℕ) → Option (List ℕ) → Type 0
+AsksAt m line d old new = IfSome old (λ bytes. IsSomeAnd new (λ rest. (ended : Bool) → ¬ (Quits m line) → TakesDemand m (record { bytes = line; ended = ended } ∷ lines bytes) d (lines rest)))
 
--- one that doesn't, with the lines that its request takes
-pub request_taken : (m : Mode) (old now new : Option (List ℕ)) (line : List ℕ) (ended : Bool) (p : Piece) (r : Request) → p ≡ Line ended → IfSome old (λ xs. TakesLine p line xs now)
-    → IsQuestionAt m line None → ¬ (Quits m line) → TakesAt line r now new → IfSome old (λ xs. TakesNext m (Some (Requests r)) xs new)
-request_taken m None now new line ended p r is t none on h = tt
-request_taken m (Some xs) None new line ended p r is t none on h = absurd (subst (λ q. TakesLine q line xs None) is t)
-request_taken m (Some xs) (Some ys) None line ended p r is t none on h = absurd h
-request_taken m (Some xs) (Some ys) (Some zs) line ended p r is t none on h =
+-- one that asks a question
+pub question_at : (m : Mode) (old : Option (List ℕ)) (line : List ℕ) (q : Question) → IsQuestionAt m line (Some q) → AsksAt m line (Asks q) old old
+question_at m None line q a = tt
+question_at m (Some xs) line q a = λ ended on. asks a.0 a.1
+
+-- one that doesn't
+pub request_at : (m : Mode) (old new : Option (List ℕ)) (line : List ℕ) (r : Request) → IsQuestionAt m line None → TakesAt line r old new → AsksAt m line (Requests r) old new
+request_at m None new line r none h = tt
+request_at m (Some xs) None line r none h = absurd h
+request_at m (Some xs) (Some ys) line r none h = λ ended on. requests none on (h ended)
+
+-- a line that was taken, with those that its demand takes
+pub demand_taken : (m : Mode) (old now new : Option (List ℕ)) (line : List ℕ) (ended : Bool) (p : Piece) (d : Demand) → p ≡ Line ended → IfSome old (λ xs. TakesLine p line xs now)
+    → ¬ (Quits m line) → AsksAt m line d now new → IfSome old (λ xs. TakesNext m (Some d) xs new)
+demand_taken m None now new line ended p d is t on h = tt
+demand_taken m (Some xs) None new line ended p d is t on h = absurd (subst (λ q. TakesLine q line xs None) is t)
+demand_taken m (Some xs) (Some ys) None line ended p d is t on h = absurd h
+demand_taken m (Some xs) (Some ys) (Some zs) line ended p d is t on h =
     let taken = subst (λ q. TakesLine q line xs (Some ys)) is t in
-    subst (λ ls. TakesDemand m ls (Requests r) (lines zs)) (sym taken) (requests none on (h ended))
+    subst (λ ls. TakesDemand m ls d (lines zs)) (sym taken) (h ended on)
 
 -- one that is too long
 pub long_demand : (m : Mode) (old now : Option (List ℕ)) (line : List ℕ) (p : Piece) → p ≡ TooLong → IfSome old (λ xs. TakesLine p line xs now)
@@ -59,3 +71,53 @@ end_taken m None now line p is t = tt
 end_taken m (Some xs) now line p is t =
     let none = subst (λ r. TakesLine r line xs now) is t in
     subst (λ zs. IsDone m (lines zs)) (sym none.0) no_line
+
+-- the echo of a line is that of the first line
+line_echo : (m : Mode) (xs ys line : List ℕ) (ended : Bool) → lines xs ≡ record { bytes = line; ended = ended } ∷ lines ys → echo_in m line ≡ echoed m (lines xs)
+line_echo m xs ys line ended taken = ap (echoed m) (sym taken)
+
+-- it was written
+pub echo_written : (m : Mode) (old now : Option (List ℕ)) (line : List ℕ) (ended : Bool) (p : Piece) (d : Demand) (before after : Option (List ℕ)) → p ≡ Line ended
+    → IfSome old (λ xs. TakesLine p line xs now) → Appends before after (echo_in m line) → IfSome old (λ xs. WritesEcho m (Some d) xs before after)
+echo_written m None now line ended p d before after is t a = tt
+echo_written m (Some xs) None line ended p d before after is t a = absurd (subst (λ r. TakesLine r line xs None) is t)
+echo_written m (Some xs) (Some ys) line ended p d before after is t a =
+    subst (Appends before after) (line_echo m xs ys line ended (subst (λ r. TakesLine r line xs (Some ys)) is t)) a
+
+-- or a front of it
+pub echo_begun : (m : Mode) (old now : Option (List ℕ)) (line : List ℕ) (ended : Bool) (p : Piece) (before after : Option (List ℕ)) → p ≡ Line ended
+    → IfSome old (λ xs. TakesLine p line xs now) → AppendsFront before after (echo_in m line) → IfSome old (λ xs. AppendsFront before after (echoed m (lines xs)))
+echo_begun m None now line ended p before after is t a = tt
+echo_begun m (Some xs) None line ended p before after is t a = absurd (subst (λ r. TakesLine r line xs None) is t)
+echo_begun m (Some xs) (Some ys) line ended p before after is t a =
+    subst (AppendsFront before after) (line_echo m xs ys line ended (subst (λ r. TakesLine r line xs (Some ys)) is t)) a
+
+-- or all of it
+pub whole_front : {before after : Option (List ℕ)} {text : List ℕ} → Appends before after text → AppendsFront before after text
+whole_front {text = text} a = record { front = text; behind = []; parts = sym (append-nil text); appended = a }
+
+-- or nothing
+pub no_front : (m : Mode) (old before : Option (List ℕ)) → IfSome old (λ xs. AppendsFront before before (echoed m (lines xs)))
+no_front m None before = tt
+no_front m (Some xs) before = record { front = []; behind = echoed m (lines xs); parts = refl; appended = Appends-nil before }
+
+-- a line that is too long has none
+long_echo : (m : Mode) (line : List ℕ) → MAX_COMMAND + 1 < length line → echo_in m line ≡ []
+long_echo m line long = go m.echoes
+  where
+    go : (b : Bool) → (if b then echo_of line else []) ≡ []
+    go false = refl
+    go true = long_unechoed line long
+
+pub long_silent : (m : Mode) (old now : Option (List ℕ)) (line : List ℕ) (p : Piece) (before : Option (List ℕ)) → p ≡ TooLong
+    → IfSome old (λ xs. TakesLine p line xs now) → IfSome old (λ xs. WritesEcho m (Some (Requests (Bench Malformed))) xs before before)
+long_silent m None now line p before is t = tt
+long_silent m (Some xs) None line p before is t = absurd (subst (λ q. TakesLine q line xs None) is t)
+long_silent m (Some xs) (Some ys) line p before is t =
+    let long = subst (λ q. TakesLine q line xs (Some ys)) is t in
+    subst (Appends before before) (sym (ap (echoed m) long.1 ∙ long_echo m long.0.bytes long.2)) (Appends-nil before)
+
+-- no demand, no echo
+pub none_silent : (m : Mode) (old before : Option (List ℕ)) → IfSome old (λ xs. WritesEcho m None xs before before)
+none_silent m None before = tt
+none_silent m (Some xs) before = refl

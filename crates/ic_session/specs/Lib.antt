@@ -1,4 +1,5 @@
 pub mod InputLines
+pub mod Echoes
 pub mod NetInput
 pub mod NextRequest
 pub mod TakenLines

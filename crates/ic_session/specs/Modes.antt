@@ -18,7 +18,7 @@ use Rattle.ic_session.specs.NextRequest.{Takes}
 
 -- a session of so many workers and this budget that only answers, to the end
 abbrev pub plain : ℕ → ℕ → Mode
-plain workers budget = record { workers = workers; budget = budget; explains = false; stops = false }
+plain workers budget = record { workers = workers; budget = budget; explains = false; stops = false; echoes = false }
 
 -- the line ends the session
 abbrev pub Quits : Mode → List ℕ → Type 0

@@ -66,6 +66,7 @@ pub fn run_bounded<R: Read, W: Write, T: Threads + Wait + Sync>(
         budget,
         explains: false,
         stops: false,
+        echoes: false,
     };
     run_quietly(threads, alloc, reader, writer, mode, reads)
 }

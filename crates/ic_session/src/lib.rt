@@ -4,6 +4,7 @@
 mod advice;
 mod bounded;
 pub mod demand;
+mod echo;
 mod expected;
 pub mod fault;
 pub mod laws;

@@ -9,4 +9,6 @@ pub struct Mode {
     pub explains: bool,
     /// Whether the session ends at the first command that it refuses.
     pub stops: bool,
+    /// Whether each command stands before its answer.
+    pub echoes: bool,
 }

@@ -1,36 +1,47 @@
-ghost use Rattle.std.specs.Prelude.{◌<◌, ◌≤◌, ◌↔◌, Bool, IfErr, IfOk, IfSome, IsSome, IsSomeAnd, IsTrue, OnOk, ◌∷◌};
+ghost use Rattle.std.specs.Prelude.{◌≡◌, ◌<◌, ◌≤◌, ◌↔◌, Bool, true, IfErr, IfOk, IfSome, IsSome, IsSomeAnd, IsTrue, OnErr, OnOk, ◌∷◌};
 ghost use Rattle.ic_command.specs.Left.{left, work};
-ghost use Rattle.ic_command.specs.Faults.{IsReadFault};
+ghost use Rattle.ic_command.specs.Faults.{AppendsFront, IsReadFault};
+ghost use Rattle.ic_command.specs.declared.lines.piece.IoFault.TheVariants as io;
+ghost use Rattle.ic_session.specs.Echoes.{WritesEcho, echoed};
 ghost use Rattle.ic_session.specs.InputLines.{lines};
-ghost use Rattle.ic_session.specs.Modes.{IsQuestionAt, Quits, TakesNext};
+ghost use Rattle.ic_session.specs.Modes.{IsQuestionAt, Quits, TakesDemand, TakesNext};
 ghost use Rattle.ic_session.specs.NextRequest.{Takes};
 
 use crate::demand::Demand;
+use crate::echo::echo;
 use crate::listed_events::listed_events;
 use crate::mode::Mode;
 use crate::place::Place;
 use crate::taken_line::take_line;
 use ic_command::{
-    Asked, Command, Input, IoFault, Piece, Question, Request, asked_of, is_quit, question_of,
+    Asked, Command, Input, IoFault, Output, Piece, Question, Request, asked_of, is_quit,
+    question_of,
 };
 use std::alloc::{AllocError, Global};
-use std::io::Read;
+use std::io::{Read, Write};
 
 /// What the next line asks for, with the lines behind it that it takes; `None` if the input has ended, or if the line ends the
-/// session. `line` is room for a line, and `place` goes along.
-pub(crate) fn next_demand<R: Read>(
+/// session. A session that echoes has written the line then. `line` is room for a line, and `place` goes along.
+pub(crate) fn next_demand<R: Read, W: Write>(
     alloc: Global,
     input: &mut Input,
     reader: &mut R,
+    output: &mut Output,
+    writer: &mut W,
     line: &mut Vec<u8>,
     place: &mut Place,
     mode: Mode,
 ) -> Result<Option<Demand>, IoFault>
     ensures taken { IfOk result (λ demand. IfSome (left input.old (R.remaining reader.old))
         (λ bytes. TakesNext mode demand bytes (left input.new (R.remaining reader.new)))) }
+    ensures echoed { IfOk result (λ demand. IfSome (left input.old (R.remaining reader.old))
+        (λ bytes. WritesEcho mode demand bytes (W.contents writer.old) (W.contents writer.new))) }
+    ensures begun { OnErr result (IfSome (left input.old (R.remaining reader.old))
+        (λ bytes. AppendsFront (W.contents writer.old) (W.contents writer.new) (echoed mode (lines bytes)))) }
     ensures less { IfOk result (λ demand. IsSome demand → work input.new < work input.old) }
     ensures fewer { input.new.reads ≤ input.old.reads }
-    ensures fault { IfErr result (IsReadFault input.new.reads) }
+    ensures read { IfErr result (λ fault. fault ≡ io.Read → input.new.reads ≡ 0) }
+    ensures write { IfErr result (λ fault. fault ≡ io.Write → output.new.failed ≡ true) }
 {
     match take_line(input, reader, line)? {
         Piece::Line(_) => {
@@ -38,13 +49,9 @@ pub(crate) fn next_demand<R: Read>(
             if quits(line, mode) {
                 return Ok(None);
             }
-            match question_at(alloc, line, mode)? {
-                Some(question) => Ok(Some(Demand::Asks(question))),
-                None => {
-                    let request = request_at(alloc, input, reader, line, place)?;
-                    Ok(Some(Demand::Requests(request)))
-                }
-            }
+            echo(alloc, line, output, writer, mode)?;
+            let demand = demand_at(alloc, input, reader, line, place, mode)?;
+            Ok(Some(demand))
         }
         Piece::TooLong => {
             place.enter_long();
@@ -59,6 +66,31 @@ fn quits(line: &[u8], mode: Mode) -> bool
     ensures { IsTrue result ↔ Quits mode line.now }
 {
     mode.explains && is_quit(line)
+}
+
+/// What a line that was taken asks for, with the lines behind it that it takes.
+fn demand_at<R: Read>(
+    alloc: Global,
+    input: &mut Input,
+    reader: &mut R,
+    line: &mut Vec<u8>,
+    place: &mut Place,
+    mode: Mode,
+) -> Result<Demand, IoFault>
+    ensures taken { IfOk result (λ demand. IfSome (left input.old (R.remaining reader.old))
+        (λ bytes. IsSomeAnd (left input.new (R.remaining reader.new)) (λ rest. (ended : Bool) → ¬ (Quits mode line.old.items)
+        → TakesDemand mode (record { bytes = line.old.items; ended = ended } ∷ lines bytes) demand (lines rest)))) }
+    ensures less { OnOk result (work input.new ≤ work input.old) }
+    ensures fewer { input.new.reads ≤ input.old.reads }
+    ensures fault { IfErr result (IsReadFault input.new.reads) }
+{
+    match question_at(alloc, line, mode)? {
+        Some(question) => Ok(Demand::Asks(question)),
+        None => {
+            let request = request_at(alloc, input, reader, line, place)?;
+            Ok(Demand::Requests(request))
+        }
+    }
 }
 
 /// The question of a line, if it asks one in a session of this mode.

@@ -144,7 +144,16 @@ fn answer_all<R: Read, W: Write, E: Write, T: Threads + Wait + Sync, G: Gate>(
     let mut line = Vec::new(alloc);
     loop {
         ask_for_command(errors, setting.prompts);
-        match next_demand(alloc, input, reader, &mut line, place, setting.mode)? {
+        match next_demand(
+            alloc,
+            input,
+            reader,
+            output,
+            writer,
+            &mut line,
+            place,
+            setting.mode,
+        )? {
             Some(demand) => {
                 let (after, stops) = answer(
                     setting, desk, demand, &line, output, writer, errors, *place,

@@ -1,6 +1,7 @@
 //! Tests of `ic_session`.
 
 mod drips;
+mod echoes;
 mod faults;
 mod flushes;
 mod repeated_lines;

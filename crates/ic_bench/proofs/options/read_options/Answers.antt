@@ -23,8 +23,10 @@ returns-clause-chosen g c =
           c.get_flag.result c.get_flag.ensures.none c.get_flag.ensures.value c.get_flag.ensures.other;
       stops = flag_chosen (codes "stop") c.in_ok-command.field-0 c.in_ok-matches.matches words made.shape parsed.matches
           c.get_flag-2.result c.get_flag-2.ensures.none c.get_flag-2.ensures.value c.get_flag-2.ensures.other;
-      interactive = flag_chosen (codes "interactive") c.in_ok-command.field-0 c.in_ok-matches.matches words made.shape parsed.matches
+      echoes = flag_chosen (codes "echo") c.in_ok-command.field-0 c.in_ok-matches.matches words made.shape parsed.matches
           c.get_flag-3.result c.get_flag-3.ensures.none c.get_flag-3.ensures.value c.get_flag-3.ensures.other;
+      interactive = flag_chosen (codes "interactive") c.in_ok-command.field-0 c.in_ok-matches.matches words made.shape parsed.matches
+          c.get_flag-4.result c.get_flag-4.ensures.none c.get_flag-4.ensures.value c.get_flag-4.ensures.other;
     }
 
 pub returns-clause-files : goal.returns-clause-files

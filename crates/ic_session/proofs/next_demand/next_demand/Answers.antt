@@ -1,17 +1,16 @@
-use Rattle.std.proofs.Common.{◌≡◌, ℕ, Bool, true, false, List, Option, sym, subst}
+use Rattle.std.proofs.Common.{◌≡◌, ℕ, Bool, true, false, List, sym, subst}
 use Rattle.std.specs.Prelude.{◌↔◌, IsTrue}
-use Rattle.ic_command.specs.declared.question.Question.{Question}
+use Rattle.std.specs.Io.KnownBytes.{Appends}
+use Rattle.ic_path.proofs.Errors.{at_error}
+use Rattle.ic_command.specs.Faults.{AppendsFront}
 use Rattle.ic_command.specs.Left.{left}
-use Rattle.ic_session.specs.Modes.{IsQuestionAt, Quits}
+use Rattle.ic_session.specs.Echoes.{echo_in}
+use Rattle.ic_session.specs.Modes.{Quits}
 use Rattle.ic_session.specs.declared.mode.Mode.{Mode}
-use Rattle.ic_session.proofs.DemandsTaken.{end_taken, long_demand, question_taken, quit_taken, request_taken}
+use Rattle.ic_session.proofs.DemandsTaken.{demand_taken, echo_begun, echo_written, end_taken, long_demand, long_silent, no_front, none_silent, quit_taken, whole_front}
 use Rattle.ic_session.proofs.next_demand.next_demand.Goals as goal
 
--- what the bytes that were read ask, the line does
-asks : (m : Mode) (bytes line : List ℕ) (a b : Option Question) → bytes ≡ line → a ≡ b → IsQuestionAt m bytes a → IsQuestionAt m line b
-asks m bytes line a b same is h = subst (IsQuestionAt m line) is (subst (λ xs. IsQuestionAt m xs a) same h)
-
--- and whether they end the session
+-- what the bytes that were read end, the line does
 ends : (m : Mode) (bytes line : List ℕ) (b : Bool) → bytes ≡ line → b ≡ true → IsTrue b ↔ Quits m bytes → Quits m line
 ends m bytes line b same is h = subst (Quits m) same (h.0 is)
 
@@ -29,19 +28,51 @@ returns-in-End-clause-taken g c =
     end_taken c.args.mode (left c.args.input.now (g.R.Read.remaining c.args.reader.now)) (left c.take_line.new.input (g.R.Read.remaining c.take_line.new.reader))
     c.take_line.new.line.items c.in_ok-take_line.field-0 c.in-End.is c.in_ok-take_line.ensures.taken
 
-pub returns-in-Some-clause-taken : goal.returns-in-Some-clause-taken
-returns-in-Some-clause-taken g c =
-    question_taken c.args.mode (left c.args.input.now (g.R.Read.remaining c.args.reader.now)) (left c.take_line.new.input (g.R.Read.remaining c.take_line.new.reader))
-    c.take_line.new.line.items c.in-Line.field-0 c.in_ok-take_line.field-0 c.in-Some.question c.in-Line.is c.in_ok-take_line.ensures.taken
-    (asks c.args.mode _ _ _ _ c.deref-in-Line-2.ensures.value c.in-Some.is c.in_ok-question-in-Line.ensures)
-
-pub returns-in_ok-request-in-None-clause-taken : goal.returns-in_ok-request-in-None-clause-taken
-returns-in_ok-request-in-None-clause-taken g c =
-    request_taken c.args.mode (left c.args.input.now (g.R.Read.remaining c.args.reader.now)) (left c.take_line.new.input (g.R.Read.remaining c.take_line.new.reader)) (left c.request_at.new.input (g.R.Read.remaining c.request_at.new.reader))
-    c.take_line.new.line.items c.in-Line.field-0 c.in_ok-take_line.field-0 c.in_ok-request-in-None.request c.in-Line.is c.in_ok-take_line.ensures.taken
-    (asks c.args.mode _ _ _ _ c.deref-in-Line-2.ensures.value c.in-None.is c.in_ok-question-in-Line.ensures) (stays c.args.mode _ _ _ c.deref-in-Line.ensures.value c.if-quits.false c.quits.ensures) c.in_ok-request-in-None.ensures.taken
+pub returns-in_ok-demand-in-Line-clause-taken : goal.returns-in_ok-demand-in-Line-clause-taken
+returns-in_ok-demand-in-Line-clause-taken g c =
+    demand_taken c.args.mode (left c.args.input.now (g.R.Read.remaining c.args.reader.now)) (left c.take_line.new.input (g.R.Read.remaining c.take_line.new.reader)) (left c.demand_at.new.input (g.R.Read.remaining c.demand_at.new.reader))
+    c.take_line.new.line.items c.in-Line.field-0 c.in_ok-take_line.field-0 c.in_ok-demand-in-Line.demand c.in-Line.is c.in_ok-take_line.ensures.taken
+    (stays c.args.mode _ _ _ c.deref-in-Line.ensures.value c.if-quits.false c.quits.ensures) c.in_ok-demand-in-Line.ensures.taken
 
 pub returns-in-TooLong-clause-taken : goal.returns-in-TooLong-clause-taken
 returns-in-TooLong-clause-taken g c =
     long_demand c.args.mode (left c.args.input.now (g.R.Read.remaining c.args.reader.now)) (left c.take_line.new.input (g.R.Read.remaining c.take_line.new.reader))
     c.take_line.new.line.items c.in_ok-take_line.field-0 c.in-TooLong.is c.in_ok-take_line.ensures.taken
+
+pub returns-then-quits-clause-echoed : goal.returns-then-quits-clause-echoed
+returns-then-quits-clause-echoed g c = none_silent c.args.mode (left c.args.input.now (g.R.Read.remaining c.args.reader.now)) (g.W.Write.contents c.args.writer.now)
+
+pub returns-in-End-clause-echoed : goal.returns-in-End-clause-echoed
+returns-in-End-clause-echoed g c = none_silent c.args.mode (left c.args.input.now (g.R.Read.remaining c.args.reader.now)) (g.W.Write.contents c.args.writer.now)
+
+pub returns-in-TooLong-clause-echoed : goal.returns-in-TooLong-clause-echoed
+returns-in-TooLong-clause-echoed g c =
+    long_silent c.args.mode (left c.args.input.now (g.R.Read.remaining c.args.reader.now)) (left c.take_line.new.input (g.R.Read.remaining c.take_line.new.reader))
+    c.take_line.new.line.items c.in_ok-take_line.field-0 (g.W.Write.contents c.args.writer.now) c.in-TooLong.is c.in_ok-take_line.ensures.taken
+
+pub returns-in_ok-demand-in-Line-clause-echoed : goal.returns-in_ok-demand-in-Line-clause-echoed
+returns-in_ok-demand-in-Line-clause-echoed g c =
+    echo_written c.args.mode (left c.args.input.now (g.R.Read.remaining c.args.reader.now)) (left c.take_line.new.input (g.R.Read.remaining c.take_line.new.reader))
+    c.take_line.new.line.items c.in-Line.field-0 c.in_ok-take_line.field-0 c.in_ok-demand-in-Line.demand (g.W.Write.contents c.args.writer.now) (g.W.Write.contents c.echo.new.writer)
+    c.in-Line.is c.in_ok-take_line.ensures.taken
+    (subst (λ bytes. Appends (g.W.Write.contents c.args.writer.now) (g.W.Write.contents c.echo.new.writer) (echo_in c.args.mode bytes)) c.deref-in-Line-2.ensures.value c.in_ok-echo-in-Line.ensures.written)
+
+pub returns-in_err-take_line-clause-begun : goal.returns-in_err-take_line-clause-begun
+returns-in_err-take_line-clause-begun g c =
+    at_error c.from_residual.result (no_front c.args.mode (left c.args.input.now (g.R.Read.remaining c.args.reader.now)) (g.W.Write.contents c.args.writer.now))
+
+pub returns-in_err-echo-in-Line-clause-begun : goal.returns-in_err-echo-in-Line-clause-begun
+returns-in_err-echo-in-Line-clause-begun g c =
+    at_error c.from_residual-in_err-echo-in-Line.result
+    (echo_begun c.args.mode (left c.args.input.now (g.R.Read.remaining c.args.reader.now)) (left c.take_line.new.input (g.R.Read.remaining c.take_line.new.reader))
+    c.take_line.new.line.items c.in-Line.field-0 c.in_ok-take_line.field-0 (g.W.Write.contents c.args.writer.now) (g.W.Write.contents c.echo.new.writer)
+    c.in-Line.is c.in_ok-take_line.ensures.taken
+    (subst (λ bytes. AppendsFront (g.W.Write.contents c.args.writer.now) (g.W.Write.contents c.echo.new.writer) (echo_in c.args.mode bytes)) c.deref-in-Line-2.ensures.value c.in_err-echo-in-Line.ensures.front))
+
+pub returns-in_err-demand-in-Line-clause-begun : goal.returns-in_err-demand-in-Line-clause-begun
+returns-in_err-demand-in-Line-clause-begun g c =
+    at_error c.from_residual-in_err-demand-in-Line.result
+    (echo_begun c.args.mode (left c.args.input.now (g.R.Read.remaining c.args.reader.now)) (left c.take_line.new.input (g.R.Read.remaining c.take_line.new.reader))
+    c.take_line.new.line.items c.in-Line.field-0 c.in_ok-take_line.field-0 (g.W.Write.contents c.args.writer.now) (g.W.Write.contents c.echo.new.writer)
+    c.in-Line.is c.in_ok-take_line.ensures.taken
+    (whole_front (subst (λ bytes. Appends (g.W.Write.contents c.args.writer.now) (g.W.Write.contents c.echo.new.writer) (echo_in c.args.mode bytes)) c.deref-in-Line-2.ensures.value c.in_ok-echo-in-Line.ensures.written)))

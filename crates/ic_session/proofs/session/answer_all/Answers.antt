@@ -21,17 +21,17 @@ loop-line-preserved g c =
       start = done.turn.start ∙ c.loop-line.invariant.start;
       answered = λ st at. answered_more c.args.desk.bench.start c.args.setting.now.mode st c.loop-line.desk _
           (left c.args.input.now (g.R.Read.remaining c.args.reader.now)) (left c.loop-line.input (g.R.Read.remaining c.loop-line.reader)) (left c.next_demand.new.input (g.R.Read.remaining c.next_demand.new.reader))
-          (g.W.Write.contents c.args.writer.now) (g.W.Write.contents c.loop-line.writer) (g.W.Write.contents c.answer.new.writer)
-          c.in_ok-demand.field-0 c.in-Some.demand _ c.loop-line.invariant.start (c.loop-line.invariant.answered st at) c.in-Some.is c.in_ok-demand.ensures.taken done c.if-stops.false;
+          (g.W.Write.contents c.args.writer.now) (g.W.Write.contents c.loop-line.writer) (g.W.Write.contents c.next_demand.new.writer) (g.W.Write.contents c.answer.new.writer)
+          c.in_ok-demand.field-0 c.in-Some.demand _ c.loop-line.invariant.start (c.loop-line.invariant.answered st at) c.in-Some.is c.in_ok-demand.ensures.taken c.in_ok-demand.ensures.echoed done c.if-stops.false;
       fewer = omega arith;
     }
 
 pub returns-in-None-clause-answered : goal.returns-in-None-clause-answered
 returns-in-None-clause-answered g c =
-    all_answered Ended c.args.setting.now.mode (left c.args.input.now (g.R.Read.remaining c.args.reader.now)) c.args.desk (g.W.Write.contents c.args.writer.now) (g.W.Write.contents c.loop-line.writer) (λ st at.
+    all_answered Ended c.args.setting.now.mode (left c.args.input.now (g.R.Read.remaining c.args.reader.now)) c.args.desk (g.W.Write.contents c.args.writer.now) (g.W.Write.contents c.next_demand.new.writer) (λ st at.
     answered_all c.args.desk.bench.start c.args.setting.now.mode st c.loop-line.desk (left c.args.input.now (g.R.Read.remaining c.args.reader.now)) (left c.loop-line.input (g.R.Read.remaining c.loop-line.reader))
-    (left c.next_demand.new.input (g.R.Read.remaining c.next_demand.new.reader)) (g.W.Write.contents c.args.writer.now) (g.W.Write.contents c.loop-line.writer)
-    c.in_ok-demand.field-0 (c.loop-line.invariant.answered st at) c.in-None.is c.in_ok-demand.ensures.taken)
+    (left c.next_demand.new.input (g.R.Read.remaining c.next_demand.new.reader)) (g.W.Write.contents c.args.writer.now) (g.W.Write.contents c.loop-line.writer) (g.W.Write.contents c.next_demand.new.writer)
+    c.in_ok-demand.field-0 (c.loop-line.invariant.answered st at) c.in-None.is c.in_ok-demand.ensures.taken c.in_ok-demand.ensures.echoed)
 
 pub returns-then-stops-clause-answered : goal.returns-then-stops-clause-answered
 returns-then-stops-clause-answered g c =
@@ -39,15 +39,16 @@ returns-then-stops-clause-answered g c =
     all_answered Stopped c.args.setting.now.mode (left c.args.input.now (g.R.Read.remaining c.args.reader.now)) c.args.desk (g.W.Write.contents c.args.writer.now) (g.W.Write.contents c.answer.new.writer) (λ st at.
     answered_last c.args.desk.bench.start c.args.setting.now.mode st c.loop-line.desk _
     (left c.args.input.now (g.R.Read.remaining c.args.reader.now)) (left c.loop-line.input (g.R.Read.remaining c.loop-line.reader)) (left c.next_demand.new.input (g.R.Read.remaining c.next_demand.new.reader))
-    (g.W.Write.contents c.args.writer.now) (g.W.Write.contents c.loop-line.writer) (g.W.Write.contents c.answer.new.writer)
-    c.in_ok-demand.field-0 c.in-Some.demand _ c.loop-line.invariant.start (c.loop-line.invariant.answered st at) c.in-Some.is c.in_ok-demand.ensures.taken done c.if-stops.true)
+    (g.W.Write.contents c.args.writer.now) (g.W.Write.contents c.loop-line.writer) (g.W.Write.contents c.next_demand.new.writer) (g.W.Write.contents c.answer.new.writer)
+    c.in_ok-demand.field-0 c.in-Some.demand _ c.loop-line.invariant.start (c.loop-line.invariant.answered st at) c.in-Some.is c.in_ok-demand.ensures.taken c.in_ok-demand.ensures.echoed done c.if-stops.true)
 
 pub returns-in_err-demand-clause-begun : goal.returns-in_err-demand-clause-begun
 returns-in_err-demand-clause-begun g c =
     at_error c.from_residual.result
-    (all_begun c.args.setting.now.mode (left c.args.input.now (g.R.Read.remaining c.args.reader.now)) c.args.desk (g.W.Write.contents c.args.writer.now) (g.W.Write.contents c.loop-line.writer) (λ st at.
+    (all_begun c.args.setting.now.mode (left c.args.input.now (g.R.Read.remaining c.args.reader.now)) c.args.desk (g.W.Write.contents c.args.writer.now) (g.W.Write.contents c.next_demand.new.writer) (λ st at.
     answered_begun c.args.desk.bench.start c.args.setting.now.mode st c.loop-line.desk (left c.args.input.now (g.R.Read.remaining c.args.reader.now)) (left c.loop-line.input (g.R.Read.remaining c.loop-line.reader))
-    (g.W.Write.contents c.args.writer.now) (g.W.Write.contents c.loop-line.writer) (c.loop-line.invariant.answered st at)))
+    (g.W.Write.contents c.args.writer.now) (g.W.Write.contents c.loop-line.writer) (g.W.Write.contents c.next_demand.new.writer) (c.loop-line.invariant.answered st at)
+    c.in_err-demand.ensures.begun))
 
 pub returns-in_err-after-in-Some-clause-begun : goal.returns-in_err-after-in-Some-clause-begun
 returns-in_err-after-in-Some-clause-begun g c =
@@ -56,6 +57,6 @@ returns-in_err-after-in-Some-clause-begun g c =
     (all_begun c.args.setting.now.mode (left c.args.input.now (g.R.Read.remaining c.args.reader.now)) c.args.desk (g.W.Write.contents c.args.writer.now) (g.W.Write.contents c.answer.new.writer) (λ st at.
     answered_broken c.args.desk.bench.start c.args.setting.now.mode st c.loop-line.desk
     (left c.args.input.now (g.R.Read.remaining c.args.reader.now)) (left c.loop-line.input (g.R.Read.remaining c.loop-line.reader)) (left c.next_demand.new.input (g.R.Read.remaining c.next_demand.new.reader))
-    (g.W.Write.contents c.args.writer.now) (g.W.Write.contents c.loop-line.writer) (g.W.Write.contents c.answer.new.writer)
+    (g.W.Write.contents c.args.writer.now) (g.W.Write.contents c.loop-line.writer) (g.W.Write.contents c.next_demand.new.writer) (g.W.Write.contents c.answer.new.writer)
     c.in_ok-demand.field-0 c.in-Some.demand c.loop-line.invariant.start (c.loop-line.invariant.answered st at) c.in-Some.is c.in_ok-demand.ensures.taken
-    broken))
+    c.in_ok-demand.ensures.echoed broken))

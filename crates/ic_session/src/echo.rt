@@ -1,0 +1,104 @@
+ghost use Rattle.std.specs.Prelude.{◌≡◌, ◌≢◌, true, IfErr, IfOk, OnErr, OnOk};
+ghost use Rattle.std.specs.List.{list_all};
+ghost use Rattle.std.specs.Io.BufRead.{strip_last};
+ghost use Rattle.std.specs.Io.KnownBytes.{Appends};
+ghost use Rattle.ic_command.specs.Commands.{is_comment, is_plain};
+ghost use Rattle.ic_command.specs.Faults.{AppendsFront};
+ghost use Rattle.ic_command.specs.Words.{words};
+ghost use Rattle.ic_command.specs.declared.lines.piece.IoFault.TheVariants as io;
+ghost use Rattle.ic_session.specs.Echoes.{echo_in, echo_of, is_echoed, is_unanswered, say_nothing};
+
+use crate::mode::Mode;
+use ic_command::words::next_word;
+use ic_command::{IoFault, MAX_COMMAND, Output};
+use std::alloc::{AllocError, Global};
+use std::io::Write;
+
+/// Writes what stands before the answer to a line: in a session that echoes, its echo.
+pub(crate) fn echo<W: Write>(
+    alloc: Global,
+    line: &[u8],
+    output: &mut Output,
+    writer: &mut W,
+    mode: Mode,
+) -> Result<(), IoFault>
+    ensures written { OnOk result (Appends (W.contents writer.old) (W.contents writer.new) (echo_in mode line.now)) }
+    ensures front { OnErr result (AppendsFront (W.contents writer.old) (W.contents writer.new) (echo_in mode line.now)) }
+    ensures fault { IfErr result (λ fault. fault ≢ io.Read) }
+    ensures write { IfErr result (λ fault. fault ≡ io.Write → output.new.failed ≡ true) }
+{
+    if !mode.echoes {
+        return Ok(());
+    }
+    let text = echo_of(alloc, line)?;
+    output.reply(writer, &text)
+}
+
+/// The echo of a line: `> `, the line and a line feed; or nothing, if the line is too long or gets no answer.
+fn echo_of(alloc: Global, line: &[u8]) -> Result<Vec<u8>, AllocError>
+    ensures { IfOk result (λ text. text.items ≡ echo_of line.now) }
+{
+    let body = without_return(line);
+    let mut text = Vec::new(alloc);
+    if is_echoed(body) {
+        text.extend_from_slice(b"> ")?;
+        text.extend_from_slice(body)?;
+        text.push(b'\n')?;
+    }
+    Ok(text)
+}
+
+/// The line without a carriage return at its end.
+fn without_return(line: &[u8]) -> &[u8]
+    ensures { result.now ≡ strip_last 13 line.now }
+{
+    match line.last() {
+        Some(b'\r') => &line[..line.len() - 1],
+        _ => line,
+    }
+}
+
+/// Whether a line isn't too long, and gets an answer.
+fn is_echoed(line: &[u8]) -> bool
+    ensures { result ≡ is_echoed line.now }
+{
+    line.len() <= MAX_COMMAND && !is_unanswered(line)
+}
+
+/// Whether a line gets no answer: it has no words, or is a comment.
+fn is_unanswered(line: &[u8]) -> bool
+    ensures { result ≡ is_unanswered line.now }
+{
+    says_nothing(line) && are_plain(line)
+}
+
+/// Whether a line has no words, or the first of them begins a comment.
+fn says_nothing(line: &[u8]) -> bool
+    ensures { result ≡ say_nothing (words line.now) }
+{
+    match next_word(line) {
+        None => true,
+        Some((word, _behind)) => is_comment(word),
+    }
+}
+
+fn is_comment(word: &[u8]) -> bool
+    ensures { result ≡ is_comment word.now }
+{
+    match word {
+        [] => false,
+        [byte, ..] => *byte == b'#',
+    }
+}
+
+fn is_plain(byte: u8) -> bool
+    ensures { result ≡ is_plain byte }
+{
+    matches!(byte, b' '..=b'~' | b'\t')
+}
+
+fn are_plain(line: &[u8]) -> bool
+    ensures { result ≡ list_all is_plain line.now }
+{
+    line.iter().all(|byte| is_plain(*byte))
+}
