@@ -4,6 +4,7 @@ pub mod MarkNames
 pub mod Requests
 pub mod Listed
 pub mod Asked
+pub mod Places
 pub mod Questions
 pub mod Lines
 pub mod Left

@@ -2,9 +2,11 @@
 use Rattle.std.specs.Prelude.{◌≡◌, ℕ, true, List, [], ◌∷◌, codes, Option, Some, None}
 use Rattle.std.specs.Io.BufRead.{strip_last}
 use Rattle.ic_name.specs.Events.{Pair}
+use Rattle.ic_command.specs.declared.place.Place.{Place}
 use Rattle.ic_command.specs.declared.question.Question.{Question}
-use Rattle.ic_command.specs.declared.question.Question.TheVariants.{Agents, Causes, Dependents, History, Marks, Rules, Help, Step, Steps, Unstep}
+use Rattle.ic_command.specs.declared.question.Question.TheVariants.{Agents, Causes, Dependents, History, Marks, Rules, Help, Step, Steps, Unstep, Wire}
 use Rattle.ic_command.specs.Commands.{AreAgents, IsNumber, is_well_formed}
+use Rattle.ic_command.specs.Places.{NamesPlace}
 use Rattle.ic_command.specs.Words.{words}
 
 -- words that ask a question
@@ -20,6 +22,7 @@ pub data AsksQuestion : List (List ℕ) → Question → Type 0 where
   unstep : AsksQuestion (codes "unstep" ∷ []) (Unstep 1)
   unstep_often : {w : List ℕ} {n : ℕ} → IsNumber w n → AsksQuestion (codes "unstep" ∷ w ∷ []) (Unstep n)
   dependents : {ws : List (List ℕ)} {e : Pair} → AreAgents ws e → AsksQuestion (codes "dependents" ∷ ws) (Dependents e)
+  wire : {ws : List (List ℕ)} {p : Place} → NamesPlace ws p → AsksQuestion (codes "wire" ∷ ws) (Wire p)
 
 -- the question that words ask, if they ask one
 abbrev pub AreQuestionWords : List (List ℕ) → Option Question → Type 0

@@ -183,7 +183,7 @@ pub(crate) fn event_of(
 }
 
 /// The name that a word writes; `None` where it writes none that an agent may have.
-fn name_in(alloc: Global, word: &[u8]) -> Result<Option<AgentName>, AllocError>
+pub(crate) fn name_in(alloc: Global, word: &[u8]) -> Result<Option<AgentName>, AllocError>
     ensures { IfOk result (λ name. IsNameIn word.now name) }
 {
     match AgentName::read(alloc, word) {
@@ -207,7 +207,7 @@ pub(crate) fn number_in(alloc: Global, line: &[u8], most: u32) -> Result<Option<
 }
 
 /// The number that a word writes, without leading zeros; `None` where it writes none that is at most so great.
-fn number_of(alloc: Global, word: &[u8], most: u32) -> Result<Option<u32>, AllocError>
+pub(crate) fn number_of(alloc: Global, word: &[u8], most: u32) -> Result<Option<u32>, AllocError>
     ensures { IfOk result (λ number. IsNumberIn most word.now number) }
 {
     let Ok(text) = str::from_utf8(word) else {

@@ -14,6 +14,8 @@ unstep N: undo up to N events, each time the one that was fired last
 why A B: tell the rank and the direct causes of an event
 causes: list the events that stand, each with its rank and its direct causes
 dependents A B: list what unwind would undo
+wire A P: tell the other end of the wire at port P of the agent A, and the events that made it, such as wire 0 2
+wire NAME: tell the same of the wire at this free name
 journal: list the events that stand
 history: list all calls so far, with what was answered
 mark NAME: note which events stand

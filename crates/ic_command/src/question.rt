@@ -3,6 +3,7 @@ ghost use Rattle.ic_command.specs.Questions.{AreQuestionWords, IsQuestionIn};
 ghost use Rattle.ic_command.specs.Words.{words};
 
 use crate::command::{event_in, is_well_formed, number_in, without_return};
+use crate::place::{Place, place_in};
 use crate::words::next_word;
 use ic_name::EventName;
 use ic_name::limits::MAX_LINES;
@@ -18,6 +19,8 @@ pub enum Question {
     Causes,
     /// What rests on an event.
     Dependents(EventName),
+    /// The other end of a wire, and the events that made it.
+    Wire(Place),
     /// All calls so far, with what was answered.
     History,
     /// The marks, and how many events each has.
@@ -60,6 +63,12 @@ fn question_in(alloc: Global, body: &[u8]) -> Result<Option<Question>, AllocErro
     if word == b"dependents".as_slice() {
         return match event_in(alloc, behind)? {
             Some(event) => Ok(Some(Question::Dependents(event))),
+            None => Ok(None),
+        };
+    }
+    if word == b"wire".as_slice() {
+        return match place_in(alloc, behind)? {
+            Some(place) => Ok(Some(Question::Wire(place))),
             None => Ok(None),
         };
     }

@@ -28,6 +28,7 @@ pub mod ReducingReplies
 pub mod NumberedLines
 pub mod RestingEvents
 pub mod CausedEvents
+pub mod WiredEvents
 pub mod HistoryLines
 pub mod FiredBefore
 pub mod LastEvents

@@ -4,7 +4,7 @@ use Rattle.std.specs.Prelude.{codes}
 use Rattle.std.specs.Fmt.{decimal}
 use Rattle.std.proofs.lemmas.Fmt.{decimal_digit, decimal_step}
 use Rattle.ic_desk.specs.declared.answer.refused.Refused.{Refused}
-use Rattle.ic_desk.specs.declared.answer.refused.Refused.TheVariants.{NotActive, Deep, Full, HistoryFull, Memory, MemoryBeforeReduce, MemoryBeforeBack, NotStanding, Command, NoMark, TooManyMarks}
+use Rattle.ic_desk.specs.declared.answer.refused.Refused.TheVariants.{NotActive, Deep, Full, HistoryFull, Memory, MemoryBeforeReduce, MemoryBeforeBack, NoPort, NotStanding, Command, NoMark, TooManyMarks}
 use Rattle.ic_desk.specs.Texts.{refusal_number, refusal_text, refusal_words}
 
 -- a number of two digits
@@ -19,6 +19,7 @@ numbered HistoryFull = rw (two_digits 24 (omega arith) (omega arith)) refl
 numbered Memory = rw (two_digits 25 (omega arith) (omega arith)) refl
 numbered MemoryBeforeReduce = rw (two_digits 25 (omega arith) (omega arith)) refl
 numbered MemoryBeforeBack = rw (two_digits 25 (omega arith) (omega arith)) refl
+numbered NoPort = rw (two_digits 26 (omega arith) (omega arith)) refl
 numbered NotStanding = rw (two_digits 31 (omega arith) (omega arith)) refl
 numbered Command = rw (two_digits 40 (omega arith) (omega arith)) refl
 numbered NoMark = rw (two_digits 41 (omega arith) (omega arith)) refl

@@ -14,9 +14,11 @@ use Rattle.ic_cause.specs.Journals.{AreCanonical}
 use Rattle.ic_text.specs.AgentsText.{agents_text}
 use Rattle.ic_journal.specs.Views.{BenchView}
 use Rattle.ic_journal.specs.Benches.{IsAt}
+use Rattle.ic_command.specs.declared.place.Place.{Place}
 use Rattle.ic_command.specs.declared.question.Question.{Question}
-use Rattle.ic_command.specs.declared.question.Question.TheVariants.{Agents, Causes, Dependents, History, Rules}
-use Rattle.ic_desk.specs.declared.answer.refused.Refused.TheVariants.{NotStanding}
+use Rattle.ic_command.specs.declared.question.Question.TheVariants.{Agents, Causes, Dependents, History, Rules, Wire}
+use Rattle.ic_name.specs.declared.ports.Port.{Port}
+use Rattle.ic_desk.specs.declared.answer.refused.Refused.TheVariants.{NoPort, NotStanding}
 use Rattle.ic_desk.specs.declared.answer.rules.TheConstants.{RULES}
 use Rattle.ic_desk.specs.Caused.{Caused, AreCaused, causes_text}
 use Rattle.ic_desk.specs.Histories.{history_text}
@@ -24,6 +26,7 @@ use Rattle.ic_desk.specs.CommandReplies.{IsNamed, NoneIsNamed}
 use Rattle.ic_name.specs.NameTexts.{pair_text}
 use Rattle.ic_desk.specs.Texts.{event_line, refusal_text}
 use Rattle.ic_desk.specs.Unwinding.{RestsOn}
+use Rattle.ic_desk.specs.Wired.{IsPlaceOf, TellsWire}
 
 -- the events of the set that rest on an event, each once, in canonical order
 pub record AreResting (s : Start) (es : List Event) (e : Event) (fs : List Event) : Type 0 where
@@ -40,6 +43,8 @@ pub data Informs (s : Start) (st : State) : Question → List ℕ → Type 0 whe
   causes : {xs : List Caused} → AreCaused s (events st) xs → Informs s st Causes (causes_text xs)
   dependents : {p : Pair} {x : Standing} {es : List Event} → IsNamed st p x → AreResting s (events st) x.event es → Informs s st (Dependents p) (dependents_text p es)
   not_standing : {p : Pair} → NoneIsNamed st p → Informs s st (Dependents p) (refusal_text NotStanding)
+  wire : {x : Place} {p : Port} {text : List ℕ} → IsPlaceOf s x p → TellsWire s (events st) p text → Informs s st (Wire x) text
+  no_place : {x : Place} → ((p : Port) → ¬ (IsPlaceOf s x p)) → Informs s st (Wire x) (refusal_text NoPort)
   history : {xs : List Line} → IsHistory s xs st → Informs s st History (history_text xs)
   rules : Informs s st Rules RULES.now
 

@@ -8,6 +8,7 @@ pub mod Absorbs
 pub mod Questions
 pub mod Histories
 pub mod Caused
+pub mod Wired
 pub mod BenchQuestions
 pub mod Texts
 pub mod Standing

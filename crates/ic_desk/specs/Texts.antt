@@ -7,8 +7,9 @@ use Rattle.ic_name.specs.declared.numbers.TheConstants.{COMMAND, DEEP, FULL, HIS
 use Rattle.ic_name.specs.Events.{Pair, Event, pair}
 use Rattle.ic_desk.specs.declared.answer.Answer.{Answer}
 use Rattle.ic_desk.specs.declared.answer.Answer.TheVariants as answers
+use Rattle.ic_desk.specs.declared.answer.refused.TheConstants.{NO_PORT}
 use Rattle.ic_desk.specs.declared.answer.refused.Refused.{Refused}
-use Rattle.ic_desk.specs.declared.answer.refused.Refused.TheVariants.{NotActive, Deep, Full, HistoryFull, Memory, MemoryBeforeReduce, MemoryBeforeBack, NotStanding, Command, NoMark, TooManyMarks}
+use Rattle.ic_desk.specs.declared.answer.refused.Refused.TheVariants.{NotActive, Deep, Full, HistoryFull, Memory, MemoryBeforeReduce, MemoryBeforeBack, NoPort, NotStanding, Command, NoMark, TooManyMarks}
 
 -- a line with the names of an event behind a word
 abbrev pub pair_line : List ℕ → Pair → List ℕ
@@ -51,6 +52,7 @@ refusal_text HistoryFull = codes "refused 24 history full\n"
 refusal_text Memory = codes "refused 25 memory\n"
 refusal_text MemoryBeforeReduce = codes "refused 25 memory after 0\n"
 refusal_text MemoryBeforeBack = codes "refused 25 memory after 0 undone 0 fired\n"
+refusal_text NoPort = codes "refused 26 port\n"
 refusal_text NotStanding = codes "refused 31 not standing\n"
 refusal_text Command = codes "refused 40 command\n"
 refusal_text NoMark = codes "refused 41 no mark\n"
@@ -65,6 +67,7 @@ refusal_number HistoryFull = HISTORY_FULL
 refusal_number Memory = MEMORY
 refusal_number MemoryBeforeReduce = MEMORY
 refusal_number MemoryBeforeBack = MEMORY
+refusal_number NoPort = NO_PORT
 refusal_number NotStanding = NOT_STANDING
 refusal_number Command = COMMAND
 refusal_number NoMark = NO_MARK
@@ -79,6 +82,7 @@ refusal_words HistoryFull = codes "history full"
 refusal_words Memory = codes "memory"
 refusal_words MemoryBeforeReduce = codes "memory after 0"
 refusal_words MemoryBeforeBack = codes "memory after 0 undone 0 fired"
+refusal_words NoPort = codes "port"
 refusal_words NotStanding = codes "not standing"
 refusal_words Command = codes "command"
 refusal_words NoMark = codes "no mark"

@@ -22,6 +22,7 @@ pub mod unstepping;
 pub mod untold;
 mod unwinding;
 mod why;
+pub mod wires;
 
 use crate::answer::changing::{fire, undo};
 use crate::answer::reducing::reduce;
@@ -40,6 +41,7 @@ use std::alloc::{AllocError, Global};
 pub use stepping::step_often;
 pub use unstepping::unstep;
 pub use untold::text_or_refused;
+pub use wires::tell_wire;
 
 /// What is written in answer to a command.
 #[derive(Drop)]

@@ -7,7 +7,7 @@ ghost use Rattle.ic_desk.specs.Views.{note_of};
 
 use crate::answer::{
     Answer, RULES, Refused, step_often, tell_agents, tell_causes, tell_dependents, tell_history,
-    unstep,
+    tell_wire, unstep,
 };
 use crate::desk::Desk;
 use crate::named_mark::NamedMark;
@@ -31,6 +31,11 @@ impl<L: LinkStore> Desk<L> {
                 alloc,
                 &self.bench,
                 &event,
+            ))),
+            Question::Wire(place) => Ok(Answer::answer_or_memory(tell_wire(
+                alloc,
+                &self.bench,
+                place,
             ))),
             Question::History => Ok(Answer::text_or_memory(tell_history(alloc, &self.bench))),
             Question::Marks => Ok(Answer::text_or_memory(marks_text(alloc, &self.marks))),

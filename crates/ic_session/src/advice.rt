@@ -20,6 +20,9 @@ pub(crate) fn advice(topic: Topic, number: u8) -> Option<&'static str> {
             "the history has no room for the calls, of which it holds 1048576; begin the session anew",
         ),
         25 => Some("there is no memory for it; what the answer tells is all that was done"),
+        26 => Some(
+            "no agent of the net has this port, or no free name is called so; net prints those that there are",
+        ),
         31 => Some("no event of these agents stands; journal lists those that do"),
         32 => Some(
             "the event that the answer names rests on it; undo that one first, or unwind this one with all that rests on it",
@@ -44,6 +47,8 @@ fn expected(topic: Topic) -> &'static str {
             "expected after reduce: one number from 0 to 1048576, without leading zeros",
         Topic::Mark =>
             "expected after the first word: a name of a small letter or _, then small letters, digits and _, at most 32 bytes",
+        Topic::Place =>
+            "expected after wire: an agent and a port, such as 0 2, or a free name",
         Topic::List =>
             "expected after absorb: a number from 0 to 131072, and then as many lines, each with the names of two agents",
         Topic::Unknown => "no command begins so; help lists all, in small letters",

@@ -11,6 +11,8 @@ pub(crate) enum Topic {
     Number,
     /// What has the name of a mark behind it.
     Mark,
+    /// What has a port of an agent or a free name behind it.
+    Place,
     /// What has the number of lines behind it, and these lines.
     List,
     /// No word that anything begins with.
@@ -49,6 +51,8 @@ pub(crate) fn topic_of(line: &[u8]) -> Topic {
         Topic::Number
     } else if word == b"absorb".as_slice() {
         Topic::List
+    } else if word == b"wire".as_slice() {
+        Topic::Place
     } else {
         Topic::Unknown
     }

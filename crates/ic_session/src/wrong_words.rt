@@ -39,7 +39,7 @@ pub(crate) fn wrong_in(
         },
         Topic::Pair => wrong_pair(alloc, behind),
         Topic::Number => wrong_number(alloc, behind),
-        Topic::Mark | Topic::List | Topic::TooLong => Ok(None),
+        Topic::Mark | Topic::Place | Topic::List | Topic::TooLong => Ok(None),
     }
 }
 

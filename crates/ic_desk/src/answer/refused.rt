@@ -3,6 +3,9 @@ ghost use Rattle.ic_desk.specs.Texts.{refusal_number, refusal_text};
 
 use ic_name::numbers;
 
+/// The net has no such port. No call is refused so, only a question.
+pub const NO_PORT: u8 = 26;
+
 /// A refusal whose line is always the same.
 #[derive(Clone, Copy, Debug, PartialEq, Eq)]
 pub enum Refused {
@@ -20,6 +23,8 @@ pub enum Refused {
     MemoryBeforeReduce,
     /// Want of memory for a `back`, before anything is undone or fired.
     MemoryBeforeBack,
+    /// A port that no agent of the net has, or a name that isn't free in it.
+    NoPort,
     /// An event that doesn't stand.
     NotStanding,
     /// A line that is no command.
@@ -43,6 +48,7 @@ impl Refused {
             Refused::Memory => numbers::MEMORY,
             Refused::MemoryBeforeReduce => numbers::MEMORY,
             Refused::MemoryBeforeBack => numbers::MEMORY,
+            Refused::NoPort => NO_PORT,
             Refused::NotStanding => numbers::NOT_STANDING,
             Refused::Command => numbers::COMMAND,
             Refused::NoMark => numbers::NO_MARK,
@@ -62,6 +68,7 @@ impl Refused {
             Refused::Memory => b"refused 25 memory\n",
             Refused::MemoryBeforeReduce => b"refused 25 memory after 0\n",
             Refused::MemoryBeforeBack => b"refused 25 memory after 0 undone 0 fired\n",
+            Refused::NoPort => b"refused 26 port\n",
             Refused::NotStanding => b"refused 31 not standing\n",
             Refused::Command => b"refused 40 command\n",
             Refused::NoMark => b"refused 41 no mark\n",

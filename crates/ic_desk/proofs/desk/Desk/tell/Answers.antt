@@ -1,7 +1,7 @@
 -- What is told in answer to each question.
 use Rattle.std.proofs.Common.{ap, ◌∙◌}
 use Rattle.std.proofs.lemmas.Result.{IfOk-weaker}
-use Rattle.ic_command.specs.declared.question.Question.TheVariants.{Agents, Causes, Dependents, History}
+use Rattle.ic_command.specs.declared.question.Question.TheVariants.{Agents, Causes, Dependents, History, Wire}
 use Rattle.ic_desk.specs.Views.{DeskView}
 use Rattle.ic_desk.proofs.DeskTurns.{desk_still}
 use Rattle.ic_desk.proofs.DeskTellings.{bench_text, bench_answer, marks_told, rules_told, help_told, steps_told, unstep_told}
@@ -15,6 +15,9 @@ returns-in-Causes-clause-told g c = bench_text c.args.self.now c.self-in-Causes.
 
 pub returns-in-Dependents-clause-told : goal.returns-in-Dependents-clause-told
 returns-in-Dependents-clause-told g c = bench_answer c.args.self.now c.self-in-Dependents.inside.bench c.args.question (Dependents c.in-Dependents.event) _ c.tell_dependents.result (ap (λ (d : DeskView). d.bench) c.self-in-Dependents.view_is) c.in-Dependents.is c.tell_dependents.ensures c.answer_or_memory.ensures.answer c.answer_or_memory.ensures.memory
+
+pub returns-in-Wire-clause-told : goal.returns-in-Wire-clause-told
+returns-in-Wire-clause-told g c = bench_answer c.args.self.now c.self-in-Wire.inside.bench c.args.question (Wire c.in-Wire.place) _ c.tell_wire.result (ap (λ (d : DeskView). d.bench) c.self-in-Wire.view_is) c.in-Wire.is c.tell_wire.ensures c.answer_or_memory-in-Wire.ensures.answer c.answer_or_memory-in-Wire.ensures.memory
 
 pub returns-in-History-clause-told : goal.returns-in-History-clause-told
 returns-in-History-clause-told g c = bench_text c.args.self.now c.self-in-History.inside.bench c.args.question History _ c.tell_history.result (ap (λ (d : DeskView). d.bench) c.self-in-History.view_is) c.in-History.is c.tell_history.ensures c.text_or_memory-in-History.ensures.text c.text_or_memory-in-History.ensures.memory
