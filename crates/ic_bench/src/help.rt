@@ -33,7 +33,7 @@ Commands:
   undo-all     undo all events
 
 With --explain also:
-  agents, causes, history, marks, dependents A B, step N, unstep N, rules, help, quit: help tells what they do; each refusal is explained
+  agents, causes, history, marks, dependents A B, wire A P, step N, unstep N, rules, help, quit: help tells what they do; each refusal is explained
 
 Example:
   G(x,a) = D(x,b);
@@ -55,6 +55,7 @@ Refusals:
   22, 23   names would get too long; there would be too many agents
   24       the history is full, since what was undone doesn't leave it: begin a session anew
   25       there is no memory
+  26       no agent of the net has this port, or no free name is called so
   31, 32   no such event stands; the one that is named rests on it and has to be undone first
   40       no command: write commands in lower case, agents as 0 or 0.2, and two different ones
   41, 42   there is no such mark; there are 256 marks
