@@ -47,8 +47,7 @@ fn expected(topic: Topic) -> &'static str {
             "expected after reduce: one number from 0 to 1048576, without leading zeros",
         Topic::Mark =>
             "expected after the first word: a name of a small letter or _, then small letters, digits and _, at most 32 bytes",
-        Topic::Place =>
-            "expected after wire: an agent and a port, such as 0 2, or a free name",
+        Topic::Place => "expected after wire: an agent and a port, such as 0 2, or a free name",
         Topic::List =>
             "expected after absorb: a number from 0 to 131072, and then as many lines, each with the names of two agents",
         Topic::Unknown => "no command begins so; help lists all, in small letters",

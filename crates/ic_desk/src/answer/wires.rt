@@ -85,7 +85,13 @@ fn wire_text<L: LinkStore>(
 ) -> Result<Vec<u8>, AllocError>
     ensures { IfOk result (λ text. (order : List Stander) → All (λ x. IsIn x bench.now.events) order → map (λ x. x.id) order ≡ wire.now.makers.items → text.items ≡ wire_text bench.now.start.names port.now wire.now.far (events_of order)) }
 {
-    let mut text = head_of(alloc, bench.start().names(), port, &wire.far, wire.makers.len())?;
+    let mut text = head_of(
+        alloc,
+        bench.start().names(),
+        port,
+        &wire.far,
+        wire.makers.len(),
+    )?;
     push_events(bench, &mut text, &wire.makers)?;
     Ok(text)
 }
