@@ -18,7 +18,6 @@ use Rattle.ic_theory.proofs.Ranks.{consumed-alike, same_set}
 use Rattle.ic_theory.proofs.Restored.{rank-alike}
 use Rattle.ic_theory.proofs.Sound.{maker_in, trail_link}
 use Rattle.ic_roster.specs.Rosters.{Stander}
-use Rattle.ic_set.specs.Orders.{AreInOrder}
 use Rattle.ic_set.specs.Views.{events_of, standing}
 use Rattle.ic_set.specs.Wires.{IsWireMaker, IsWireAt}
 use Rattle.ic_set.proofs.Namings.{same_stander}
