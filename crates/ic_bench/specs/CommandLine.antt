@@ -26,21 +26,25 @@ workers_rule = number_rule (codes "workers") 1 MAX_WORKERS
 abbrev pub budget_rule : Rule
 budget_rule = number_rule (codes "budget") 0 MAX_BUDGET
 
+-- an option without a value
+abbrev pub flag_rule : List ℕ → Rule
+flag_rule name = record (new_rule name) { long = Some name; action = Some SetTrue }
+
 -- `--explain`
 abbrev pub explain_rule : Rule
-explain_rule = record (new_rule (codes "explain")) { long = Some (codes "explain"); action = Some SetTrue }
+explain_rule = flag_rule (codes "explain")
 
 -- `--stop`
 abbrev pub stop_rule : Rule
-stop_rule = record (new_rule (codes "stop")) { long = Some (codes "stop"); action = Some SetTrue }
+stop_rule = flag_rule (codes "stop")
 
 -- `--echo`
 abbrev pub echo_rule : Rule
-echo_rule = record (new_rule (codes "echo")) { long = Some (codes "echo"); action = Some SetTrue }
+echo_rule = flag_rule (codes "echo")
 
 -- `--interactive`, or `-i`
 abbrev pub interactive_rule : Rule
-interactive_rule = record (new_rule (codes "interactive")) { long = Some (codes "interactive"); short = Some 105; action = Some SetTrue }
+interactive_rule = record (flag_rule (codes "interactive")) { short = Some 105 }
 
 -- the files
 abbrev pub files_rule : Rule

@@ -1,7 +1,7 @@
 ghost use Rattle.std.specs.Prelude.{◌≡◌, IfErr, IfOk, map, false};
 ghost use Rattle.clap.specs.Words.{IsPlain, IsPlainArg, app_of, kind_of, rule_of};
 ghost use Rattle.clap.specs.declared.builder.command.Command.TheViews.{out-Command};
-ghost use Rattle.ic_bench.specs.CommandLine.{Choose, IsFaultOf, budget_rule, echo_rule, explain_rule, files_in, files_rule, icbench, interactive_rule, scripted, stop_rule, workers_rule};
+ghost use Rattle.ic_bench.specs.CommandLine.{Choose, IsFaultOf, budget_rule, echo_rule, explain_rule, files_in, files_rule, flag_rule, icbench, interactive_rule, scripted, stop_rule, workers_rule};
 ghost use Rattle.ic_bench.specs.Runs.{mode_of};
 
 use crate::help::{ABOUT, LESSON, USE, VERSION};
@@ -135,17 +135,27 @@ fn budget_argument<'a>(alloc: Global) -> Arg<'a>
         .help("the most that a reduce fires [default: 1048576]")
 }
 
+/// An option without a value.
+fn flag<'a>(alloc: Global, name: &'a str, help: &'a str) -> Arg<'a>
+    ensures rule { rule_of result ≡ flag_rule name.now }
+    ensures plain { IsPlainArg result × (result.global ≡ false) }
+{
+    Arg::new(alloc, name)
+        .long(name)
+        .action(ArgAction::SetTrue)
+        .help(help)
+}
+
 /// The option that says that the session explains itself.
 fn explain_argument<'a>(alloc: Global) -> Arg<'a>
     ensures rule { rule_of result ≡ explain_rule }
     ensures plain { IsPlainArg result × (result.global ≡ false) }
 {
-    Arg::new(alloc, "explain")
-        .long("explain")
-        .action(ArgAction::SetTrue)
-        .help(
-            "answers questions, too, and says on standard error what is wrong with what is refused",
-        )
+    flag(
+        alloc,
+        "explain",
+        "answers questions, too, and says on standard error what is wrong with what is refused",
+    )
 }
 
 /// The option that says that the session ends at the first refused command.
@@ -153,10 +163,11 @@ fn stop_argument<'a>(alloc: Global) -> Arg<'a>
     ensures rule { rule_of result ≡ stop_rule }
     ensures plain { IsPlainArg result × (result.global ≡ false) }
 {
-    Arg::new(alloc, "stop")
-        .long("stop")
-        .action(ArgAction::SetTrue)
-        .help("ends at the first refused command, with status 5")
+    flag(
+        alloc,
+        "stop",
+        "ends at the first refused command, with status 5",
+    )
 }
 
 /// The option that says that each command stands before its answer.
@@ -164,10 +175,7 @@ fn echo_argument<'a>(alloc: Global) -> Arg<'a>
     ensures rule { rule_of result ≡ echo_rule }
     ensures plain { IsPlainArg result × (result.global ≡ false) }
 {
-    Arg::new(alloc, "echo")
-        .long("echo")
-        .action(ArgAction::SetTrue)
-        .help("each command stands before its answer")
+    flag(alloc, "echo", "each command stands before its answer")
 }
 
 /// The option that says that the session is one at a terminal.
@@ -175,11 +183,8 @@ fn interactive_argument<'a>(alloc: Global) -> Arg<'a>
     ensures rule { rule_of result ≡ interactive_rule }
     ensures plain { IsPlainArg result × (result.global ≡ false) }
 {
-    Arg::new(alloc, "interactive")
-        .short('i')
-        .long("interactive")
-        .action(ArgAction::SetTrue)
-        .help("explains, too, and asks for each line on standard error, as at a terminal")
+    let asks = "explains, too, and asks for each line on standard error, as at a terminal";
+    flag(alloc, "interactive", asks).short('i')
 }
 
 /// The files that a session is read from.
