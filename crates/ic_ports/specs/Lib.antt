@@ -1,3 +1,6 @@
+pub mod EndSlots
+pub mod PortRecord
+pub mod Shapes
 pub mod Packed
 pub mod Slots
 pub mod Principals

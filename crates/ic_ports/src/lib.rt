@@ -1,11 +1,13 @@
 //! Port records in slots that are found by arithmetic.
 #![tactic(auto)]
 
+mod end_slots;
 mod own_ports;
 mod packed_ends;
 pub mod port_record;
 pub mod port_store;
 mod strays;
 
-pub use port_record::{EndSlots, PortRecord, RingLabel};
+pub use end_slots::EndSlots;
+pub use port_record::RingLabel;
 pub use port_store::PortStore;
