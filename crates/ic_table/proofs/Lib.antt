@@ -18,6 +18,7 @@ pub mod OwnSlots
 pub mod RecordWalks
 pub mod PathMakers
 pub mod SameSlots
+pub mod EndReads
 pub mod GivenEnds
 pub mod HeldEnds
 pub mod ShownLinks
