@@ -1,13 +1,14 @@
 -- The active pairs of some agents, looked up agent by agent.
-use Rattle.std.proofs.Common.{◌≡◌, ℕ, ◌<◌, List, [], ◌∷◌, length, ◌⊎◌, inl, inr, Option, Some, None, IfSome, IfNone, refl, sym, ap, arith, subst, ◌∙◌}
-use Rattle.std.specs.Prelude.{slice_index_or, unwrap_or}
+use Rattle.std.proofs.Common.{◌≡◌, ◌≢◌, ℕ, zero, suc, ◌+◌, ◌<◌, ◌≤◌, Bool, true, false, List, [], ◌∷◌, length, ◌⊎◌, inl, inr, Option, Some, None, IfSome, IfNone, refl, sym, ap, arith, subst, ◌∙◌}
+use Rattle.std.specs.Prelude.{slice_index_or, slice_set, unwrap_or, eqb}
+use Rattle.std.proofs.lemmas.Bool.{eqb-true, eqb-false}
+use Rattle.std.proofs.lemmas.List.{get_or-set_same, get_or-set_other, length-set}
 use Rattle.ic_name.specs.Events.{Event}
 use Rattle.ic_name.specs.declared.ids.AgentId.{AgentId}
 use Rattle.ic_name.specs.declared.kinds.Kind.{Kind}
 use Rattle.ic_link.specs.declared.principals.Principals.{Principals}
 use Rattle.ic_names.specs.Tables.{name_at}
 use Rattle.ic_path.specs.Orders.{IsIn}
-use Rattle.ic_path.proofs.Picks.{none_in, in_first, in_more, in-cons_cases}
 use Rattle.ic_roster.specs.Rosters.{Member, Stander, IsNewName}
 use Rattle.ic_set.specs.declared.pairs.ActivePair.{ActivePair}
 use Rattle.ic_set.specs.Pairs.{AreJoined, IsPairOf, IsActivePair, IsBetween, AreActiveJoins}
@@ -15,7 +16,7 @@ use Rattle.ic_set.specs.Queues.{Leads}
 use Rattle.ic_set.specs.Sets.{IsStandingSet}
 use Rattle.ic_set.specs.Views.{SetView, NamedView}
 use Rattle.ic_set.proofs.ActivePairs.{one_id, one_name, joined_pair, joined_once, one_pair}
-use Rattle.ic_set.proofs.InPlace.{in_at}
+use Rattle.ic_set.proofs.InPlace.{in_at, place_of}
 use Rattle.ic_set.proofs.LedPairs.{second_leads_none}
 use Rattle.ic_set.proofs.Partners.{joined_back, joined_unled}
 use Rattle.ic_set.proofs.QueuedLeads.{IsOf}
@@ -37,33 +38,6 @@ active_at v pairs i d below all = by (slice_index_or pairs i d) (in_at pairs i d
     by None j = tt
     by (Some p) j = all p j
 
--- one of four
-one_of_four : {X : Type 0} {a b c d x : X} → IsIn x (a ∷ b ∷ c ∷ d ∷ []) → (x ≡ a) ⊎ ((x ≡ b) ⊎ ((x ≡ c) ⊎ (x ≡ d)))
-one_of_four i = elim (in-cons_cases i) [
-  | inl e ↦ inl e
-  | inr j ↦ inr (elim (in-cons_cases j) [
-    | inl e ↦ inl e
-    | inr k ↦ inr (elim (in-cons_cases k) [
-      | inl e ↦ inl e
-      | inr l ↦ inr (elim (in-cons_cases l) [ inl e ↦ e | inr none ↦ absurd (none_in none) ])
-    ])
-  ])
-]
-
-module _ {X : Type 0} (a b c d : X) where
-  -- each of the four
-  first_of : (x : X) → x ≡ a → IsIn x (a ∷ b ∷ c ∷ d ∷ [])
-  first_of x e = subst (λ y. IsIn y (a ∷ b ∷ c ∷ d ∷ [])) (sym e) (in_first _ _)
-
-  second_of : (x : X) → x ≡ b → IsIn x (a ∷ b ∷ c ∷ d ∷ [])
-  second_of x e = subst (λ y. IsIn y (a ∷ b ∷ c ∷ d ∷ [])) (sym e) (in_more _ (in_first _ _))
-
-  third_of : (x : X) → x ≡ c → IsIn x (a ∷ b ∷ c ∷ d ∷ [])
-  third_of x e = subst (λ y. IsIn y (a ∷ b ∷ c ∷ d ∷ [])) (sym e) (in_more _ (in_more _ (in_first _ _)))
-
-  fourth_of : (x : X) → x ≡ d → IsIn x (a ∷ b ∷ c ∷ d ∷ [])
-  fourth_of x e = subst (λ y. IsIn y (a ∷ b ∷ c ∷ d ∷ [])) (sym e) (in_more _ (in_more _ (in_more _ (in_first _ _))))
-
 -- what an answer says of the pair that an agent leads
 abbrev LedFound : SetView → Option AgentId → Option ActivePair → Type 0
 LedFound v agent o = IfSome o (λ p. (Some p.lead ≡ agent) × IsActivePair v p)
@@ -77,6 +51,83 @@ BetweenFound v j o = IfSome o (λ p. IsActivePair v p × IsBetween j p)
 
 abbrev BetweenAbsent : SetView → Option Principals → Option ActivePair → Type 0
 BetweenAbsent v j o = IfNone o ((e : Event) (p : ActivePair) → IsPairOf v e p → IsBetween j p → ⊥)
+
+-- the joins before this place were looked up, and what was found stands at their places
+pub record Answered (v : SetView) (joins : List (Option Principals)) (place : ℕ) (pairs : List (Option ActivePair)) : Type 0 where
+  pub long : length pairs ≡ length joins
+  pub found : (i : ℕ) → i < place → BetweenFound v (slice_index_or joins i None) (slice_index_or pairs i None)
+  pub absent : (i : ℕ) → i < place → BetweenAbsent v (slice_index_or joins i None) (slice_index_or pairs i None)
+  pub behind : (i : ℕ) → place ≤ i → i < length joins → slice_index_or pairs i None ≡ None
+
+-- none was yet
+pub answered_none : (v : SetView) (joins : List (Option Principals)) → length joins ≡ 4 → Answered v joins 0 (None ∷ None ∷ None ∷ None ∷ [])
+answered_none v joins four = record { long = sym four; found = λ i low. absurd (omega arith); absent = λ i low. absurd (omega arith); behind = λ i low few. none i (omega (arith, few, four)) }
+  where
+    nothing : List (Option ActivePair)
+    nothing = None ∷ None ∷ None ∷ None ∷ []
+
+    none : (i : ℕ) → i < 4 → slice_index_or nothing i None ≡ None
+    none zero few = refl
+    none (suc zero) few = refl
+    none (suc (suc zero)) few = refl
+    none (suc (suc (suc zero))) few = refl
+    none (suc (suc (suc (suc i)))) few = absurd (omega arith)
+
+-- what is before the next place is before this one, or at it
+before_next : (i place : ℕ) → i < place + 1 → (i ≡ place) ⊎ ((i ≢ place) × (i < place))
+before_next i place below = by (eqb i place) refl
+  where
+    by : (t : Bool) → eqb i place ≡ t → (i ≡ place) ⊎ ((i ≢ place) × (i < place))
+    by true t = inl (eqb-true i place t)
+    by false t = let other = eqb-false i place t in inr (other, omega (arith, other, below))
+
+module _ (v : SetView) (joins : List (Option Principals)) (place : ℕ) (pairs : List (Option ActivePair)) (are : Answered v joins place pairs) (low : place < length joins) where
+  -- what was found for a join
+  abbrev Told : Option Principals → Option ActivePair → Type 0
+  Told j o = BetweenFound v j o × BetweenAbsent v j o
+
+  -- the same by its place
+  abbrev Says : List (Option ActivePair) → ℕ → Type 0
+  Says ps i = Told (slice_index_or joins i None) (slice_index_or ps i None)
+
+  -- one more was looked up
+  pub answered_more : (j : Principals) (o : Option ActivePair) → slice_index_or joins place None ≡ Some j → BetweenFound v (Some j) o → BetweenAbsent v (Some j) o → Answered v joins (place + 1) (slice_set pairs place o)
+  answered_more j o is found absent = record {
+    long = length-set pairs place o ∙ are.long;
+    found = λ i below. (says i (before_next i place below)).0;
+    absent = λ i below. (says i (before_next i place below)).1;
+    behind = λ i above few. get_or-set_other pairs place i o None (λ e. omega (arith, e, above)) ∙ are.behind i (omega (arith, above)) few;
+  }
+    where
+      here : Says (slice_set pairs place o) place
+      here =
+          let there : place < length pairs = let long = are.long in omega (arith, long, low) in
+          subst (λ q. Told q (slice_index_or (slice_set pairs place o) place None)) (sym is) (subst (Told (Some j)) (sym (get_or-set_same pairs place o None there)) (found, absent))
+
+      says : (i : ℕ) → (i ≡ place) ⊎ ((i ≢ place) × (i < place)) → Says (slice_set pairs place o) i
+      says i (inl same) = subst (Says (slice_set pairs place o)) (sym same) here
+      says i (inr other) = subst (Told (slice_index_or joins i None)) (sym (get_or-set_other pairs place i o None other.0)) (are.found i other.1, are.absent i other.1)
+
+  -- one more is no join
+  pub answered_still : slice_index_or joins place None ≡ None → Answered v joins (place + 1) pairs
+  answered_still is = record {
+    long = are.long;
+    found = λ i below. (says i (before_next i place below)).0;
+    absent = λ i below. (says i (before_next i place below)).1;
+    behind = λ i above few. are.behind i (omega (arith, above)) few;
+  }
+    where
+      -- nothing is between the agents of no join
+      no_join : (p : ActivePair) → IsBetween None p → ⊥
+      no_join p (inl e) = cc
+      no_join p (inr e) = cc
+
+      here : Says pairs place
+      here = subst (λ q. Told q (slice_index_or pairs place None)) (sym is) (subst (Told None) (sym (are.behind place (omega arith) low)) (tt, λ e p h b. no_join p b))
+
+      says : (i : ℕ) → (i ≡ place) ⊎ ((i ≢ place) × (i < place)) → Says pairs i
+      says i (inl same) = subst (Says pairs) (sym same) here
+      says i (inr other) = (are.found i other.1, are.absent i other.1)
 
 -- the agents that a join has are the pair's
 pub data HasBoth (j : Principals) (p : ActivePair) : Type 0 where
@@ -124,43 +175,24 @@ module _ (v : SetView) (set : IsStandingSet v) where
   between_only : (j : Option Principals) (o : Option ActivePair) → BetweenFound v j o → (p : ActivePair) → Some p ≡ o → IsActivePair v p × IsBetween j p
   between_only j o found p same = subst (λ x. BetweenFound v j x) (sym same) found
 
-  module _ (a b c d : Option ActivePair) where
-    -- the answers for four joins are the active pairs between their agents
-    joins_four : (w x y z : Option Principals) → BetweenFound v w a → BetweenAbsent v w a → BetweenFound v x b → BetweenAbsent v x b → BetweenFound v y c → BetweenAbsent v y c → BetweenFound v z d
-        → BetweenAbsent v z d → AreActiveJoins v (w ∷ x ∷ y ∷ z ∷ []) (a ∷ b ∷ c ∷ d ∷ [])
-    joins_four w x y z wf wa xf xa yf ya zf za = record {
-      each = λ e p j h i t. elim (one_of_four i) [
-        | inl q ↦ first_of a b c d (Some p) (between_each w a wf wa e p h (subst (λ o. IsBetween o p) q t))
-        | inr r ↦ (elim r [
-          | inl q ↦ second_of a b c d (Some p) (between_each x b xf xa e p h (subst (λ o. IsBetween o p) q t))
-          | inr s ↦ (elim s [
-            | inl q ↦ third_of a b c d (Some p) (between_each y c yf ya e p h (subst (λ o. IsBetween o p) q t))
-            | inr q ↦ fourth_of a b c d (Some p) (between_each z d zf za e p h (subst (λ o. IsBetween o p) q t))
-          ])
-        ])
-      ];
-      only = λ p i. elim (one_of_four i) [
-        | inl q ↦ (let r = between_only w a wf p q in (r.0, (w, first_of w x y z w refl, r.1)))
-        | inr m ↦ (elim m [
-          | inl q ↦ (let r = between_only x b xf p q in (r.0, (x, second_of w x y z x refl, r.1)))
-          | inr n ↦ (elim n [
-            | inl q ↦ (let r = between_only y c yf p q in (r.0, (y, third_of w x y z y refl, r.1)))
-            | inr q ↦ (let r = between_only z d zf p q in (r.0, (z, fourth_of w x y z z refl, r.1)))
-          ])
-        ])
-      ];
-    }
-
-    -- so are they by the joins' places
-    pub joins_by_place : (joins : List (Option Principals)) (n : Option Principals) → length joins ≡ 4 → BetweenFound v (slice_index_or joins 0 n) a → BetweenAbsent v (slice_index_or joins 0 n) a
-        → BetweenFound v (slice_index_or joins 1 n) b → BetweenAbsent v (slice_index_or joins 1 n) b → BetweenFound v (slice_index_or joins 2 n) c → BetweenAbsent v (slice_index_or joins 2 n) c
-        → BetweenFound v (slice_index_or joins 3 n) d → BetweenAbsent v (slice_index_or joins 3 n) d → AreActiveJoins v joins (a ∷ b ∷ c ∷ d ∷ [])
-    joins_by_place [] n long wf wa xf xa yf ya zf za = absurd (omega (arith, long))
-    joins_by_place (w ∷ []) n long wf wa xf xa yf ya zf za = absurd (omega (arith, long))
-    joins_by_place (w ∷ x ∷ []) n long wf wa xf xa yf ya zf za = absurd (omega (arith, long))
-    joins_by_place (w ∷ x ∷ y ∷ []) n long wf wa xf xa yf ya zf za = absurd (omega (arith, long))
-    joins_by_place (w ∷ x ∷ y ∷ z ∷ []) n long wf wa xf xa yf ya zf za = joins_four w x y z wf wa xf xa yf ya zf za
-    joins_by_place (w ∷ x ∷ y ∷ z ∷ u ∷ us) n long wf wa xf xa yf ya zf za = absurd (omega (arith, long))
+  -- so once all joins were looked up, the pairs are the active ones between the agents of them
+  pub answered_all : (joins : List (Option Principals)) (place : ℕ) (pairs : List (Option ActivePair)) → Answered v joins place pairs → length joins ≤ place → AreActiveJoins v joins pairs
+  answered_all joins place pairs are all = record {
+    each = λ e p j h i t. (
+        let at = place_of joins None i in
+        let low = at.1 in
+        let long = are.long in
+        let before : at.0 < place = omega (arith, low, all) in
+        let same = between_each (slice_index_or joins at.0 None) (slice_index_or pairs at.0 None) (are.found at.0 before) (are.absent at.0 before) e p h (subst (λ o. IsBetween o p) (sym at.2) t) in
+        subst (λ o. IsIn o pairs) (sym same) (in_at pairs at.0 None (omega (arith, low, long))));
+    only = λ p i. (
+        let at = place_of pairs None i in
+        let below = at.1 in
+        let long = are.long in
+        let low : at.0 < length joins = omega (arith, below, long) in
+        let r = between_only (slice_index_or joins at.0 None) (slice_index_or pairs at.0 None) (are.found at.0 (omega (arith, low, all))) p (sym at.2) in
+        (r.0, (slice_index_or joins at.0 None, in_at joins at.0 None low, r.1)));
+  }
 
 -- a name that leads a standing event leads no active pair
 pub lead_leads_none : (v : NamedView) → IsStandingSet v.set → (n : ℕ) → (x : Stander) → IsIn x v.set.events → x.event.lead ≡ name_at v.names n → Leads v n → ⊥

@@ -19,8 +19,8 @@ ghost use Rattle.ic_set.specs.Removal.{Stands};
 
 use crate::bare::BareSet;
 use crate::entering::{NewAgent, children_of, enter_all, remove_all};
-use crate::joining::add_made;
-use crate::pairs::{ActivePair, Fired};
+use crate::joining::{MAX_JOINS, add_made};
+use crate::pairs::ActivePair;
 use ic_cause::{direct_causes, rank_with};
 use ic_link::{LinkStore, Principals};
 use ic_name::{AgentId, EventId, Kind, RuleEnd};
@@ -42,24 +42,18 @@ struct Firing<'a> {
     causes: &'a [EventId],
 }
 
-/// An event that was put in: its id, and the principal ports that its links joined.
-#[derive(Clone, Copy)]
-struct PutEvent {
-    id: EventId,
-    joins: [Option<Principals>; 4],
-}
-
 impl<L: LinkStore> BareSet<L> {
     /// One event more, that of an active pair, under an id with this line, which no standing event has: with it its
     /// children come, and the links of its rule are put in. The event is given by the places of its agents' names, as
-    /// `interaction_of` answers it. With the id come the pairs that became active by it. At an error nothing changes but that
-    /// names may be known that weren't.
+    /// `interaction_of` answers it. The pairs that became active by it are written into `awoken`. At an error nothing else
+    /// changes but that names may be known that weren't.
     pub fn admit(
         &mut self,
         pair: ActivePair,
         event: Interaction,
         line: u32,
-    ) -> Result<Fired, AllocError>
+        awoken: &mut [Option<ActivePair>; 4],
+    ) -> Result<EventId, AllocError>
         requires active { IsActivePair self.old.set pair }
         requires named { IsNamed self.old.names event }
         requires event { (e : AnEvent) → IsPairOf self.old.set e pair → event_in self.old.names event ≡ e }
@@ -67,8 +61,8 @@ impl<L: LinkStore> BareSet<L> {
         requires new_line { (x : Stander) → IsIn x self.old.set.events → x.id.line ≢ line }
         requires few_lines { line < MAX_LINES }
         requires few_events { length self.old.set.events < MAX_LINES }
-        ensures admitted { IfOk result (λ fired. (e : AnEvent) → IsPairOf self.old.set e pair → Admits self.old.set e line fired.id self.new.set) }
-        ensures awoken { IfOk result (λ fired. Awakes self.old.set self.new.set fired.awoken) }
+        ensures admitted { IfOk result (λ id. (e : AnEvent) → IsPairOf self.old.set e pair → Admits self.old.set e line id self.new.set) }
+        ensures awoken { OnOk result (Awakes self.old.set self.new.set awoken.new) }
         ensures grown { GrowsBy 4 self.old.names self.new.names }
         ensures unchanged { OnErr result (IsSame self.old.set self.new.set) }
     {
@@ -88,13 +82,12 @@ impl<L: LinkStore> BareSet<L> {
             ends: rules.links,
             causes: &causes,
         };
-        match put_event(&mut self.roster, &mut self.store, &firing) {
-            Ok(put) => {
+        let mut joins = [None; MAX_JOINS];
+        match put_event(&mut self.roster, &mut self.store, &firing, &mut joins) {
+            Ok(id) => {
                 self.roster.lawful();
-                Ok(Fired {
-                    id: put.id,
-                    awoken: self.active_joins(&put.joins),
-                })
+                self.active_joins(&joins, awoken);
+                Ok(id)
             }
             Err(_) => {
                 remove_all(&mut self.roster, born.as_slice());
@@ -170,16 +163,18 @@ fn children_for(
     children_of(alloc, roster, event.lead, kinds)
 }
 
-/// Puts in an event with its links and its direct causes, and tells what its links join. At an error nothing changes.
+/// Puts in an event with its links and its direct causes, and writes into `joins` what its links join. At an error nothing
+/// else changes.
 fn put_event<L: LinkStore>(
     roster: &mut Roster,
     store: &mut L,
     firing: &Firing<'_>,
-) -> Result<PutEvent, AllocError>
+    joins: &mut [Option<Principals>; MAX_JOINS],
+) -> Result<EventId, AllocError>
     requires named { IsNamed roster.old.names firing.now.interaction }
     requires can { CanPutIn (event_in roster.old.names firing.now.interaction) firing.now.line firing.now.rank firing.now.pair firing.now.born.now firing.now.ends.now firing.now.causes.now roster.old.events (L.links store.old) }
-    ensures put { IfOk result (λ put. (put.id.line ≡ firing.now.line) × PutsIn (record { id = put.id; event = event_in roster.old.names firing.now.interaction; rank = firing.now.rank; born = firing.now.born.now; causes = firing.now.causes.now }) (made_links put.id firing.now.pair firing.now.born.now 0 firing.now.ends.now) roster.old.events roster.new.events (L.links store.old) (L.links store.new)) }
-    ensures joins { IfOk result (λ put. AreJoins (L.links store.old) (made_links put.id firing.now.pair firing.now.born.now 0 firing.now.ends.now) put.joins) }
+    ensures put { IfOk result (λ id. (id.line ≡ firing.now.line) × PutsIn (record { id = id; event = event_in roster.old.names firing.now.interaction; rank = firing.now.rank; born = firing.now.born.now; causes = firing.now.causes.now }) (made_links id firing.now.pair firing.now.born.now 0 firing.now.ends.now) roster.old.events roster.new.events (L.links store.old) (L.links store.new)) }
+    ensures joins { IfOk result (λ id. AreJoins (L.links store.old) (made_links id firing.now.pair firing.now.born.now 0 firing.now.ends.now) joins.new) }
     ensures unchanged { OnErr result (LeavesAll roster.old.events roster.new.events (L.links store.old) (L.links store.new)) }
     ensures agents { roster.new.agents ≡ roster.old.agents }
     ensures names { roster.new.names ≡ roster.old.names }
@@ -193,31 +188,32 @@ fn put_event<L: LinkStore>(
         firing.causes,
     )?;
     roster.lawful();
-    let Ok(joins) = put_links(store, id, firing) else {
+    let Ok(()) = put_links(store, id, firing, joins) else {
         roster.remove_event(id);
         return Err(AllocError);
     };
-    Ok(PutEvent { id, joins })
+    Ok(id)
 }
 
-/// Puts in the links of an event that has none yet, and tells which principal ports the first of them join. At an error
-/// nothing changes.
+/// Puts in the links of an event that has none yet, and writes into `joins` which principal ports the first of them join. At
+/// an error nothing else changes.
 fn put_links<L: LinkStore>(
     store: &mut L,
     event: EventId,
     firing: &Firing<'_>,
-) -> Result<[Option<Principals>; 4], AllocError>
+    joins: &mut [Option<Principals>; MAX_JOINS],
+) -> Result<(), AllocError>
     requires digits { HaveDigits firing.now.born.now firing.now.ends.now }
     requires few { length firing.now.ends.now ≤ 8 }
     requires no_links { (l : ALink) → IsIn l (L.links store.old) → made_by event l ≡ false }
     requires lawful { IsLawful (made_links event firing.now.pair firing.now.born.now 0 firing.now.ends.now ++ L.links store.old) }
     ensures put { OnOk result (Alike (made_links event firing.now.pair firing.now.born.now 0 firing.now.ends.now ++ L.links store.old) (L.links store.new)) }
-    ensures joins { IfOk result (λ joins. AreJoins (L.links store.old) (made_links event firing.now.pair firing.now.born.now 0 firing.now.ends.now) joins) }
+    ensures joins { OnOk result (AreJoins (L.links store.old) (made_links event firing.now.pair firing.now.born.now 0 firing.now.ends.now) joins.new) }
     ensures unchanged { OnErr result (Alike (L.links store.old) (L.links store.new)) }
 {
-    let Ok(joins) = add_made(store, firing.ends, event, firing.pair, firing.born) else {
+    let Ok(()) = add_made(store, firing.ends, event, firing.pair, firing.born, joins) else {
         store.take_of(event);
         return Err(AllocError);
     };
-    Ok(joins)
+    Ok(())
 }

@@ -1,4 +1,4 @@
-ghost use Rattle.std.specs.Prelude.{◌≡◌, ◌≤◌, ◌++◌, List, length, map, IfOk, OnOk, OnErr};
+ghost use Rattle.std.specs.Prelude.{◌≡◌, ◌≤◌, ◌++◌, List, length, map, OnOk, OnErr};
 ghost use Rattle.ic_name.specs.declared.ids.Link.{Link as ALink};
 ghost use Rattle.ic_path.specs.Orders.{Alike};
 ghost use Rattle.ic_path.specs.Links.{IsSlim};
@@ -38,26 +38,27 @@ pub(crate) fn add_start<L: LinkStore>(
 }
 
 /// How many links of an event can join principal ports, at most: its first ones.
-const MAX_JOINS: usize = 4;
+pub(crate) const MAX_JOINS: usize = 4;
 
-/// Puts in the links that an event makes, between its two agents and its children, by place, and tells which principal ports
-/// the first of them join. At an error some of them may have been put in, from the first one on.
+/// Puts in the links that an event makes, between its two agents and its children, by place, and writes into `joins` which
+/// principal ports the first of them join. At an error some of them may have been put in, from the first one on.
 pub(crate) fn add_made<L: LinkStore>(
     store: &mut L,
     ends: &[(RuleEnd, RuleEnd)],
     event: EventId,
     pair: ActivePair,
     born: &[AgentId],
-) -> Result<[Option<Principals>; MAX_JOINS], AllocError>
+    joins: &mut [Option<Principals>; MAX_JOINS],
+) -> Result<(), AllocError>
     requires digits { HaveDigits born.now ends.now }
     requires few { length ends.now ≤ 8 }
     requires slim { IsSlim shape (made_links event pair born.now 0 ends.now ++ L.links store.old) }
     requires own_ids { HaveOwnIds (made_links event pair born.now 0 ends.now ++ L.links store.old) }
     ensures added { OnOk result (Alike (made_links event pair born.now 0 ends.now ++ L.links store.old) (L.links store.new)) }
-    ensures joins { IfOk result (λ joins. AreJoins (L.links store.old) (made_links event pair born.now 0 ends.now) joins) }
+    ensures joins { OnOk result (AreJoins (L.links store.old) (made_links event pair born.now 0 ends.now) joins.new) }
     ensures some { OnErr result ((front back : List ALink) × (made_links event pair born.now 0 ends.now ≡ front ++ back) × Alike (front ++ L.links store.old) (L.links store.new)) }
 {
-    let mut joins = [None; MAX_JOINS];
+    *joins = [None; MAX_JOINS];
     for place in 0..ends.len() {
         let (a, b) = ends[place];
         let id = LinkId {
@@ -75,7 +76,7 @@ pub(crate) fn add_made<L: LinkStore>(
             store.add(link)?;
         }
     }
-    Ok(joins)
+    Ok(())
 }
 
 /// A spot of a start, with the agent under the id that has its number.

@@ -177,33 +177,36 @@ impl<L: LinkStore> BareSet<L> {
         Ok(pairs)
     }
 
-    /// The active pairs between the agents of these joins. It takes no memory.
-    pub(crate) fn active_joins(&self, joins: &[Option<Principals>; 4]) -> [Option<ActivePair>; 4]
-        ensures { AreActiveJoins self.now.set joins.now result }
+    /// Writes the active pairs between the agents of these joins into `pairs`. It takes no memory.
+    pub(crate) fn active_joins(
+        &self,
+        joins: &[Option<Principals>; 4],
+        pairs: &mut [Option<ActivePair>; 4],
+    )
+        ensures { AreActiveJoins self.now.set joins.now pairs.new }
     {
         self.lawful();
-        [
-            self.active_join(joins[0]),
-            self.active_join(joins[1]),
-            self.active_join(joins[2]),
-            self.active_join(joins[3]),
-        ]
+        *pairs = [None; 4];
+        for place in 0..4 {
+            if let Some(join) = joins[place] {
+                pairs[place] = self.active_join(join);
+            }
+        }
     }
 
-    /// The active pair of these two agents, if there are two and they are one. It takes no memory.
-    fn active_join(&self, join: Option<Principals>) -> Option<ActivePair>
-        ensures found { IfSome result (λ pair. IsActivePair self.now.set pair × IsBetween join pair) }
-        ensures absent { IfNone result ((e : AnEvent) (pair : APair) → IsPairOf self.now.set e pair → IsBetween join pair → ⊥) }
+    /// The active pair of the two agents of a join, if they are one. It takes no memory.
+    fn active_join(&self, join: Principals) -> Option<ActivePair>
+        ensures found { IfSome result (λ pair. IsActivePair self.now.set pair × IsBetween (Some join) pair) }
+        ensures absent { IfNone result ((e : AnEvent) (pair : APair) → IsPairOf self.now.set e pair → IsBetween (Some join) pair → ⊥) }
     {
         self.lawful();
-        let agents = join?;
-        let pair = self.pair_with(agents.one)?;
-        let partner = if pair.lead == agents.one {
+        let pair = self.pair_with(join.one)?;
+        let partner = if pair.lead == join.one {
             pair.other
         } else {
             pair.lead
         };
-        if partner != agents.other {
+        if partner != join.other {
             return None;
         }
         Some(pair)

@@ -105,7 +105,7 @@ invariant_of-self-in-Ok g c =
     (put_keeps v c.args.self.now.set (ap (λ (w : NamedView). w.set) c.self.view_is) ls c.self.invariant e c.args.pair active c.args.line c.requires.new_line
     _ (c.in_ok-children.ensures.children ∙ ap born_agents same) c.in_ok-born.born.items _ enters c.lawful-2.ensures.names
     c.rank_over-rank.result c.in_ok-causes.causes.items (c.in_ok-causes.ensures e active) over
-    c.in-Ok.put.id c.in-Ok.ensures.put.0 _ _ c.lawful-in-Ok.ensures.lines puts (c.requires.shallow e active))
+    c.in-Ok.id c.in-Ok.ensures.put.0 _ _ c.lawful-in-Ok.ensures.lines puts (c.requires.shallow e active))
 
 pub returns-in-Ok-clause-admitted : goal.returns-in-Ok-clause-admitted
 returns-in-Ok-clause-admitted g c = λ e active. (
@@ -123,7 +123,7 @@ returns-in-Ok-clause-admitted g c = λ e active. (
     (put_admits v c.args.self.now.set (ap (λ (w : NamedView). w.set) c.self.view_is) ls c.self.invariant e c.args.pair active c.args.line c.requires.new_line
     _ (c.in_ok-children.ensures.children ∙ ap born_agents same) c.in_ok-born.born.items _ enters c.lawful-2.ensures.names
     c.rank_over-rank.result c.in_ok-causes.causes.items (c.in_ok-causes.ensures e active) over
-    c.in-Ok.put.id c.in-Ok.ensures.put.0 _ _ c.lawful-in-Ok.ensures.lines puts))
+    c.in-Ok.id c.in-Ok.ensures.put.0 _ _ c.lawful-in-Ok.ensures.lines puts))
 
 pub returns-in-Ok-clause-awoken : goal.returns-in-Ok-clause-awoken
 returns-in-Ok-clause-awoken g c =
@@ -145,7 +145,7 @@ returns-in-Ok-clause-awoken g c =
     (put_awakes v c.args.self.now.set (ap (λ (w : NamedView). w.set) c.self.view_is) ls c.self.invariant e c.args.pair active c.args.line c.requires.new_line
     _ (c.in_ok-children.ensures.children ∙ ap born_agents same) c.in_ok-born.born.items _ enters c.lawful-2.ensures.names
     c.rank_over-rank.result c.in_ok-causes.causes.items (c.in_ok-causes.ensures e active) over
-    c.in-Ok.put.id c.in-Ok.ensures.put.0 _ _ c.lawful-in-Ok.ensures.lines puts (c.requires.shallow e active) c.in-Ok.put.joins joins _ act)
+    c.in-Ok.id c.in-Ok.ensures.put.0 _ _ c.lawful-in-Ok.ensures.lines puts (c.requires.shallow e active) _ joins _ act)
 
 -- the agents that were entered have gone again
 gone_again : (entered : List Member) {old mid put new : List Member} {ids born : List AgentId} → put ≡ mid → map (λ m. m.id) entered ≡ born → ids ≡ born → Alike (entered ++ old) mid
