@@ -1,5 +1,5 @@
 -- What the calls of a bench do: one step of the machine each.
-use Rattle.std.specs.Prelude.{◌≡◌, ℕ, ◌+◌, ◌≤◌, ◌<◌, [], ◌∷◌, ◌++◌, length, Result, Ok, Err}
+use Rattle.std.specs.Prelude.{◌≡◌, ℕ, ◌+◌, ◌≤◌, ◌<◌, [], ◌∷◌, ◌++◌, length, List, Option, Result, Ok, Err}
 use Rattle.ic_name.specs.Events.{Event}
 use Rattle.ic_name.specs.declared.ids.EventId.{EventId}
 use Rattle.ic_name.specs.declared.limits.TheConstants.{MAX_LINES}
@@ -10,6 +10,7 @@ use Rattle.ic_name.specs.declared.lines.Reply.TheVariants as reply
 use Rattle.ic_path.specs.Orders.{IsIn}
 use Rattle.ic_theory.specs.Machine.{State, MachineStep}
 use Rattle.ic_roster.specs.Rosters.{Stander}
+use Rattle.ic_set.specs.declared.pairs.ActivePair.{ActivePair}
 use Rattle.ic_set.specs.declared.pairs.Fired.{Fired}
 use Rattle.ic_set.specs.Changes.{IsSame, Admits, TakesOut}
 use Rattle.ic_set.specs.Pairs.{Awakes}
@@ -54,6 +55,11 @@ Fires old e (Err (fire.Memory f)) new = (length old.lines < MAX_LINES) × (f ≡
 abbrev pub id_answer : Result Fired FireFault → Result EventId FireFault
 id_answer (Ok fired) = Ok fired.id
 id_answer (Err fault) = Err fault
+
+-- the answer to a firing, with the pairs that became active by it
+abbrev pub awoken_answer : Result EventId PairFault → List (Option ActivePair) → Result Fired PairFault
+awoken_answer (Ok id) awoken = Ok (record { id = id; awoken = awoken })
+awoken_answer (Err fault) awoken = Err fault
 
 -- what firing the event of an active pair does, and the pairs that become active by it
 abbrev pub FiresPair : BenchView → Event → Result Fired PairFault → BenchView → Type 0

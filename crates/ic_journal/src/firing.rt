@@ -1,7 +1,7 @@
 ghost use Rattle.std.specs.Prelude.{◌≡◌, ◌≤◌, None, Ok, IfOk, OnErr};
 ghost use Rattle.ic_name.specs.Events.{Event as AnEvent};
 ghost use Rattle.ic_set.specs.Pairs.{IsActivePair, IsPairOf};
-ghost use Rattle.ic_journal.specs.Calls.{FiresPair, Stays};
+ghost use Rattle.ic_journal.specs.Calls.{awoken_answer, FiresPair, Stays};
 ghost use Rattle.ic_journal.specs.Limits.{Meets};
 ghost use Rattle.ic_journal.specs.Views.{set_of};
 ghost use Rattle.ic_roster.specs.Rosters.{event_in, IsNamed};
@@ -11,6 +11,7 @@ use crate::faults::PairFault;
 use crate::limit::limit_of;
 use ic_history::KeptLine;
 use ic_link::LinkStore;
+use ic_name::EventId;
 use ic_name::limits::MAX_LINES;
 use ic_roster::Interaction;
 use ic_set::{ActivePair, Fired};
@@ -28,6 +29,22 @@ impl<L: LinkStore> Bench<L> {
         requires { IsActivePair (set_of self.old) pair }
         ensures { (e : AnEvent) → IsPairOf (set_of self.old) e pair → FiresPair self.old e result self.new }
     {
+        let mut awoken = [None; 4];
+        match self.fire_pair_into(pair, &mut awoken) {
+            Ok(id) => Ok(Fired { id, awoken }),
+            Err(fault) => Err(fault),
+        }
+    }
+
+    /// Fires an active pair as `fire_pair` does. The pairs that became active by it are written into `awoken`.
+    pub(crate) fn fire_pair_into(
+        &mut self,
+        pair: ActivePair,
+        awoken: &mut [Option<ActivePair>; 4],
+    ) -> Result<EventId, PairFault>
+        requires { IsActivePair (set_of self.old) pair }
+        ensures { (e : AnEvent) → IsPairOf (set_of self.old) e pair → FiresPair self.old e (awoken_answer result awoken.new) self.new }
+    {
         let line = self.history.len();
         if line == MAX_LINES {
             return Err(PairFault::HistoryFull);
@@ -41,27 +58,33 @@ impl<L: LinkStore> Bench<L> {
             self.history.note(KeptLine::limited(limit, event));
             return Err(PairFault::of(limit));
         }
-        match self.admit_noted(pair, event) {
-            Ok(fired) => Ok(fired),
+        match self.admit_noted(pair, event, awoken) {
+            Ok(id) => Ok(id),
             Err(_) => Err(PairFault::Memory),
         }
     }
 
-    /// Admits an active pair that meets no limit, and notes the line of its event's firing. There is room for the line. An
-    /// error means that memory ran out; no line was added then, and nothing that stands changed.
-    fn admit_noted(&mut self, pair: ActivePair, event: Interaction) -> Result<Fired, AllocError>
+    /// Admits an active pair that meets no limit, and notes the line of its event's firing. There is room for the line. The
+    /// pairs that became active by it are written into `awoken`. An error means that memory ran out; no line was added then,
+    /// and nothing that stands changed.
+    fn admit_noted(
+        &mut self,
+        pair: ActivePair,
+        event: Interaction,
+        awoken: &mut [Option<ActivePair>; 4],
+    ) -> Result<EventId, AllocError>
         requires room { 1 ≤ self.old.room }
         requires active { (e : AnEvent) × IsPairOf (set_of self.old) e pair × Meets (set_of self.old) e None }
         requires named { IsNamed self.old.names event }
         requires event { (e : AnEvent) → IsPairOf (set_of self.old) e pair → event_in self.old.names event ≡ e }
-        ensures fired { IfOk result (λ fired. (e : AnEvent) → IsPairOf (set_of self.old) e pair → FiresPair self.old e (Ok fired) self.new) }
+        ensures fired { IfOk result (λ id. (e : AnEvent) → IsPairOf (set_of self.old) e pair → FiresPair self.old e (Ok (record { id = id; awoken = awoken.new })) self.new) }
         ensures wanting { OnErr result (Stays self.old self.new) }
     {
         let set = self.set.bare();
         set.lawful();
         let line = self.history.len();
-        let fired = self.set.admit(pair, event, line as u32)?;
+        let id = self.set.admit(pair, event, line as u32, awoken)?;
         self.history.note(KeptLine::fired(event));
-        Ok(fired)
+        Ok(id)
     }
 }

@@ -36,8 +36,9 @@ fn fire_next<L: LinkStore, G: Gate>(bench: &mut Bench<L>, gate: &G, ticket: u64)
     let Some(pair) = bench.least_active() else {
         return Some(End::Normal);
     };
+    let mut awoken = [None; 4];
     gate.before_commit(0, ticket);
-    let fired = bench.fire_pair(pair);
+    let fired = bench.fire_pair_into(pair, &mut awoken);
     gate.after_commit(0, ticket);
     bench.lawful();
     match fired {

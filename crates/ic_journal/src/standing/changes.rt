@@ -1,4 +1,4 @@
-ghost use Rattle.std.specs.Prelude.{◌≡◌, ◌≢◌, ◌<◌, length, IfOk, OnErr};
+ghost use Rattle.std.specs.Prelude.{◌≡◌, ◌≢◌, ◌<◌, length, IfOk, OnOk, OnErr};
 ghost use Rattle.ic_name.specs.Events.{Event as AnEvent};
 ghost use Rattle.ic_name.specs.declared.limits.TheConstants.{MAX_LINES};
 ghost use Rattle.ic_path.specs.Orders.{IsIn};
@@ -17,19 +17,20 @@ use crate::standing::renewing::MAX_CHILDREN;
 use ic_link::LinkStore;
 use ic_name::EventId;
 use ic_roster::Interaction;
-use ic_set::{ActivePair, Fired};
+use ic_set::ActivePair;
 use std::alloc::AllocError;
 
 impl<L: LinkStore> StandingSet<L> {
     /// One event more, that of an active pair, under an id with this line, which no standing event has: with it its
-    /// children come, and the links of its rule are put in. With the id come the pairs that became active by it. At an error
-    /// nothing changes but that names may be known that weren't.
+    /// children come, and the links of its rule are put in. The pairs that became active by it are written into `awoken`. At
+    /// an error nothing else changes but that names may be known that weren't.
     pub fn admit(
         &mut self,
         pair: ActivePair,
         event: Interaction,
         line: u32,
-    ) -> Result<Fired, AllocError>
+        awoken: &mut [Option<ActivePair>; 4],
+    ) -> Result<EventId, AllocError>
         requires active { IsActivePair self.old.set pair }
         requires named { IsNamed self.old.names event }
         requires event { (e : AnEvent) → IsPairOf self.old.set e pair → event_in self.old.names event ≡ e }
@@ -37,17 +38,17 @@ impl<L: LinkStore> StandingSet<L> {
         requires new_line { (x : Stander) → IsIn x self.old.set.events → x.id.line ≢ line }
         requires few_lines { line < MAX_LINES }
         requires few_events { length self.old.set.events < MAX_LINES }
-        ensures admitted { IfOk result (λ fired. (e : AnEvent) → IsPairOf self.old.set e pair → Admits self.old.set e line fired.id self.new.set) }
-        ensures awoken { IfOk result (λ fired. Awakes self.old.set self.new.set fired.awoken) }
+        ensures admitted { IfOk result (λ id. (e : AnEvent) → IsPairOf self.old.set e pair → Admits self.old.set e line id self.new.set) }
+        ensures awoken { OnOk result (Awakes self.old.set self.new.set awoken.new) }
         ensures grown { GrowsBy 4 self.old.names self.new.names }
         ensures unchanged { OnErr result (IsSame self.old.set self.new.set) }
     {
         self.bare.lawful();
         let names = self.bare.roster().names().len();
         self.queue.reserve(names + MAX_CHILDREN)?;
-        let fired = self.bare.admit(pair, event, line)?;
+        let id = self.bare.admit(pair, event, line, awoken)?;
         self.bare.lawful();
-        put_leads(&mut self.queue, &self.bare, &fired.awoken);
+        put_leads(&mut self.queue, &self.bare, &*awoken);
         self.front = front_after(
             self.alloc,
             &mut self.queue,
@@ -56,7 +57,7 @@ impl<L: LinkStore> StandingSet<L> {
             pair.lead,
             &mut self.passed_over,
         );
-        Ok(fired)
+        Ok(id)
     }
 
     /// A standing event goes on which nothing depends: with it its children go, and its links. It takes no memory.

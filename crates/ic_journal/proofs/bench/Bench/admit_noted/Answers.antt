@@ -27,12 +27,12 @@ invariant_of-self g c =
     let h = c.self.inside.history in
     let short = c.self.invariant.running.short in
     let long = length-map h.lines (line_in c.self.inside.set.names) in
-    same_kept c.self.inside.set c.admit.new.self h h c.self.invariant c.in_err-fired.ensures.unchanged (grown_keeps _ _ c.admit.ensures.grown) refl (omega (arith, short, long))
+    same_kept c.self.inside.set c.admit.new.self h h c.self.invariant c.in_err-id.ensures.unchanged (grown_keeps _ _ c.admit.ensures.grown) refl (omega (arith, short, long))
 
-pub returns-in_err-fired-clause-wanting : goal.returns-in_err-fired-clause-wanting
-returns-in_err-fired-clause-wanting g c =
+pub returns-in_err-id-clause-wanting : goal.returns-in_err-id-clause-wanting
+returns-in_err-id-clause-wanting g c =
     let h = c.self.inside.history in
-    at_error c.from_residual.result (rw (← c.self.view_is) (same_stays c.self.inside.set c.admit.new.self h h c.self.invariant c.in_err-fired.ensures.unchanged (grown_keeps _ _ c.admit.ensures.grown) refl (omega arith)))
+    at_error c.from_residual.result (rw (← c.self.view_is) (same_stays c.self.inside.set c.admit.new.self h h c.self.invariant c.in_err-id.ensures.unchanged (grown_keeps _ _ c.admit.ensures.grown) refl (omega arith)))
 
 pub admit-requires-clause-shallow : goal.admit-requires-clause-shallow
 admit-requires-clause-shallow g c =
@@ -55,7 +55,7 @@ invariant_of-self-2 g c =
     let more : c.note.new.self.lines ≡ h.lines ++ Fired c.args.event ∷ [] = rw c.fired.ensures.line at c.note.ensures.lines in
     let down = c.note.ensures.room in
     fired_kept s c.admit.new.self h c.note.new.self c.self.invariant c.admit.ensures.grown c.args.event named f (its f first)
-    more c.len-line.result c.len-line.ensures.count c.in_ok-fired.fired.id (c.in_ok-fired.ensures.admitted f first) first.active limits.0 limits.1 (omega (arith, down)) c.note.ensures.few
+    more c.len-line.result c.len-line.ensures.count c.in_ok-id.id (c.in_ok-id.ensures.admitted f first) first.active limits.0 limits.1 (omega (arith, down)) c.note.ensures.few
 
 pub returns-clause-fired : goal.returns-clause-fired
 returns-clause-fired g c =
@@ -73,7 +73,7 @@ returns-clause-fired g c =
     let p : IsPairOf s.set e c.args.pair = subst (λ v. IsPairOf (set_of v) e c.args.pair) (sym c.self.view_is) q in
     let within = subst (λ x. Meets s.set x None) (sym (its f first) ∙ its e p) limits in
     let fired = fired_steps s c.admit.new.self h c.note.new.self c.self.invariant c.admit.ensures.grown c.args.event named e (its e p)
-    more c.len-line.result c.len-line.ensures.count c.in_ok-fired.fired.id (c.in_ok-fired.ensures.admitted e p) p.active within.0 within.1 room in
+    more c.len-line.result c.len-line.ensures.count c.in_ok-id.id (c.in_ok-id.ensures.admitted e p) p.active within.0 within.1 room in
     let admits = fired_admits s c.admit.new.self h c.note.new.self c.self.invariant c.admit.ensures.grown c.args.event named e (its e p)
-    more c.len-line.result c.len-line.ensures.count c.in_ok-fired.fired.id (c.in_ok-fired.ensures.admitted e p) p.active within.0 within.1 room in
-    subst (λ v. FiresPair v e (Ok c.in_ok-fired.fired) (view_of c.admit.new.self c.note.new.self)) c.self.view_is ((fired, admits), c.in_ok-fired.ensures.awoken))
+    more c.len-line.result c.len-line.ensures.count c.in_ok-id.id (c.in_ok-id.ensures.admitted e p) p.active within.0 within.1 room in
+    subst (λ v. FiresPair v e (Ok (record { id = c.in_ok-id.id; awoken = c.admit.new.awoken })) (view_of c.admit.new.self c.note.new.self)) c.self.view_is ((fired, admits), c.in_ok-id.ensures.awoken))

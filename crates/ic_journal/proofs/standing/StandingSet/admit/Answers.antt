@@ -27,18 +27,18 @@ returns-in_err-reserve-clause-grown g c = record { more = []; behind = ap (λ (v
 pub admit-requires-clause-new_line : goal.admit-requires-clause-new_line
 admit-requires-clause-new_line g c = rw (c.deref_mut.ensures.value, c.self.view_is) c.requires.new_line
 
-pub invariant_of-self-in_err-fired : goal.invariant_of-self-in_err-fired
-invariant_of-self-in_err-fired g c =
+pub invariant_of-self-in_err-id : goal.invariant_of-self-in_err-id
+invariant_of-self-in_err-id g c =
     let before = c.self.inside.bare.value.names in
     let after = c.admit.new.self.names in
     let grown = rw c.deref_mut.ensures.value at c.admit.ensures.grown in
     let count : c.len-names.result ≡ length before = c.len-names.ensures ∙ ap length (c.names.ensures ∙ c.roster.ensures.names ∙ ap (λ (v : NamedView). v.names) c.deref-2.ensures) in
     let enough : length after ≤ c.reserve.new.self.room = omega (arith, count, grown_length before after grown, c.in_ok-reserve.ensures.reserved) in
-    same_keeps c.self.inside.bare.value c.admit.new.self c.self.inside.queue c.reserve.new.self c.self.inside.front (rw c.deref_mut.ensures.value at c.in_err-fired.ensures.unchanged) (grown_keeps before after grown) (c.reserve.ensures.queue after) c.reserve.ensures.same enough c.self.invariant
+    same_keeps c.self.inside.bare.value c.admit.new.self c.self.inside.queue c.reserve.new.self c.self.inside.front (rw c.deref_mut.ensures.value at c.in_err-id.ensures.unchanged) (grown_keeps before after grown) (c.reserve.ensures.queue after) c.reserve.ensures.same enough c.self.invariant
 
 pub put_leads-requires-clause-active : goal.put_leads-requires-clause-active
 put_leads-requires-clause-active g c =
-    let awoken = rw c.deref_mut.ensures.value at c.in_ok-fired.ensures.awoken in
+    let awoken = rw c.deref_mut.ensures.value at c.in_ok-id.ensures.awoken in
     rw c.deref-4.ensures (λ p i. (awoken.only p i).0)
 
 pub put_leads-requires-clause-queue : goal.put_leads-requires-clause-queue
@@ -50,21 +50,21 @@ pub front_after-self-inside-requires-clause-each : goal.front_after-self-inside-
 front_after-self-inside-requires-clause-each g c =
     let e = c.requires.active.0 in
     let active : IsPairOf c.self.inside.bare.value.set e c.args.pair = rw c.self.view_is c.requires.active.1 in
-    let a = (rw c.deref_mut.ensures.value at c.in_ok-fired.ensures.admitted) e active in
+    let a = (rw c.deref_mut.ensures.value at c.in_ok-id.ensures.admitted) e active in
     let grown = rw c.deref_mut.ensures.value at c.admit.ensures.grown in
-    let awoken = rw c.deref_mut.ensures.value at c.in_ok-fired.ensures.awoken in
-    rw c.deref-5.ensures (admitted_each c.self.inside.bare.value c.admit.new.self e c.args.line c.in_ok-fired.fired.id a
-    (leads_of c.self.inside.queue) (leads_of c.put_leads.new.queue) (grown_keeps _ _ grown) c.in_ok-fired.fired.awoken awoken
+    let awoken = rw c.deref_mut.ensures.value at c.in_ok-id.ensures.awoken in
+    rw c.deref-5.ensures (admitted_each c.self.inside.bare.value c.admit.new.self e c.args.line c.in_ok-id.id a
+    (leads_of c.self.inside.queue) (leads_of c.put_leads.new.queue) (grown_keeps _ _ grown) c.admit.new.awoken awoken
     c.self.invariant.each (rw (c.reserve.ensures.same, c.deref-4.ensures) at c.put_leads.ensures.stay) (rw c.deref-4.ensures at c.put_leads.ensures.led))
 
 pub front_after-self-inside-requires-clause-active : goal.front_after-self-inside-requires-clause-active
 front_after-self-inside-requires-clause-active g c =
     let e = c.requires.active.0 in
     let active : IsPairOf c.self.inside.bare.value.set e c.args.pair = rw c.self.view_is c.requires.active.1 in
-    let a = (rw c.deref_mut.ensures.value at c.in_ok-fired.ensures.admitted) e active in
+    let a = (rw c.deref_mut.ensures.value at c.in_ok-id.ensures.admitted) e active in
     let before : IsStandingSet c.self.inside.bare.value.set = rw c.deref.ensures at c.lawful.ensures.set in
     let after : IsStandingSet c.admit.new.self.set = rw c.deref-3.ensures at c.lawful-2.ensures.set in
-    rw c.deref-5.ensures (front_stays c.self.inside.bare.value c.admit.new.self e c.args.line c.in_ok-fired.fired.id a before after c.args.pair active c.self.inside.front c.self.invariant.front)
+    rw c.deref-5.ensures (front_stays c.self.inside.bare.value c.admit.new.self e c.args.line c.in_ok-id.id a before after c.args.pair active c.self.inside.front c.self.invariant.front)
 
 pub invariant_of-self-2 : goal.invariant_of-self-2
 invariant_of-self-2 g c =
@@ -73,7 +73,7 @@ invariant_of-self-2 g c =
     rw c.deref-5.ensures at kept
 
 pub returns-clause-awoken : goal.returns-clause-awoken
-returns-clause-awoken g c = rw (← c.self.view_is) (rw c.deref_mut.ensures.value at c.in_ok-fired.ensures.awoken)
+returns-clause-awoken g c = rw (← c.self.view_is) (rw c.deref_mut.ensures.value at c.in_ok-id.ensures.awoken)
 
 pub returns-clause-admitted : goal.returns-clause-admitted
-returns-clause-admitted g c = rw (← c.self.view_is) (rw c.deref_mut.ensures.value at c.in_ok-fired.ensures.admitted)
+returns-clause-admitted g c = rw (← c.self.view_is) (rw c.deref_mut.ensures.value at c.in_ok-id.ensures.admitted)

@@ -1,6 +1,7 @@
 use Rattle.std.proofs.Common.{◌≡◌, ◌≤◌, ◌+◌, ◌∷◌, ◌++◌, [], None, Some, Ok, Err, sym, subst, arith}
 use Rattle.std.proofs.lemmas.List.{length-map}
 use Rattle.ic_name.specs.declared.lines.Call.TheVariants.{Fire}
+use Rattle.ic_set.specs.declared.pairs.Fired.{Fired}
 use Rattle.ic_set.specs.Pairs.{IsPairOf}
 use Rattle.ic_history.specs.Noted.{NotedLine, Limited, line_in}
 use Rattle.ic_journal.specs.Views.{set_of, view_of}
@@ -8,7 +9,7 @@ use Rattle.ic_history.specs.Limits.{reply_of}
 use Rattle.ic_journal.specs.Calls.{FiresPair}
 use Rattle.ic_journal.proofs.KeptBenches.{keeps_self, same_kept, same_stays, refused_kept, refuses, roomier_fires}
 use Rattle.ic_journal.proofs.PairLimits.{meets_same, limit_answer, pair_refused}
-use Rattle.ic_journal.proofs.bench.Bench.fire_pair.Goals as goal
+use Rattle.ic_journal.proofs.bench.Bench.fire_pair_into.Goals as goal
 use Rattle.ic_set.proofs.Admissions.{same_self}
 
 pub returns-in_default : goal.returns-in_default
@@ -65,7 +66,7 @@ admit_noted-requires-clause-active g c =
 pub returns-in-Ok-admit_noted : goal.returns-in-Ok-admit_noted
 returns-in-Ok-admit_noted g c =
     let s = c.self.inside.set in
-    let fired = c.in-Ok-admit_noted.fired in
+    let fired : Fired = record { id = c.in-Ok-admit_noted.id; awoken = c.admit_noted.new.awoken } in
     λ e q. (
     let p : IsPairOf s.set e c.args.pair = subst (λ v. IsPairOf (set_of v) e c.args.pair) (sym c.self.view_is) q in
     let fires = roomier_fires s c.self.inside.history c.reserve.new.self c.reserve.ensures.lines c.reserve.ensures.more c.admit_noted.new.self e fired (c.in-Ok-admit_noted.ensures.fired e p) in
