@@ -35,7 +35,8 @@ pub(crate) fn fire_in_set(
     let line = free_line(set.roster(), taken);
     make_room(taken, line)?;
     let event = set.interaction_of(pair);
-    let _ = set.admit(pair, event, line)?;
+    let mut awoken = [None; 4];
+    let _ = set.admit(pair, event, line, &mut awoken)?;
     taken[line as usize] = true;
     Ok(())
 }

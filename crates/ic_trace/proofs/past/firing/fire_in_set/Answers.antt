@@ -19,4 +19,4 @@ returns-clause-taken c =
     let e = c.requires.active in
     let v = c.args.set.now.set in
     let are = same_taken v.events v.events c.args.taken.now.items c.make_room.new.taken.items (alike_self v.events) c.make_room.ensures.same c.requires.taken in
-    one_more_taken v c.admit.new.self.set e.0 c.free_line-line.result c.in_ok-admit.field-0.id (c.in_ok-admit.ensures.admitted e.0 e.1) c.make_room.new.taken.items are c.in_ok-make_room.ensures.room
+    one_more_taken v c.admit.new.self.set e.0 c.free_line-line.result c.in_ok-admit.field-0 (c.in_ok-admit.ensures.admitted e.0 e.1) c.make_room.new.taken.items are c.in_ok-make_room.ensures.room
