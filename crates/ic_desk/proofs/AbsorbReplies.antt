@@ -24,7 +24,7 @@ use Rattle.ic_undo.specs.GoingBack.{firing}
 use Rattle.ic_journal.specs.Undone.{undoing}
 use Rattle.ic_path.proofs.InLists.{in-map}
 use Rattle.ic_undo.proofs.Backs.{alike_reverse, map-reverse}
-use Rattle.ic_desk.specs.Unwinding.{events_of}
+use Rattle.ic_answer.specs.Unwinding.{events_of}
 use Rattle.ic_work.proofs.HistoryParts.{AreAnswered, same_history, history_on, one_state}
 use Rattle.ic_work.proofs.HistoryParts as parts
 use Rattle.ic_desk.specs.Absorbs.{Fits, AreAbsorbed, Absorbs, AllStand, NoneIsActive, IsRefused, TakesBack}

@@ -11,12 +11,12 @@ use Rattle.ic_undo.specs.Absorbing as bench
 use Rattle.ic_undo.specs.declared.faults.AbsorbFault.{AbsorbFault}
 use Rattle.ic_undo.specs.declared.faults.AbsorbFault.TheVariants as fault
 use Rattle.ic_command.specs.declared.request.Request.TheVariants.{Absorb}
-use Rattle.ic_desk.specs.declared.answer.Answer.{Answer}
-use Rattle.ic_desk.specs.declared.answer.refused.Refused.TheVariants.{Deep, Full, HistoryFull, Memory}
-use Rattle.ic_desk.specs.Longer.{IsLonger}
-use Rattle.ic_desk.specs.Texts.{answer_text, refusal_text}
-use Rattle.ic_desk.specs.Unwinding as undone
-use Rattle.ic_desk.proofs.UntoldTurns.{still_there, told_or_refused}
+use Rattle.ic_answer.specs.declared.answer.Answer.{Answer}
+use Rattle.ic_answer.specs.declared.refused.Refused.TheVariants.{Deep, Full, HistoryFull, Memory}
+use Rattle.ic_answer.specs.Longer.{IsLonger}
+use Rattle.ic_answer.specs.Texts.{answer_text, refusal_text}
+use Rattle.ic_answer.specs.Unwinding as undone
+use Rattle.ic_answer.proofs.UntoldTurns.{still_there, told_or_refused}
 use Rattle.ic_desk.specs.Absorbs as runs
 use Rattle.ic_desk.specs.Replies.{RepliesToRequest, absorbed_text, never_text, absorbed, never_active, absorb_deep, absorb_full, absorb_history_full, absorb_memory}
 use Rattle.ic_desk.specs.Views.{NamedView, TurnsByRequest}

@@ -20,8 +20,8 @@ use Rattle.ic_undo.specs.Absorbing.{IsLeastListed, AreLeastInTurn}
 use Rattle.ic_undo.specs.GoingBack.{firing}
 use Rattle.ic_journal.specs.Undone.{undoing}
 use Rattle.ic_undo.proofs.Backs.{reverse_more}
-use Rattle.ic_desk.specs.Unwinding.{AreUndoneInTurn}
-use Rattle.ic_desk.specs.Unwinding as undo
+use Rattle.ic_answer.specs.Unwinding.{AreUndoneInTurn}
+use Rattle.ic_answer.specs.Unwinding as undo
 use Rattle.ic_work.proofs.HistoryParts.{AreAnswered, same_history, history_parts, history_on, carried, one_state}
 use Rattle.ic_work.proofs.HistoryParts as parts
 use Rattle.ic_theory.specs.Machine.{AreSame}

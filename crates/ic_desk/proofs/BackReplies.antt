@@ -19,9 +19,9 @@ use Rattle.ic_undo.specs.GoingBack as bench
 use Rattle.ic_undo.specs.GoingBack.{IsOutside, AreFirable}
 use Rattle.ic_undo.proofs.FirableEvents.{firable}
 use Rattle.ic_undo.proofs.MarkedEvents.{outside_with_dependents, mark_parts, causes_before}
-use Rattle.ic_desk.specs.Unwinding.{events_of}
-use Rattle.ic_desk.proofs.UnwindingReplies.{free_back}
-use Rattle.ic_desk.proofs.UnwoundEvents.{last_first_at}
+use Rattle.ic_answer.specs.Unwinding.{events_of}
+use Rattle.ic_answer.proofs.UnwindingReplies.{free_back}
+use Rattle.ic_answer.proofs.UnwoundEvents.{last_first_at}
 use Rattle.ic_desk.specs.Backs.{AreOutside, AreMissing, DontFit, GoesBack, GoesPartWay}
 use Rattle.ic_desk.proofs.MachineFirings.{firable_first}
 use Rattle.ic_desk.proofs.WaysBack.{GoesSo, free_last, between_sound, goes_so}

@@ -15,13 +15,13 @@ use Rattle.ic_command.specs.declared.help.TheConstants.{HELP}
 use Rattle.ic_command.specs.declared.question.Question.{Question}
 use Rattle.ic_command.specs.declared.question.Question.TheVariants.{Marks, Rules, Help, Step, Steps, Unstep}
 use Rattle.ic_command.specs.declared.request.Request.TheVariants.{Bench}
-use Rattle.ic_desk.specs.BenchQuestions.{InformsOf, rules}
-use Rattle.ic_desk.specs.LastFired.{UnstepsBench}
-use Rattle.ic_desk.specs.Stepping.{StepsBench}
-use Rattle.ic_desk.specs.Texts.{answer_text, refusal_text}
-use Rattle.ic_desk.specs.declared.answer.Answer.{Answer}
-use Rattle.ic_desk.specs.declared.answer.refused.Refused.TheVariants.{NotActive, Memory}
-use Rattle.ic_desk.specs.declared.answer.rules.TheConstants.{RULES}
+use Rattle.ic_answer.specs.BenchQuestions.{InformsOf, rules}
+use Rattle.ic_answer.specs.LastFired.{UnstepsBench}
+use Rattle.ic_answer.specs.Stepping.{StepsBench}
+use Rattle.ic_answer.specs.Texts.{answer_text, refusal_text}
+use Rattle.ic_answer.specs.declared.answer.Answer.{Answer}
+use Rattle.ic_answer.specs.declared.refused.Refused.TheVariants.{NotActive, Memory}
+use Rattle.ic_answer.specs.declared.rules.TheConstants.{RULES}
 use Rattle.ic_desk.specs.Questions.{Told, marks_text, of_bench, marks, help, stepped, nothing_active, stepped_often, unstepped, memory}
 use Rattle.ic_desk.specs.Replies.{RepliesToRequest}
 use Rattle.ic_desk.specs.Views.{DeskView, NamedView, TurnsByRequest, note_of}

@@ -13,11 +13,11 @@ use Rattle.ic_undo.specs.Marks.{MarkView, IsMark, Marks}
 use Rattle.ic_command.specs.declared.command.Command.{Command}
 use Rattle.ic_command.specs.declared.request.Request.{Request}
 use Rattle.ic_command.specs.declared.request.Request.TheVariants.{Bench, Mark, Back}
-use Rattle.ic_desk.specs.declared.answer.Answer.{Answer}
-use Rattle.ic_desk.specs.declared.answer.refused.Refused.TheVariants.{HistoryFull, Memory, NoMark, TooManyMarks}
-use Rattle.ic_desk.specs.Longer.{IsLonger}
-use Rattle.ic_desk.specs.Texts.{answer_text, refusal_text}
-use Rattle.ic_desk.specs.Turns as bench
+use Rattle.ic_answer.specs.declared.answer.Answer.{Answer}
+use Rattle.ic_answer.specs.declared.refused.Refused.TheVariants.{HistoryFull, Memory, NoMark, TooManyMarks}
+use Rattle.ic_answer.specs.Longer.{IsLonger}
+use Rattle.ic_answer.specs.Texts.{answer_text, refusal_text}
+use Rattle.ic_answer.specs.Turns as bench
 use Rattle.ic_desk.specs.Desks.{Noted}
 use Rattle.ic_desk.specs.Places.{IsPlace, PutsAt}
 use Rattle.ic_desk.specs.Replies.{RepliesToRequest, marked_text, back_text, wanting_text, of_bench, marked, too_many, mark_memory, no_mark, back_history_full, back, back_memory}

@@ -11,7 +11,7 @@ use Rattle.ic_journal.specs.Undone.{undoing}
 use Rattle.ic_undo.specs.declared.faults.Counts.{Counts}
 use Rattle.ic_undo.specs.declared.faults.BackFault.{BackFault}
 use Rattle.ic_undo.specs.declared.faults.BackFault.TheVariants as back
-use Rattle.ic_desk.specs.Longer.{IsLonger}
+use Rattle.ic_answer.specs.Longer.{IsLonger}
 
 -- a bench that is the same has no lines more
 pub unchanged : (old new : BenchView) → new ≡ old → IsLonger old new

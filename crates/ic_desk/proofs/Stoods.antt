@@ -11,7 +11,7 @@ use Rattle.ic_journal.specs.Benches.{IsBench}
 use Rattle.ic_journal.proofs.MachineSteps.{events_at}
 use Rattle.ic_undo.specs.Marks.{MarkView}
 use Rattle.ic_undo.specs.Stood.{StoodAt}
-use Rattle.ic_desk.specs.Longer.{IsLonger}
+use Rattle.ic_answer.specs.Longer.{IsLonger}
 use Rattle.ic_desk.specs.Views.{NamedView, IsMarkOn, note_of}
 use Rattle.ic_desk.proofs.Marks.{put_all}
 

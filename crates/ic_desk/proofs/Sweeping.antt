@@ -8,13 +8,13 @@ use Rattle.ic_work.specs.Sweeps.{Sweeps}
 use Rattle.ic_command.specs.declared.command.Command.TheVariants.{Reduce}
 use Rattle.ic_command.specs.declared.request.Request.{Request}
 use Rattle.ic_command.specs.declared.request.Request.TheVariants.{Bench}
-use Rattle.ic_desk.specs.declared.answer.Answer.{Answer}
-use Rattle.ic_desk.specs.declared.answer.refused.Refused.TheVariants.{MemoryBeforeReduce}
-use Rattle.ic_desk.specs.Ends.{end_text}
-use Rattle.ic_desk.specs.Texts.{answer_text, refusal_text}
-use Rattle.ic_desk.proofs.ReducingReplies.{reduce_wants}
-use Rattle.ic_desk.proofs.TurnSteps.{told_same}
-use Rattle.ic_desk.proofs.UntoldTurns.{untold, told_or_refused}
+use Rattle.ic_answer.specs.declared.answer.Answer.{Answer}
+use Rattle.ic_answer.specs.declared.refused.Refused.TheVariants.{MemoryBeforeReduce}
+use Rattle.ic_answer.specs.Ends.{end_text}
+use Rattle.ic_answer.specs.Texts.{answer_text, refusal_text}
+use Rattle.ic_answer.proofs.ReducingReplies.{reduce_wants}
+use Rattle.ic_answer.proofs.TurnSteps.{told_same}
+use Rattle.ic_answer.proofs.UntoldTurns.{untold, told_or_refused}
 use Rattle.ic_desk.specs.ManyWorkers.{TurnsWith, as_one, swept}
 use Rattle.ic_desk.specs.Views.{NamedView, DeskView, TurnsByRequest}
 use Rattle.ic_desk.proofs.DeskTurns.{desk_of, bench_turns}

@@ -16,11 +16,11 @@ use Rattle.ic_undo.specs.GoingBack.{Goes, IsBack, IsPartWay, firing}
 use Rattle.ic_undo.specs.Marks.{IsMark}
 use Rattle.ic_journal.specs.Undone.{undoing}
 use Rattle.ic_command.specs.declared.request.Request.TheVariants.{Back}
-use Rattle.ic_desk.specs.declared.answer.Answer.{Answer}
-use Rattle.ic_desk.specs.declared.answer.refused.Refused.TheVariants.{MemoryBeforeBack}
-use Rattle.ic_desk.specs.Texts.{answer_text, refusal_text}
-use Rattle.ic_desk.specs.Unwinding.{events_of}
-use Rattle.ic_desk.proofs.UntoldTurns.{told_or_refused}
+use Rattle.ic_answer.specs.declared.answer.Answer.{Answer}
+use Rattle.ic_answer.specs.declared.refused.Refused.TheVariants.{MemoryBeforeBack}
+use Rattle.ic_answer.specs.Texts.{answer_text, refusal_text}
+use Rattle.ic_answer.specs.Unwinding.{events_of}
+use Rattle.ic_answer.proofs.UntoldTurns.{told_or_refused}
 use Rattle.ic_desk.specs.Backs.{AreOutside, AreMissing, GoesBack, GoesPartWay}
 use Rattle.ic_desk.specs.Replies.{RepliesToRequest, back_memory, back_text, wanting_text}
 use Rattle.ic_desk.specs.Views.{NamedView, TurnsByRequest}

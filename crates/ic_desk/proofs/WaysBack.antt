@@ -21,8 +21,8 @@ use Rattle.ic_journal.specs.Undone.{AreUndone, undoing, AreFree}
 use Rattle.ic_undo.specs.GoingBack as bench
 use Rattle.ic_undo.specs.GoingBack.{AreFirable, firing}
 use Rattle.ic_path.proofs.InLists.{in_behind}
-use Rattle.ic_desk.specs.Unwinding.{AreUndoneInTurn}
-use Rattle.ic_desk.proofs.UndoneInTurn.{EndsSo, undone_in_turn}
+use Rattle.ic_answer.specs.Unwinding.{AreUndoneInTurn}
+use Rattle.ic_answer.proofs.UndoneInTurn.{EndsSo, undone_in_turn}
 use Rattle.ic_desk.specs.Backs.{AreFired}
 use Rattle.ic_undo.proofs.SameHistories.{same_history}
 use Rattle.ic_desk.proofs.MachineFirings.{FiresSo, fires_in_turn}

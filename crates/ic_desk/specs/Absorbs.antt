@@ -10,7 +10,7 @@ use Rattle.ic_theory.specs.Starts.{Start}
 use Rattle.ic_theory.specs.Active.{IsActive}
 use Rattle.ic_theory.specs.Machine.{Standing, State, events, MachineStep}
 use Rattle.ic_undo.specs.Absorbing.{IsLeastListed}
-use Rattle.ic_desk.specs.Unwinding.{AreUndoneInTurn, events_of}
+use Rattle.ic_answer.specs.Unwinding.{AreUndoneInTurn, events_of}
 
 -- a history that has two lines for each listed event, too, isn't too long
 abbrev pub Fits : State → List Pair → Type 0

@@ -9,7 +9,7 @@ use Rattle.ic_path.specs.Rings.{HasEachOnce}
 use Rattle.ic_theory.specs.Starts.{Start}
 use Rattle.ic_theory.specs.Machine.{Standing, State, events, MachineStep}
 use Rattle.ic_cause.specs.Journals.{AreCanonical}
-use Rattle.ic_desk.specs.Unwinding.{AreLastFirst, AreUndoneInTurn, events_of}
+use Rattle.ic_answer.specs.Unwinding.{AreLastFirst, AreUndoneInTurn, events_of}
 
 -- the standing events that the mark doesn't have, the last in canonical order first
 abbrev pub AreOutside : Start → State → List Event → List Event → Type 0

@@ -7,7 +7,7 @@ use Rattle.ic_work.specs.Sweeps.{IsSwept}
 use Rattle.ic_command.specs.declared.command.Command.TheVariants.{Reduce}
 use Rattle.ic_command.specs.declared.request.Request.{Request}
 use Rattle.ic_command.specs.declared.request.Request.TheVariants.{Bench}
-use Rattle.ic_desk.specs.Ends.{end_text}
+use Rattle.ic_answer.specs.Ends.{end_text}
 use Rattle.ic_desk.specs.Desks.{State}
 use Rattle.ic_desk.specs.Replies.{RepliesToRequest}
 use Rattle.ic_desk.specs.Views.{DeskView, IsDeskAt}

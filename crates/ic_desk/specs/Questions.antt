@@ -13,13 +13,13 @@ use Rattle.ic_command.specs.declared.help.TheConstants.{HELP}
 use Rattle.ic_command.specs.declared.question.Question.{Question}
 use Rattle.ic_command.specs.declared.question.Question.TheVariants.{Marks, Help, Step, Steps, Unstep}
 use Rattle.ic_command.specs.declared.request.Request.TheVariants.{Bench}
-use Rattle.ic_desk.specs.BenchQuestions.{Informs}
-use Rattle.ic_desk.specs.Texts.{refusal_text}
-use Rattle.ic_desk.specs.declared.answer.refused.Refused.TheVariants.{NotActive, Memory}
+use Rattle.ic_answer.specs.BenchQuestions.{Informs}
+use Rattle.ic_answer.specs.Texts.{refusal_text}
+use Rattle.ic_answer.specs.declared.refused.Refused.TheVariants.{NotActive, Memory}
 use Rattle.ic_desk.specs.Desks.{Noted, State}
 use Rattle.ic_desk.specs.Replies.{RepliesToRequest}
-use Rattle.ic_desk.specs.Stepped.{StepsOften}
-use Rattle.ic_desk.specs.Unstepped.{Unsteps}
+use Rattle.ic_answer.specs.Stepped.{StepsOften}
+use Rattle.ic_answer.specs.Unstepped.{Unsteps}
 use Rattle.ic_desk.specs.Views.{DeskView, IsDeskAt}
 
 -- the name of a mark, and how many events it has

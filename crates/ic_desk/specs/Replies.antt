@@ -10,9 +10,9 @@ use Rattle.ic_theory.specs.Machine as machine
 use Rattle.ic_command.specs.declared.command.Command.{Command}
 use Rattle.ic_command.specs.declared.request.Request.{Request}
 use Rattle.ic_command.specs.declared.request.Request.TheVariants.{Bench, Mark, Back, Absorb}
-use Rattle.ic_desk.specs.CommandReplies as bench
-use Rattle.ic_desk.specs.Texts.{pair_line, refusal_text}
-use Rattle.ic_desk.specs.declared.answer.refused.Refused.TheVariants.{Deep, Full, HistoryFull, Memory, NoMark, TooManyMarks}
+use Rattle.ic_answer.specs.CommandReplies as bench
+use Rattle.ic_answer.specs.Texts.{pair_line, refusal_text}
+use Rattle.ic_answer.specs.declared.refused.Refused.TheVariants.{Deep, Full, HistoryFull, Memory, NoMark, TooManyMarks}
 use Rattle.ic_desk.specs.declared.desk.TheConstants.{MAX_MARKS}
 use Rattle.ic_undo.specs.Absorbing.{IsLeastNever}
 use Rattle.ic_desk.specs.Absorbs.{Fits, Absorbs, AllStand, NoneIsActive, IsRefused, TakesBack}

@@ -2,8 +2,8 @@ ghost use Rattle.std.specs.Prelude.{◌≡◌, ◌<◌, ◌≤◌, List, length,
 ghost use Rattle.ic_set.specs.Pairs.{AreActivePairs};
 ghost use Rattle.ic_set.specs.declared.pairs.ActivePair.{ActivePair as APair};
 ghost use Rattle.ic_journal.specs.Views.{set_of};
-ghost use Rattle.ic_desk.specs.Longer.{HasGrown, IsLonger};
-ghost use Rattle.ic_desk.specs.Texts.{answer_text};
+ghost use Rattle.ic_answer.specs.Longer.{HasGrown, IsLonger};
+ghost use Rattle.ic_answer.specs.Texts.{answer_text};
 ghost use Rattle.ic_command.specs.declared.command.Command.TheVariants.{Reduce};
 ghost use Rattle.ic_command.specs.declared.request.Request.TheVariants as request;
 ghost use Rattle.ic_desk.specs.declared.fault.DeskFault.TheVariants.{Settle};
@@ -11,11 +11,11 @@ ghost use Rattle.ic_desk.specs.ManyWorkers.{IsReduction, TurnsWith};
 ghost use Rattle.ic_desk.specs.Views.{IsOver, TurnsByRequest};
 
 use crate::absorbing::absorb_events;
-use crate::answer::{Answer, Refused, carry_out, end_text, text_or_refused};
 use crate::fault::DeskFault;
 use crate::going_back::go_back;
 use crate::marking::mark_under;
 use crate::named_mark::NamedMark;
+use ic_answer::{Answer, Refused, carry_out, end_text, text_or_refused};
 use ic_command::{Command, Request};
 use ic_journal::{Bench, Gate, LinkStore, Store};
 use ic_start::Start;

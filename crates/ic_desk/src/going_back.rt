@@ -1,12 +1,12 @@
 ghost use Rattle.std.specs.Prelude.{◌≡◌, MatchResult, OnErr};
-ghost use Rattle.ic_desk.specs.Longer.{HasGrown};
-ghost use Rattle.ic_desk.specs.Texts.{answer_text};
+ghost use Rattle.ic_answer.specs.Longer.{HasGrown};
+ghost use Rattle.ic_answer.specs.Texts.{answer_text};
 ghost use Rattle.ic_command.specs.declared.request.Request.TheVariants.{Back};
 ghost use Rattle.ic_desk.specs.Views.{IsDesk, TurnsByRequest};
 
-use crate::answer::{Answer, Refused, text_or_refused};
 use crate::named_mark::{NamedMark, place_of};
 use crate::texts::{back_text, wanting_text};
+use ic_answer::{Answer, Refused, text_or_refused};
 use ic_command::MarkName;
 use ic_journal::{Bench, LinkStore};
 use ic_undo::{BackFault, back_since};

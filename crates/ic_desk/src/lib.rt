@@ -2,7 +2,6 @@
 #![tactic(auto)]
 
 mod absorbing;
-pub mod answer;
 pub mod desk;
 pub mod fault;
 mod going_back;
@@ -11,7 +10,7 @@ mod named_mark;
 pub mod telling;
 mod texts;
 
-pub use answer::{Answer, RULES, Refused};
 pub use desk::{Desk, MAX_MARKS};
 pub use fault::DeskFault;
+pub use ic_answer::{Answer, RULES, Refused};
 pub use ic_work::{Gate, MAX_BUDGET, MAX_WORKERS, NoGate};

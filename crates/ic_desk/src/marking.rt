@@ -1,13 +1,13 @@
 ghost use Rattle.std.specs.Prelude.{◌≡◌, MatchResult, OnErr, OnOk};
-ghost use Rattle.ic_desk.specs.Texts.{answer_text};
+ghost use Rattle.ic_answer.specs.Texts.{answer_text};
 ghost use Rattle.ic_command.specs.declared.request.Request.TheVariants.{Mark};
 ghost use Rattle.ic_desk.specs.Places.{IsPlaceIn, PutsAt};
 ghost use Rattle.ic_desk.specs.Views.{IsDesk, TurnsByRequest};
 
-use crate::answer::{Answer, Refused};
 use crate::desk::MAX_MARKS;
 use crate::named_mark::{NamedMark, place_of};
 use crate::texts::marked_text;
+use ic_answer::{Answer, Refused};
 use ic_command::MarkName;
 use ic_journal::{Bench, LinkStore};
 use ic_undo::mark;

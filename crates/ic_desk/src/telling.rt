@@ -1,16 +1,16 @@
 ghost use Rattle.std.specs.Prelude.{◌≡◌, ◌++◌, IfOk, OnErr, OnOk, map};
-ghost use Rattle.ic_desk.specs.Longer.{HasGrown};
-ghost use Rattle.ic_desk.specs.Texts.{answer_text};
+ghost use Rattle.ic_answer.specs.Longer.{HasGrown};
+ghost use Rattle.ic_answer.specs.Texts.{answer_text};
 ghost use Rattle.ic_command.specs.declared.question.Question.TheVariants.{Step};
 ghost use Rattle.ic_desk.specs.Questions.{Told, mark_line, marks_text};
 ghost use Rattle.ic_desk.specs.Views.{note_of};
 
-use crate::answer::{
+use crate::desk::Desk;
+use crate::named_mark::NamedMark;
+use ic_answer::{
     Answer, RULES, Refused, step_often, tell_agents, tell_causes, tell_dependents, tell_history,
     tell_wire, unstep,
 };
-use crate::desk::Desk;
-use crate::named_mark::NamedMark;
 use ic_command::{Command, HELP, Question, Request};
 use ic_journal::{LinkStore, NoGate};
 use std::alloc::{AllocError, Global};

@@ -13,8 +13,8 @@ use Rattle.ic_theory.specs.Machine as machine
 use Rattle.ic_theory.proofs.Future.{consumed_in, loose_agent}
 use Rattle.ic_theory.proofs.Normal.{active-alike}
 use Rattle.ic_command.specs.declared.request.Request.TheVariants.{Absorb}
-use Rattle.ic_desk.specs.Texts.{refusal_text}
-use Rattle.ic_desk.specs.declared.answer.refused.Refused.TheVariants.{Deep, Full, HistoryFull}
+use Rattle.ic_answer.specs.Texts.{refusal_text}
+use Rattle.ic_answer.specs.declared.refused.Refused.TheVariants.{Deep, Full, HistoryFull}
 use Rattle.ic_desk.specs.Absorbing.{IsLeastNever}
 use Rattle.ic_desk.proofs.PairTests.{pair_only}
 use Rattle.ic_desk.specs.Absorbs.{Fits, Absorbs, AllStand, NoneIsActive, IsRefused, TakesBack}

@@ -4,7 +4,7 @@ use Rattle.ic_theory.specs.Starts.{Start, IsProper}
 use Rattle.ic_theory.specs.Machine.{State}
 use Rattle.ic_command.specs.declared.command.Command.{Command}
 use Rattle.ic_command.specs.declared.command.Command.TheVariants.{Nothing, Net, Active, Journal, Fire, Undo, Why, Unwind, UndoAll, Reduce, Malformed}
-use Rattle.ic_desk.specs.CommandReplies.{RepliesToCommand}
+use Rattle.ic_answer.specs.CommandReplies.{RepliesToCommand}
 use Rattle.ic_session.specs.States.{IsReached}
 use Rattle.ic_theory.specs.Machine.{AreSame}
 use Rattle.ic_session.specs.Wants.{Wants}

@@ -10,10 +10,10 @@ use Rattle.ic_path.proofs.Alikes.{alike_back, alike-in}
 use Rattle.ic_theory.specs.Starts.{Start, IsProper}
 use Rattle.ic_theory.specs.Machine.{Standing, State, MachineStep}
 use Rattle.ic_theory.proofs.Replies.{one_line}
-use Rattle.ic_desk.specs.CommandReplies.{IsNamed, IsPresent}
+use Rattle.ic_answer.specs.CommandReplies.{IsNamed, IsPresent}
 use Rattle.ic_session.specs.States.{IsReached}
 use Rattle.ic_theory.specs.Machine.{AreSame}
-use Rattle.ic_desk.specs.Texts.{pair_line}
+use Rattle.ic_answer.specs.Texts.{pair_line}
 use Rattle.ic_session.proofs.OneEvent.{present_once, present-alike}
 use Rattle.ic_session.proofs.OneQuery.{left_same, one_word, named_too, named_once}
 use Rattle.ic_session.proofs.OneStep.{one_step}

@@ -21,10 +21,10 @@ use Rattle.ic_work.specs.Sweeps.{IsSwept}
 use Rattle.ic_work.proofs.FiringRuns.{Adds, firings_add, turns_add}
 use Rattle.ic_command.specs.declared.command.Command.TheVariants.{Net, Journal, Reduce}
 use Rattle.ic_command.specs.declared.request.Request.TheVariants.{Bench}
-use Rattle.ic_desk.specs.Ends.{end_text}
-use Rattle.ic_desk.specs.Texts.{reduced_text, wanting_after}
-use Rattle.ic_desk.specs.CommandReplies.{RepliesToCommand}
-use Rattle.ic_desk.specs.CommandReplies as told
+use Rattle.ic_answer.specs.Ends.{end_text}
+use Rattle.ic_answer.specs.Texts.{reduced_text, wanting_after}
+use Rattle.ic_answer.specs.CommandReplies.{RepliesToCommand}
+use Rattle.ic_answer.specs.CommandReplies as told
 use Rattle.ic_desk.specs.Desks.{State}
 use Rattle.ic_desk.specs.ManyWorkers.{RepliesWith, as_one, swept}
 use Rattle.ic_desk.specs.Replies.{of_bench}

@@ -9,11 +9,11 @@ use Rattle.ic_theory.specs.Machine.{Standing, State, events}
 use Rattle.ic_text.specs.NetText.{net_text}
 use Rattle.ic_cause.specs.Journals.{Ranked, IsJournal, journal_text}
 use Rattle.ic_cause.proofs.OneJournal.{one_journal}
-use Rattle.ic_desk.specs.CommandReplies.{IsNamed}
-use Rattle.ic_desk.specs.Standing.{AreActive, HasRank, AreCauses}
+use Rattle.ic_answer.specs.CommandReplies.{IsNamed}
+use Rattle.ic_answer.specs.Standing.{AreActive, HasRank, AreCauses}
 use Rattle.ic_session.specs.States.{IsReached}
 use Rattle.ic_theory.specs.Machine.{AreSame}
-use Rattle.ic_desk.specs.Texts.{active_text, why_text}
+use Rattle.ic_answer.specs.Texts.{active_text, why_text}
 use Rattle.ic_session.proofs.OneEvent.{standing_once}
 use Rattle.ic_session.proofs.OneTelling.{one_listed, one_active, one_rank, one_causes}
 use Rattle.ic_session.proofs.SameStates.{reached_kept}

@@ -10,7 +10,7 @@ use Rattle.ic_theory.proofs.Normal.{active-alike}
 use Rattle.ic_journal.specs.Reducing.{IsNormal, AreFiredInTurn, MeetsLimit}
 use Rattle.ic_session.specs.States.{IsReached}
 use Rattle.ic_theory.specs.Machine.{AreSame}
-use Rattle.ic_desk.specs.Texts.{reduced_text}
+use Rattle.ic_answer.specs.Texts.{reduced_text}
 use Rattle.ic_session.proofs.FiredRuns.{Tries, Compare, level, shorter, longer, compare, reached_fired, limit_stops, limit_active, limit_once}
 use Rattle.ic_session.proofs.OneQuery.{one_word}
 use Rattle.ic_session.proofs.Saying.{ReduceSays, normal, budget, limit}

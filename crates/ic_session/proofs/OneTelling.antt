@@ -15,8 +15,8 @@ use Rattle.ic_theory.proofs.Normal.{active-alike}
 use Rattle.ic_text.proofs.OneListing.{one_listing}
 use Rattle.ic_path.proofs.StrictOrders.{sorted_same}
 use Rattle.ic_cause.proofs.OneJournal.{canonical_same}
-use Rattle.ic_desk.specs.Standing.{AreActive, HasRank, AreCauses}
-use Rattle.ic_desk.specs.Unwinding.{RestsOn, itself, through, AreLastFirst}
+use Rattle.ic_answer.specs.Standing.{AreActive, HasRank, AreCauses}
+use Rattle.ic_answer.specs.Unwinding.{RestsOn, itself, through, AreLastFirst}
 use Rattle.ic_session.proofs.SortedLists.{sorted_by, each_same, alike-reversed, reversed_same}
 use Rattle.ic_theory.proofs.Restored.{rank-alike}
 use Rattle.ic_theory.proofs.SameStates.{cause-alike}

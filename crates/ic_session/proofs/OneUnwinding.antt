@@ -5,11 +5,11 @@ use Rattle.ic_name.specs.Events.{Event, Pair}
 use Rattle.ic_path.proofs.Alikes.{alike_back}
 use Rattle.ic_theory.specs.Starts.{Start, IsProper}
 use Rattle.ic_theory.specs.Machine.{Standing, State, events}
-use Rattle.ic_desk.specs.CommandReplies.{IsNamed}
+use Rattle.ic_answer.specs.CommandReplies.{IsNamed}
 use Rattle.ic_session.specs.States.{IsReached}
 use Rattle.ic_theory.specs.Machine.{AreSame}
-use Rattle.ic_desk.specs.Texts.{unwound_text, undone_all_text}
-use Rattle.ic_desk.specs.Unwinding.{RestsOn, IsAnyEvent, AreLastFirst, DontFit, events_of, AreUndoneInTurn}
+use Rattle.ic_answer.specs.Texts.{unwound_text, undone_all_text}
+use Rattle.ic_answer.specs.Unwinding.{RestsOn, IsAnyEvent, AreLastFirst, DontFit, events_of, AreUndoneInTurn}
 use Rattle.ic_session.proofs.OneQuery.{left_same, one_word, named_too, named_once}
 use Rattle.ic_session.proofs.OneTelling.{rests-alike, one_last_first}
 use Rattle.ic_session.proofs.SameStates.{reached_kept}

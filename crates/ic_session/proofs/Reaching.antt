@@ -3,8 +3,8 @@ use Rattle.std.proofs.Common.{List, ℕ}
 use Rattle.ic_theory.specs.Starts.{Start}
 use Rattle.ic_theory.specs.Machine.{State}
 use Rattle.ic_command.specs.declared.command.Command.{Command}
-use Rattle.ic_desk.specs.CommandReplies.{RepliesToCommand}
-use Rattle.ic_desk.specs.CommandReplies as told
+use Rattle.ic_answer.specs.CommandReplies.{RepliesToCommand}
+use Rattle.ic_answer.specs.CommandReplies as told
 use Rattle.ic_session.specs.States.{IsReached}
 use Rattle.ic_session.proofs.FiredRuns.{reached_fired, reached_limit}
 use Rattle.ic_session.proofs.OneStep.{reached_next}

@@ -17,13 +17,13 @@ use Rattle.ic_text.specs.NetText.{net_text}
 use Rattle.ic_cause.specs.Journals.{Ranked, IsJournal, journal_text}
 use Rattle.ic_command.specs.declared.command.Command.{Command}
 use Rattle.ic_command.specs.declared.command.Command.TheVariants.{Nothing, Net, Active, Journal, Fire, Undo, Why, Unwind, UndoAll, Reduce, Malformed}
-use Rattle.ic_desk.specs.declared.answer.refused.Refused.TheVariants as refused
-use Rattle.ic_desk.specs.CommandReplies.{IsNamed, NoneIsNamed, IsPresent, NoneIsPresent, RepliesToCommand}
-use Rattle.ic_desk.specs.CommandReplies as told
+use Rattle.ic_answer.specs.declared.refused.Refused.TheVariants as refused
+use Rattle.ic_answer.specs.CommandReplies.{IsNamed, NoneIsNamed, IsPresent, NoneIsPresent, RepliesToCommand}
+use Rattle.ic_answer.specs.CommandReplies as told
 use Rattle.ic_journal.specs.Reducing.{IsNormal, AreFiredInTurn, MeetsLimit}
-use Rattle.ic_desk.specs.Standing.{AreActive, HasRank, AreCauses}
-use Rattle.ic_desk.specs.Texts.{pair_line, active_text, why_text, unwound_text, undone_all_text, reduced_text, refusal_text}
-use Rattle.ic_desk.specs.Unwinding.{RestsOn, IsAnyEvent, AreLastFirst, DontFit, events_of, AreUndoneInTurn}
+use Rattle.ic_answer.specs.Standing.{AreActive, HasRank, AreCauses}
+use Rattle.ic_answer.specs.Texts.{pair_line, active_text, why_text, unwound_text, undone_all_text, reduced_text, refusal_text}
+use Rattle.ic_answer.specs.Unwinding.{RestsOn, IsAnyEvent, AreLastFirst, DontFit, events_of, AreUndoneInTurn}
 use Rattle.ic_session.specs.Wants.{Wants}
 use Rattle.ic_session.proofs.WantingTexts.{refusal_wants, run_wants}
 

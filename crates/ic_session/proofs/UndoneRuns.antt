@@ -8,7 +8,7 @@ use Rattle.ic_theory.specs.Starts.{Start, IsProper}
 use Rattle.ic_theory.specs.Machine.{Standing, State, MachineStep}
 use Rattle.ic_session.specs.States.{IsReached}
 use Rattle.ic_theory.specs.Machine.{AreSame}
-use Rattle.ic_desk.specs.Unwinding.{AreUndoneInTurn, none, more, events_of}
+use Rattle.ic_answer.specs.Unwinding.{AreUndoneInTurn, none, more, events_of}
 use Rattle.ic_session.proofs.OneEvent.{standing_once}
 use Rattle.ic_session.proofs.OneStep.{one_line_more, reached_next, one_step}
 use Rattle.ic_session.proofs.SameStates.{reached_kept}

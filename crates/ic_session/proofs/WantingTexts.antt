@@ -2,8 +2,8 @@
 use Rattle.std.proofs.Common.{ℕ, [], ◌++◌, refl}
 use Rattle.std.specs.Prelude.{codes}
 use Rattle.std.specs.Fmt.{decimal}
-use Rattle.ic_desk.specs.declared.answer.refused.Refused.TheVariants as refused
-use Rattle.ic_desk.specs.Texts.{refusal_text, wanting_after}
+use Rattle.ic_answer.specs.declared.refused.Refused.TheVariants as refused
+use Rattle.ic_answer.specs.Texts.{refusal_text, wanting_after}
 use Rattle.ic_session.specs.Wants.{Wants}
 
 -- the refusal of a command for want of memory

@@ -9,8 +9,8 @@ use Rattle.ic_path.proofs.Alikes.{alike_back, alike-in}
 use Rattle.ic_theory.specs.Starts.{Start, IsProper}
 use Rattle.ic_theory.specs.Sound.{IsSound}
 use Rattle.ic_theory.specs.Machine.{Standing, State, MachineStep}
-use Rattle.ic_desk.specs.Unwinding as unwinding
-use Rattle.ic_desk.specs.Unwinding.{AreUndoneInTurn, events_of}
+use Rattle.ic_answer.specs.Unwinding as unwinding
+use Rattle.ic_answer.specs.Unwinding.{AreUndoneInTurn, events_of}
 use Rattle.ic_desk.specs.Backs.{AreOutside, AreMissing, AreFired, none, more, DontFit, GoesBack, GoesPartWay}
 use Rattle.ic_session.specs.States.{IsReached}
 use Rattle.ic_theory.specs.Machine.{AreSame}

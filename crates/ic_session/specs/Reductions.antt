@@ -3,7 +3,7 @@ use Rattle.std.specs.Prelude.{◌≡◌, ℕ, List, codes}
 use Rattle.ic_theory.specs.Starts.{Start}
 use Rattle.ic_command.specs.declared.command.Command.TheVariants.{Reduce}
 use Rattle.ic_command.specs.declared.request.Request.TheVariants.{Bench}
-use Rattle.ic_desk.specs.Texts.{reduced_text}
+use Rattle.ic_answer.specs.Texts.{reduced_text}
 use Rattle.ic_desk.specs.Desks.{State}
 use Rattle.ic_desk.specs.ManyWorkers.{RepliesWith}
 

@@ -6,7 +6,7 @@ ghost use Rattle.ic_session.specs.InputLines.{lines};
 ghost use Rattle.ic_desk.specs.Desks.{State};
 ghost use Rattle.ic_desk.specs.Views.{IsDeskAt};
 ghost use Rattle.ic_session.specs.Refusals.{refusal_line};
-ghost use Rattle.ic_desk.specs.Texts.{answer_text};
+ghost use Rattle.ic_answer.specs.Texts.{answer_text};
 ghost use Rattle.ic_desk.specs.Questions.{Told};
 ghost use Rattle.ic_desk.specs.declared.fault.DeskFault.TheVariants as desk_fault;
 ghost use Rattle.ic_session.specs.Modes.{TurnsIn, stops_at};

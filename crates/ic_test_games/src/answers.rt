@@ -1,7 +1,6 @@
+use ic_answer::{Answer, carry_out};
 use ic_command::{Asked, Command, Request, asked_of};
-use ic_desk::answer::carry_out;
-use ic_desk::{Answer, NoGate};
-use ic_journal::{Bench, LinkStore};
+use ic_journal::{Bench, LinkStore, NoGate};
 use std::alloc::Global;
 use std::test::Fail;
 

@@ -4,7 +4,7 @@ ghost use Rattle.ic_name.specs.declared.lines.Reply.{Reply};
 ghost use Rattle.ic_theory.specs.Starts.{Start, IsProper};
 ghost use Rattle.ic_theory.specs.Machine.{State, MachineStep};
 ghost use Rattle.ic_command.specs.declared.command.Command.{Command};
-ghost use Rattle.ic_desk.specs.CommandReplies.{RepliesToCommand};
+ghost use Rattle.ic_answer.specs.CommandReplies.{RepliesToCommand};
 ghost use Rattle.ic_session.specs.States.{IsReached};
 ghost use Rattle.ic_theory.specs.Machine.{AreSame};
 ghost use Rattle.ic_session.specs.Wants.{Wants};

@@ -4,7 +4,7 @@ ghost use Rattle.ic_theory.specs.Starts.{Start, IsProper};
 ghost use Rattle.ic_theory.specs.Machine.{events};
 ghost use Rattle.ic_theory.specs.Machine as machine;
 ghost use Rattle.ic_command.specs.declared.command.Command.TheVariants.{Net, Journal};
-ghost use Rattle.ic_desk.specs.CommandReplies.{RepliesToCommand};
+ghost use Rattle.ic_answer.specs.CommandReplies.{RepliesToCommand};
 ghost use Rattle.ic_desk.specs.Desks.{State};
 ghost use Rattle.ic_session.specs.Reductions.{EndsNormally};
 ghost use Rattle.ic_session.specs.States.{IsReached};

@@ -1,5 +1,5 @@
+use ic_answer::carry_out;
 use ic_command::{Asked, Command, asked_of};
-use ic_desk::answer::carry_out;
 use ic_desk::{Desk, NoGate, Refused};
 use ic_journal::{Bench, Store};
 use ic_text::read_net;

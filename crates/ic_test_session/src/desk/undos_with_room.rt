@@ -1,8 +1,8 @@
 // Undos with room in the history, over either store, where one allocation is refused, whichever it is:
 // bench/refused_growth.py refuses each in turn. Once there is room, they take no memory.
+use ic_answer::carry_out;
 use ic_command::Command;
 use ic_desk::NoGate;
-use ic_desk::answer::carry_out;
 use ic_journal::{Bench, LinkStore, Store};
 use ic_link::LinkRows;
 use ic_text::read_net;

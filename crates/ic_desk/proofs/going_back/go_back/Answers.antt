@@ -2,8 +2,8 @@ use Rattle.std.proofs.Common.{◌<◌, length, refl, subst, arith}
 use Rattle.ic_path.specs.Orders.{Alike}
 use Rattle.ic_set.specs.Views.{standing}
 use Rattle.ic_journal.specs.Views.{set_of}
-use Rattle.ic_desk.specs.Texts.{refusal_text}
-use Rattle.ic_desk.specs.declared.answer.refused.Refused.TheVariants.{NoMark}
+use Rattle.ic_answer.specs.Texts.{refusal_text}
+use Rattle.ic_answer.specs.declared.refused.Refused.TheVariants.{NoMark}
 use Rattle.ic_command.specs.declared.request.Request.TheVariants.{Back}
 use Rattle.ic_undo.specs.declared.faults.BackFault.TheVariants as fault
 use Rattle.ic_desk.specs.Views.{NamedView}

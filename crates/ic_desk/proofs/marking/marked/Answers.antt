@@ -1,7 +1,7 @@
 use Rattle.std.proofs.Common.{List, length, refl, ap, subst, arith, ◌∙◌}
 use Rattle.ic_path.specs.Orders.{IsIn}
-use Rattle.ic_desk.specs.Texts.{refusal_text}
-use Rattle.ic_desk.specs.declared.answer.refused.Refused.TheVariants.{TooManyMarks}
+use Rattle.ic_answer.specs.Texts.{refusal_text}
+use Rattle.ic_answer.specs.declared.refused.Refused.TheVariants.{TooManyMarks}
 use Rattle.ic_desk.specs.Places.{IsPlace}
 use Rattle.ic_desk.specs.Replies.{marked_text}
 use Rattle.ic_desk.specs.Views.{NamedView, IsMarkOn}

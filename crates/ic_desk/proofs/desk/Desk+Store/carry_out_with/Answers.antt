@@ -1,4 +1,4 @@
-use Rattle.ic_desk.specs.Texts.{answer_text}
+use Rattle.ic_answer.specs.Texts.{answer_text}
 use Rattle.ic_desk.proofs.Sweeping.{as_with_one}
 use Rattle.ic_desk.proofs.desk.Desk+Store.carry_out_with.Goals as goal
 

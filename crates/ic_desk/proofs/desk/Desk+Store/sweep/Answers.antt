@@ -4,8 +4,8 @@ use Rattle.ic_work.specs.Sweeps.{IsGivenBack}
 use Rattle.ic_work.specs.declared.swept.SweepFault.{SweepFault}
 use Rattle.ic_command.specs.declared.command.Command.TheVariants.{Reduce}
 use Rattle.ic_command.specs.declared.request.Request.TheVariants.{Bench}
-use Rattle.ic_desk.specs.declared.answer.refused.Refused.TheVariants.{MemoryBeforeReduce}
-use Rattle.ic_desk.specs.Texts.{answer_text, refusal_text}
+use Rattle.ic_answer.specs.declared.refused.Refused.TheVariants.{MemoryBeforeReduce}
+use Rattle.ic_answer.specs.Texts.{answer_text, refusal_text}
 use Rattle.ic_desk.specs.ManyWorkers.{TurnsWith}
 use Rattle.ic_desk.specs.Views.{DeskView}
 use Rattle.ic_desk.proofs.DeskTurns.{desk_of, desk_still}

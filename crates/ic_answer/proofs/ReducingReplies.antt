@@ -1,0 +1,64 @@
+-- What is told of a reduction is the answer.
+use Rattle.std.proofs.Common.{◌≡◌, ◌≤◌, ℕ, List, ◌++◌, length, codes, Result, IfOk, OnErr, Vec, Global, refl, sym, subst, append_assoc, arith}
+use Rattle.std.specs.Prelude.{MatchResult}
+use Rattle.std.specs.Fmt.{decimal}
+use Rattle.std.specs.declared.alloc.AllocError.{AllocError}
+use Rattle.std.proofs.lemmas.Fmt.{decimal_digit}
+use Rattle.ic_theory.specs.Starts.{Start}
+use Rattle.ic_theory.specs.Machine.{State}
+use Rattle.ic_journal.specs.Views.{BenchView}
+use Rattle.ic_journal.specs.Benches.{IsBench}
+use Rattle.ic_command.specs.declared.command.Command.TheVariants.{Reduce}
+use Rattle.ic_journal.specs.declared.reducing.end.End.{End}
+use Rattle.ic_journal.specs.declared.reducing.end.End.TheVariants.{Normal, Budget, Limit, Memory}
+use Rattle.ic_journal.specs.Reduced.{IsReduced, Reduces}
+use Rattle.ic_journal.specs.Reducing.{AreFiredInTurn}
+use Rattle.ic_answer.specs.declared.answer.Answer.{Answer}
+use Rattle.ic_answer.specs.declared.refused.Refused.TheVariants.{MemoryBeforeReduce}
+use Rattle.ic_answer.specs.Ends.{end_text}
+use Rattle.ic_answer.specs.CommandReplies.{RepliesToCommand, reduced_normal, reduced_budget, reduced_limit, reduced_memory, reduce_memory}
+use Rattle.ic_answer.specs.Texts.{answer_text, reduced_text, refusal_text, wanting_after}
+use Rattle.ic_answer.specs.Turns.{Tells, TurnsByCommand}
+use Rattle.ic_answer.proofs.UntoldTurns.{untold, told_or_refused}
+
+-- the parts of the text in another grouping
+pub reduced_parts : (n : ℕ) (end : List ℕ)
+    → codes "reduced " ++ (decimal n ++ (codes " " ++ (end ++ codes "\n"))) ≡ reduced_text n end
+reduced_parts n end = simp append_assoc
+
+-- what is told of it
+told_reduced : (s : Start) (st next : State) (most n : ℕ) (end : End) → IsReduced s st most n end next
+    → RepliesToCommand s st (Reduce most) (end_text n end) next
+told_reduced s st next most n Normal h = reduced_normal h.0 h.1 h.2
+told_reduced s st next most n Budget h = rw h.1 (reduced_budget (subst (λ m. AreFiredInTurn s m st next) h.1 h.0) h.2.1)
+told_reduced s st next most n Limit h = reduced_limit h.1 h.2 h.3
+told_reduced s st next most n Memory h = reduced_memory h.0 h.1
+
+pub reduces : (old new : BenchView) (most n : ℕ) (end : End) (text : List ℕ) → text ≡ end_text n end
+    → Reduces old most n end new → TurnsByCommand old (Reduce most) text new
+reduces old new most n end text is h = record {
+  start = h.start;
+  replies = λ st at. (
+      let r = h.reduced st at in
+      (r.0, subst (λ t. RepliesToCommand old.start st (Reduce most) t r.0) (sym is) (told_reduced old.start st r.0 most n end r.1), r.2)
+      );
+}
+
+-- memory may be wanting before anything is fired
+pub reduce_wants : (v : BenchView) (most : ℕ) → Tells v (Reduce most) (refusal_text MemoryBeforeReduce)
+reduce_wants v most = λ st at. subst (λ t. RepliesToCommand v.start st (Reduce most) t st) before_firing reduce_memory
+  where
+    before_firing : wanting_after 0 ≡ refusal_text MemoryBeforeReduce
+    before_firing = rw (decimal_digit 0 (omega arith)) refl
+
+-- what is told of it, or a refusal where no line was added
+pub reduces_or_refused : (old new : BenchView) (most n : ℕ) (end : End) (text : Result (Vec ℕ Global) AllocError) (result : Result Answer AllocError)
+    → IsBench new → Reduces old most n end new → IfOk text (λ t. t.items ≡ end_text n end)
+    → IfOk text (λ t. IfOk result (λ a. answer_text a ≡ t.items))
+    → OnErr text (IfOk result (λ a. (answer_text a ≡ refusal_text MemoryBeforeReduce) × (length new.lines ≤ length old.lines)))
+    → MatchResult result (λ a. TurnsByCommand old (Reduce most) (answer_text a) new) (λ _. new.start ≡ old.start)
+reduces_or_refused old new most n end text result lawful h is told instead =
+    told_or_refused (λ t. TurnsByCommand old (Reduce most) t new) (new.start ≡ old.start) (length new.lines ≤ length old.lines) (end_text n end) text result MemoryBeforeReduce
+    (reduces old new most n end (end_text n end) refl h)
+    (untold old new (Reduce most) (refusal_text MemoryBeforeReduce) lawful h.start (record { more = h.continues.added; lines = h.continues.lines }) (reduce_wants old most))
+    h.start is told instead

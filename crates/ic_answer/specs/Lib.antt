@@ -1,0 +1,15 @@
+pub mod Histories
+pub mod Caused
+pub mod Wired
+pub mod BenchQuestions
+pub mod Texts
+pub mod Standing
+pub mod Unwinding
+pub mod CommandReplies
+pub mod Ends
+pub mod Turns
+pub mod Longer
+pub mod Unstepped
+pub mod Stepped
+pub mod Stepping
+pub mod LastFired

@@ -1,0 +1,18 @@
+ghost use Rattle.std.specs.Prelude.{IfOk};
+ghost use Rattle.ic_command.specs.declared.question.Question.TheVariants.{Agents};
+ghost use Rattle.ic_answer.specs.BenchQuestions.{InformsOf};
+
+use ic_journal::{Bench, LinkStore};
+use ic_text::print_agents;
+use std::alloc::{AllocError, Global};
+
+/// Which line of the printed net is which agent's.
+pub fn tell_agents<L: LinkStore>(alloc: Global, bench: &Bench<L>) -> Result<Vec<u8>, AllocError>
+    ensures { IfOk result (λ text. InformsOf bench.now Agents text.items) }
+{
+    bench.lawful();
+    let sheet = bench.sheet()?;
+    let net = sheet.view(alloc)?;
+    net.lawful();
+    print_agents(alloc, &net, bench.start().names())
+}
