@@ -16,6 +16,10 @@ from program import program_named
 SECONDS = 60
 PROMPTS = ("net> ", "icbench> ")
 LESSON = """\
+net> D(x,p) = D(y,q;
+net> ---
+refused 3 at 14
+line 1 column 15: syntax: found ; in equation 1; expected )
 net> D(x,p) = D(y,q); D(x,r) = D(y,s);
 net> ---
 net read: 4 agents, 2 active pairs; help lists the commands
@@ -25,7 +29,7 @@ icbench> fire 2 3
 fired 2 3
 icbench> undo 2
 refused 40 command
-line 5: expected after the first word: the names of two different agents, such as 0 and 0.2
+line 7: expected after the first word: the names of two different agents, such as 0 and 0.2
 icbench> undo 0 1
 undone 0 1
 icbench> net
@@ -36,6 +40,12 @@ r = s;
 icbench> unstep
 unstepped 1
 2 3
+icbench> new
+net> E = E;
+net> ---
+net read: 2 agents, 1 active pair; help lists the commands
+icbench> journal
+journal 0
 icbench> quit
 """
 

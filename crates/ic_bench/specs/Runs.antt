@@ -19,9 +19,10 @@ pub record Held : Type 0 where
   pub before : Option (List ℕ)
   pub after : Option (List ℕ)
 
--- the mode of a session that is run with these options: one at a terminal explains itself, too
+-- the mode of a session that is run with these options: one at a terminal explains itself, too, and goes on behind a net
+-- that was refused
 abbrev pub mode_of : Options → Mode
-mode_of options = record { workers = options.workers; budget = options.budget; explains = options.explains || options.interactive; stops = options.stops; echoes = options.echoes }
+mode_of options = record { workers = options.workers; budget = options.budget; explains = options.explains || options.interactive; stops = options.stops; echoes = options.echoes; retries = options.interactive }
 
 -- A session with these options over this input ends in a status: it wrote its text, or it broke off in a fault and said so. A writer that
 -- fails holds a front of what it was given. One that explains itself says more.

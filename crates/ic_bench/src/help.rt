@@ -33,7 +33,7 @@ Commands:
   undo-all     undo all events
 
 With --explain also:
-  agents, causes, history, marks, dependents A B, wire A P, step N, unstep N, rules, help, quit: help tells what they do; each refusal is explained
+  agents, causes, history, marks, dependents A B, wire A P, step N, unstep N, rules, new, help, quit: help tells what they do; each refusal is explained
 
 Example:
   G(x,a) = D(x,b);

@@ -4,10 +4,13 @@ ghost use Rattle.std.specs.IoError.{error_kind};
 ghost use Rattle.std.specs.declared.io.ErrorKind.TheVariants as io_kinds;
 ghost use Rattle.clap.specs.Words.{kind_of};
 ghost use Rattle.ic_command.specs.Faults.{AppendsFront};
-ghost use Rattle.ic_session.specs.Sessions.{IsBegun, NamesFault, Writes};
-ghost use Rattle.ic_bench.specs.CommandLine.{files_in};
+ghost use Rattle.ic_session.specs.InputLines.{lines};
+ghost use Rattle.ic_session.specs.Sessions.{IsBegun, NamesFirst, Writes};
+ghost use Rattle.ic_session.specs.declared.session.Status.TheVariants.{NetRefused};
+ghost use Rattle.ic_bench.specs.CommandLine.{Choose, files_in};
 ghost use Rattle.ic_bench.specs.Runs.{Explains, Runs, RunsFiles, RunsSession, mode_of};
 ghost use Rattle.ic_bench.specs.Statuses.{fault_line, fault_status, unread_line};
+ghost use Rattle.ic_bench.specs.declared.options.Options.{Options as TheOptions};
 
 use crate::options::{Asked, Options, read_options};
 use crate::sources::Sources;
@@ -49,7 +52,8 @@ pub fn run_program<
     F: Files,
 >(host: &Host<'_, T, G, F>, words: &[S], reader: &mut R, writer: &mut W, errors: &mut E) -> u8
     ensures ran { Runs (map S.text words.now) (R.remaining reader.old) (record { before = W.contents writer.old; after = W.contents writer.new }) (record { before = E.contents errors.old; after = E.contents errors.new }) result }
-    ensures named { files_in (map S.text words.now) ≡ [] → result ≡ NET_REFUSED → IfSome (R.remaining reader.old) (λ input. (text : List ℕ) × NamesFault input text × Appends (W.contents writer.old) (W.contents writer.new) text) }
+    ensures refused { files_in (map S.text words.now) ≡ [] → result ≡ NET_REFUSED → IfSome (R.remaining reader.old) (λ input. (options : TheOptions) × Choose (map S.text words.now) options × Writes (mode_of options) input NetRefused (W.contents writer.old) (W.contents writer.new)) }
+    ensures named { files_in (map S.text words.now) ≡ [] → result ≡ NET_REFUSED → IfSome (R.remaining reader.old) (λ input. (options : TheOptions) × Choose (map S.text words.now) options × ((mode_of options).explains ≡ false → (text : List ℕ) × NamesFirst (lines input) text × Appends (W.contents writer.old) (W.contents writer.new) text)) }
     ensures unwritten { result ≡ USAGE → W.contents writer.new ≡ W.contents writer.old }
 {
     match read_options(host.alloc, words) {

@@ -38,6 +38,14 @@ abbrev pub IsQuestionIn : List ℕ → Option Question → Type 0
 IsQuestionIn line (Some q) = IsQuestion line q
 IsQuestionIn line None = (q : Question) → ¬ (IsQuestion line q)
 
--- the line is the word `quit` alone; a carriage return at its end goes first
+-- the line is this word alone; a carriage return at its end goes first
+abbrev pub IsWordAlone : List ℕ → List ℕ → Type 0
+IsWordAlone word line = (is_well_formed (strip_last 13 line) ≡ true) × (words (strip_last 13 line) ≡ word ∷ [])
+
+-- it is `quit`
 abbrev pub IsQuit : List ℕ → Type 0
-IsQuit line = (is_well_formed (strip_last 13 line) ≡ true) × (words (strip_last 13 line) ≡ codes "quit" ∷ [])
+IsQuit line = IsWordAlone (codes "quit") line
+
+-- it is `new`
+abbrev pub IsNew : List ℕ → Type 0
+IsNew line = IsWordAlone (codes "new") line

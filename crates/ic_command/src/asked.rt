@@ -2,7 +2,8 @@ ghost use Rattle.std.specs.Prelude.{◌∷◌, IfOk};
 ghost use Rattle.ic_command.specs.Asked.{IsAbsorbIn, IsAsked};
 ghost use Rattle.ic_command.specs.Words.{words};
 
-use crate::command::{Command, is_well_formed, number_in, without_return};
+use crate::command::{Command, number_in};
+use crate::line_form::{is_well_formed, without_return};
 use crate::request::{Request, request_in};
 use crate::words::next_word;
 use ic_name::limits::MAX_ABSORBED;

@@ -1,10 +1,9 @@
 ghost use Rattle.std.specs.Prelude.{◌≡◌, ◌≢◌, [], ◌∷◌, IfOk};
-ghost use Rattle.std.specs.List.{list_all};
-ghost use Rattle.std.specs.Io.BufRead.{strip_last};
-ghost use Rattle.ic_command.specs.Commands.{AreNumberUpTo, AreWordsOf, IsEventIn, IsNameIn, IsNumberIn, is_comment, is_plain, is_well_formed, within};
+ghost use Rattle.ic_command.specs.Commands.{AreNumberUpTo, AreWordsOf, IsEventIn, IsNameIn, IsNumberIn, within};
 ghost use Rattle.ic_command.specs.Words.{words};
 ghost use Rattle.ic_command.specs.declared.command.Command.TheVariants.{Malformed};
 
+use crate::line_form::is_comment;
 use crate::words::next_word;
 use ic_name::limits::MAX_LINES;
 use ic_name::{AgentName, EventName, NameFault};
@@ -49,43 +48,6 @@ impl Command {
             Command::Reduce(most) => Command::Reduce(most.min(budget)),
             other => other,
         }
-    }
-}
-
-/// The line without a carriage return at its end.
-pub(crate) fn without_return(line: &[u8]) -> &[u8]
-    ensures { result.now ≡ strip_last 13 line.now }
-{
-    match line.last() {
-        Some(b'\r') => &line[..line.len() - 1],
-        _ => line,
-    }
-}
-
-fn is_plain(byte: u8) -> bool
-    ensures { result ≡ is_plain byte }
-{
-    matches!(byte, b' '..=b'~' | b'\t')
-}
-
-pub(crate) fn is_well_formed(body: &[u8]) -> bool
-    ensures { result ≡ is_well_formed body.now }
-{
-    body.len() <= MAX_COMMAND && are_plain(body)
-}
-
-fn are_plain(body: &[u8]) -> bool
-    ensures { result ≡ list_all is_plain body.now }
-{
-    body.iter().all(|byte| is_plain(*byte))
-}
-
-fn is_comment(word: &[u8]) -> bool
-    ensures { result ≡ is_comment word.now }
-{
-    match word {
-        [] => false,
-        [byte, ..] => *byte == b'#',
     }
 }
 

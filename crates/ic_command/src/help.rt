@@ -23,5 +23,6 @@ marks: list the marks
 back NAME: go back to the events that were noted
 absorb K: fire the events that the next K lines list
 rules: tell what a firing does
+new: end this net and read another, up to a line ---
 quit: end the session
 ";

@@ -2,7 +2,8 @@ ghost use Rattle.std.specs.Prelude.{◌↔◌, IfOk, IsTrue};
 ghost use Rattle.ic_command.specs.Listed.{IsListedIn, IsRankPart, ListsIn};
 ghost use Rattle.ic_command.specs.Words.{words};
 
-use crate::command::{event_of, is_well_formed, number_in, without_return};
+use crate::command::{event_of, number_in};
+use crate::line_form::{is_well_formed, without_return};
 use crate::words::next_word;
 use ic_name::EventName;
 use std::alloc::{AllocError, Global};

@@ -2,7 +2,8 @@ ghost use Rattle.std.specs.Prelude.{[], ◌∷◌, IfOk};
 ghost use Rattle.ic_command.specs.Questions.{AreQuestionWords, IsQuestionIn};
 ghost use Rattle.ic_command.specs.Words.{words};
 
-use crate::command::{event_in, is_well_formed, number_in, without_return};
+use crate::command::{event_in, number_in};
+use crate::line_form::{is_well_formed, without_return};
 use crate::place::{Place, place_in};
 use crate::words::next_word;
 use ic_name::EventName;

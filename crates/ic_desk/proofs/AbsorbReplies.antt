@@ -13,7 +13,7 @@ use Rattle.ic_theory.specs.Starts.{Start}
 use Rattle.ic_theory.specs.Machine.{State, events, MachineStep, deep, full}
 use Rattle.ic_theory.proofs.Machines.{IsKept, history_kept, history_length}
 use Rattle.ic_theory.proofs.Normal.{active-alike}
-use Rattle.ic_roster.specs.Rosters.{Stander}
+use Rattle.ic_journal.specs.Rosters.{Stander}
 use Rattle.ic_set.specs.Views.{standing}
 use Rattle.ic_journal.specs.Views.{BenchView, set_of}
 use Rattle.ic_journal.specs.Benches.{IsAt, IsBench, fired_in}

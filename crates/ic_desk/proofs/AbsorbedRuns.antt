@@ -13,7 +13,7 @@ use Rattle.ic_theory.specs.Machine.{Standing, State, events, MachineStep, fired,
 use Rattle.ic_theory.proofs.Machines.{IsKept}
 use Rattle.ic_theory.proofs.Normal.{active-alike}
 use Rattle.ic_theory.proofs.Replies.{one_line}
-use Rattle.ic_roster.specs.Rosters.{Stander}
+use Rattle.ic_journal.specs.Rosters.{Stander}
 use Rattle.ic_journal.specs.Views.{BenchView}
 use Rattle.ic_journal.specs.Benches.{IsAt, IsBench, fired_in}
 use Rattle.ic_undo.specs.Absorbing.{IsLeastListed, AreLeastInTurn}

@@ -7,7 +7,7 @@ use Rattle.ic_path.proofs.Alikes.{alike_back, alike-in}
 use Rattle.ic_theory.specs.Machine.{Standing, State}
 use Rattle.ic_theory.specs.Sound.{IsSound}
 use Rattle.ic_theory.proofs.Machines.{history_length}
-use Rattle.ic_roster.specs.Rosters.{Stander}
+use Rattle.ic_journal.specs.Rosters.{Stander}
 use Rattle.ic_set.specs.Views.{standing}
 use Rattle.ic_journal.specs.Views.{BenchView, set_of}
 use Rattle.ic_journal.specs.Benches.{IsAt, IsBench, fired_in}

@@ -2,7 +2,7 @@
 use Rattle.std.proofs.Common.{◌≡◌, List, [], ◌++◌, map, reverse, Result, Ok, Err, IfOk, IfErr, sym, ap, append-nil, append_assoc, ◌∙◌}
 use Rattle.ic_name.specs.Events.{Event, Pair}
 use Rattle.ic_name.specs.declared.lines.Line.{Line}
-use Rattle.ic_roster.specs.Rosters.{Stander}
+use Rattle.ic_journal.specs.Rosters.{Stander}
 use Rattle.ic_journal.specs.Views.{BenchView}
 use Rattle.ic_undo.specs.Absorbing.{TakesBack}
 use Rattle.ic_undo.specs.GoingBack.{Goes, IsBack, IsntBack, firing}

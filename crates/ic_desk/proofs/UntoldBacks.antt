@@ -8,7 +8,7 @@ use Rattle.ic_name.specs.Events.{Event}
 use Rattle.ic_path.specs.Orders.{IsIn}
 use Rattle.ic_theory.specs.Starts.{Start}
 use Rattle.ic_theory.specs.Machine as machine
-use Rattle.ic_roster.specs.Rosters.{Stander}
+use Rattle.ic_journal.specs.Rosters.{Stander}
 use Rattle.ic_journal.specs.Views.{BenchView}
 use Rattle.ic_journal.specs.Benches.{IsBench}
 use Rattle.ic_undo.specs.declared.faults.Counts.{Counts}

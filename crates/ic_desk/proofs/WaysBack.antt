@@ -12,7 +12,7 @@ use Rattle.ic_theory.specs.Sound.{IsSound}
 use Rattle.ic_theory.specs.Machine.{Standing, State, events, IsHistory}
 use Rattle.ic_theory.proofs.Machines.{history_kept, history_length}
 use Rattle.ic_theory.proofs.Ranks.{sound-alike}
-use Rattle.ic_roster.specs.Rosters.{Stander}
+use Rattle.ic_journal.specs.Rosters.{Stander}
 use Rattle.ic_set.specs.Views.{standing}
 use Rattle.ic_journal.specs.Views.{BenchView, set_of}
 use Rattle.ic_journal.specs.Benches.{IsAt, IsBench, fired_in}

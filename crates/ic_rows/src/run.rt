@@ -100,6 +100,7 @@ fn on_explained<T: Threads + Wait + Sync>(
             explains: true,
             stops: false,
             echoes: false,
+            retries: false,
         },
         prompts: Prompts::Silent,
     };

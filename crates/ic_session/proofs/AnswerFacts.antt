@@ -17,9 +17,12 @@ use Rattle.ic_desk.specs.Desks.{State, initial}
 use Rattle.ic_desk.specs.Views.{DeskView, IsDeskAt, IsOver, note_of}
 use Rattle.ic_session.specs.Modes.{TakesNext, Gives, TurnsIn}
 use Rattle.ic_session.specs.declared.demand.Demand.{Demand}
+use Rattle.ic_session.specs.declared.next_demand.NextDemand.{NextDemand}
+use Rattle.ic_session.specs.declared.next_demand.NextDemand.TheVariants as next_demand
+use Rattle.ic_session.specs.declared.net_session.NetEnd.{NetEnd}
+use Rattle.ic_session.specs.declared.net_session.NetEnd.TheVariants.{Another}
 use Rattle.ic_session.specs.declared.mode.Mode.{Mode}
-use Rattle.ic_session.specs.Sessions.{AreAnswered, none, AnswersNext, AreAnswers, AreBegun, echoing, replying, IsAnswered, IsBrokenOff, silent, partly}
-use Rattle.ic_session.specs.declared.session.Status.{Status}
+use Rattle.ic_session.specs.Sessions.{AreAnswered, none, AnswersNet, AnswersNext, AreAnswers, AreBegun, echoing, replying, IsAnswered, IsBrokenOff, silent, partly}
 use Rattle.ic_session.specs.declared.session.Status.TheVariants.{Ended, Stopped}
 use Rattle.ic_session.proofs.AnswerSteps.{answered_step}
 
@@ -38,8 +41,8 @@ answered_none s m st v None before a = tt
 answered_none s m st v (Some xs) before a = (st, a, [], Appends-nil before, none)
 
 -- the reply to the command after those that were answered, and the state after it
-next_answered : (s : Start) (m : Mode) (st : State) (v w : DeskView) (xs ys zs : List ℕ) (before then : Option (List ℕ)) (o : Option Demand) (c : Demand) (reply : List ℕ)
-    → v.bench.start ≡ s → (h : HasAnswered s m st v (Some xs) (Some ys) before then) → o ≡ Some c → TakesNext m o ys (Some zs) → TurnsIn m v c reply w
+next_answered : (s : Start) (m : Mode) (st : State) (v w : DeskView) (xs ys zs : List ℕ) (before then : Option (List ℕ)) (o : NextDemand) (c : Demand) (reply : List ℕ)
+    → v.bench.start ≡ s → (h : HasAnswered s m st v (Some xs) (Some ys) before then) → o ≡ next_demand.Demand c → TakesNext m o ys (Some zs) → TurnsIn m v c reply w
     → (n : AnswersNext s m st (lines xs) (h.2 ++ echoed m (lines ys)) reply) × IsDeskAt w n.next × (n.left ≡ lines zs)
 next_answered s m st v w xs ys zs before then o c reply i h e t r =
     let turn = r.gives h.0 h.1 in (
@@ -60,15 +63,15 @@ next_answered s m st v w xs ys zs before then o c reply i h e t r =
     )
 
 -- what was written before, the echo of a line and the reply to it
-echo_appended : (m : Mode) (o : Option Demand) (c : Demand) (ys text reply : List ℕ) (before then said after : Option (List ℕ)) → o ≡ Some c
+echo_appended : (m : Mode) (o : NextDemand) (c : Demand) (ys text reply : List ℕ) (before then said after : Option (List ℕ)) → o ≡ next_demand.Demand c
     → Appends before then text → WritesEcho m o ys then said → Appends said after reply → Appends before after (text ++ echoed m (lines ys) ++ reply)
 echo_appended m o c ys text reply before then said after e first echo last =
     let echo' : Appends then said (echoed m (lines ys)) = subst (λ p. WritesEcho m p ys then said) e echo in
     Appends-trans before said after (text ++ echoed m (lines ys)) reply (Appends-trans before then said text (echoed m (lines ys)) first echo') last
 
 -- one command more was answered, and the session goes on
-pub answered_more : (s : Start) (m : Mode) (st : State) (v w : DeskView) (old now next before then said after : Option (List ℕ)) (o : Option Demand) (c : Demand) (stops : Bool)
-    → v.bench.start ≡ s → HasAnswered s m st v old now before then → o ≡ Some c → IfSome now (λ ys. TakesNext m o ys next) → IfSome now (λ ys. WritesEcho m o ys then said)
+pub answered_more : (s : Start) (m : Mode) (st : State) (v w : DeskView) (old now next before then said after : Option (List ℕ)) (o : NextDemand) (c : Demand) (stops : Bool)
+    → v.bench.start ≡ s → HasAnswered s m st v old now before then → o ≡ next_demand.Demand c → IfSome now (λ ys. TakesNext m o ys next) → IfSome now (λ ys. WritesEcho m o ys then said)
     → IsAnswered m v c w stops said after → stops ≡ false
     → HasAnswered s m st w old next before after
 answered_more s m st v w None now next before then said after o c stops i h e t k r off = tt
@@ -82,8 +85,8 @@ answered_more s m st v w (Some xs) (Some ys) (Some zs) before then said after o 
     (a.0.next, a.1, text, echo_appended m o c ys h.2 r.reply before then said after e h.3 k r.written, subst (AreAnswered s m st (lines xs) text a.0.next) a.2 whole)
 
 -- all were answered
-pub answered_all : (s : Start) (m : Mode) (st : State) (v : DeskView) (old now next before then after : Option (List ℕ)) (o : Option Demand)
-    → HasAnswered s m st v old now before then → o ≡ None → IfSome now (λ ys. TakesNext m o ys next) → IfSome now (λ ys. WritesEcho m o ys then after)
+pub answered_all : (s : Start) (m : Mode) (st : State) (v : DeskView) (old now next before then after : Option (List ℕ)) (o : NextDemand)
+    → HasAnswered s m st v old now before then → o ≡ next_demand.Done → IfSome now (λ ys. TakesNext m o ys next) → IfSome now (λ ys. WritesEcho m o ys then after)
     → IfSome old (λ xs. (text : List ℕ) × AreAnswers Ended s m st (lines xs) text × Appends before after text)
 answered_all s m st v None now next before then after o h e t k = tt
 answered_all s m st v (Some xs) None next before then after o h e t k = absurd h
@@ -91,9 +94,20 @@ answered_all s m st v (Some xs) (Some ys) next before then after o h e t k =
     let same : after ≡ then = subst (λ p. WritesEcho m p ys then after) e k in
     (h.2, (h.0, lines ys, h.4, subst (λ p. TakesNext m p ys next) e t), subst (λ z. Appends before z h.2) (sym same) h.3)
 
+-- all were answered before the line by which another net comes
+pub answered_renewal : (s : Start) (m : Mode) (st : State) (v : DeskView) (old now next before then after : Option (List ℕ)) (o : NextDemand)
+    → HasAnswered s m st v old now before then → o ≡ next_demand.Renewal → IfSome now (λ ys. TakesNext m o ys next) → IfSome now (λ ys. WritesEcho m o ys then after)
+    → IfSome old (λ xs. (text : List ℕ) × AnswersNet Another s m st (lines xs) next text × Appends before after text)
+answered_renewal s m st v None now next before then after o h e t k = tt
+answered_renewal s m st v (Some xs) None next before then after o h e t k = absurd h
+answered_renewal s m st v (Some xs) (Some ys) None before then after o h e t k = absurd (subst (λ p. TakesNext m p ys None) e t)
+answered_renewal s m st v (Some xs) (Some ys) (Some zs) before then after o h e t k =
+    let same : after ≡ then = subst (λ p. WritesEcho m p ys then after) e k in
+    (h.2, record { last = h.0; left = lines ys; answered = h.4; renewal = subst (λ p. TakesNext m p ys (Some zs)) e t }, subst (λ z. Appends before z h.2) (sym same) h.3)
+
 -- one command more was answered, and the session ends with that
-pub answered_last : (s : Start) (m : Mode) (st : State) (v w : DeskView) (old now next before then said after : Option (List ℕ)) (o : Option Demand) (c : Demand) (stops : Bool)
-    → v.bench.start ≡ s → HasAnswered s m st v old now before then → o ≡ Some c → IfSome now (λ ys. TakesNext m o ys next) → IfSome now (λ ys. WritesEcho m o ys then said)
+pub answered_last : (s : Start) (m : Mode) (st : State) (v w : DeskView) (old now next before then said after : Option (List ℕ)) (o : NextDemand) (c : Demand) (stops : Bool)
+    → v.bench.start ≡ s → HasAnswered s m st v old now before then → o ≡ next_demand.Demand c → IfSome now (λ ys. TakesNext m o ys next) → IfSome now (λ ys. WritesEcho m o ys then said)
     → IsAnswered m v c w stops said after → stops ≡ true
     → IfSome old (λ xs. (text : List ℕ) × AreAnswers Stopped s m st (lines xs) text × Appends before after text)
 answered_last s m st v w None now next before then said after o c stops i h e t k r on = tt
@@ -113,8 +127,8 @@ answered_begun s m st v (Some xs) None before then after h a = absurd h
 answered_begun s m st v (Some xs) (Some ys) before then after h a = (h.2 ++ a.front, echoing a.front a.behind h.4 a.parts, Appends-trans before then after h.2 a.front h.3 a.appended)
 
 -- its whole echo was written, and no more
-answered_silent : (s : Start) (m : Mode) (st : State) (v : DeskView) (old now before then after : Option (List ℕ)) (o : Option Demand) (c : Demand)
-    → HasAnswered s m st v old now before then → o ≡ Some c → IfSome now (λ ys. WritesEcho m o ys then after)
+answered_silent : (s : Start) (m : Mode) (st : State) (v : DeskView) (old now before then after : Option (List ℕ)) (o : NextDemand) (c : Demand)
+    → HasAnswered s m st v old now before then → o ≡ next_demand.Demand c → IfSome now (λ ys. WritesEcho m o ys then after)
     → IfSome old (λ xs. (text : List ℕ) × AreBegun s m st (lines xs) text × Appends before after text)
 answered_silent s m st v None now before then after o c h e k = tt
 answered_silent s m st v (Some xs) None before then after o c h e k = absurd h
@@ -123,8 +137,8 @@ answered_silent s m st v (Some xs) (Some ys) before then after o c h e k =
     (h.2 ++ echoed m (lines ys), echoing (echoed m (lines ys)) [] h.4 (sym (append-nil (echoed m (lines ys)))), Appends-trans before then after h.2 (echoed m (lines ys)) h.3 echo)
 
 -- of the answer to one command more, a front was written
-answered_front : (s : Start) (m : Mode) (st : State) (v w : DeskView) (old now next before then said after : Option (List ℕ)) (o : Option Demand) (c : Demand) (text : List ℕ)
-    → v.bench.start ≡ s → HasAnswered s m st v old now before then → o ≡ Some c → IfSome now (λ ys. TakesNext m o ys next) → IfSome now (λ ys. WritesEcho m o ys then said)
+answered_front : (s : Start) (m : Mode) (st : State) (v w : DeskView) (old now next before then said after : Option (List ℕ)) (o : NextDemand) (c : Demand) (text : List ℕ)
+    → v.bench.start ≡ s → HasAnswered s m st v old now before then → o ≡ next_demand.Demand c → IfSome now (λ ys. TakesNext m o ys next) → IfSome now (λ ys. WritesEcho m o ys then said)
     → TurnsIn m v c text w → AppendsFront said after text
     → IfSome old (λ xs. (text : List ℕ) × AreBegun s m st (lines xs) text × Appends before after text)
 answered_front s m st v w None now next before then said after o c text i h e t k r a = tt
@@ -136,8 +150,8 @@ answered_front s m st v w (Some xs) (Some ys) (Some zs) before then said after o
     (first ++ a.front, replying a.front a.behind (subst (AnswersNext s m st (lines xs) first) a.parts n.0), echo_appended m o c ys h.2 a.front before then said after e h.3 k a.appended)
 
 -- the answer to one command more broke off
-pub answered_broken : (s : Start) (m : Mode) (st : State) (v : DeskView) (old now next before then said after : Option (List ℕ)) (o : Option Demand) (c : Demand)
-    → v.bench.start ≡ s → HasAnswered s m st v old now before then → o ≡ Some c → IfSome now (λ ys. TakesNext m o ys next) → IfSome now (λ ys. WritesEcho m o ys then said)
+pub answered_broken : (s : Start) (m : Mode) (st : State) (v : DeskView) (old now next before then said after : Option (List ℕ)) (o : NextDemand) (c : Demand)
+    → v.bench.start ≡ s → HasAnswered s m st v old now before then → o ≡ next_demand.Demand c → IfSome now (λ ys. TakesNext m o ys next) → IfSome now (λ ys. WritesEcho m o ys then said)
     → IsBrokenOff m v c said after
     → IfSome old (λ xs. (text : List ℕ) × AreBegun s m st (lines xs) text × Appends before after text)
 answered_broken s m st v old now next before then said after o c i h e t k (silent same) =
@@ -153,11 +167,11 @@ all_begun m None v before after h = tt
 all_begun m (Some xs) v before after h = h
 
 -- whatever state the desk was in
-pub all_answered : (i : Status) (m : Mode) (old : Option (List ℕ)) (v : DeskView) (before after : Option (List ℕ))
-    → ((st : State) → IsDeskAt v st → IfSome old (λ xs. (text : List ℕ) × AreAnswers i v.bench.start m st (lines xs) text × Appends before after text))
-    → IfSome old (λ xs. (st : State) → IsDeskAt v st → (text : List ℕ) × AreAnswers i v.bench.start m st (lines xs) text × Appends before after text)
-all_answered i m None v before after h = tt
-all_answered i m (Some xs) v before after h = h
+pub all_answered : (end : NetEnd) (m : Mode) (old left : Option (List ℕ)) (v : DeskView) (before after : Option (List ℕ))
+    → ((st : State) → IsDeskAt v st → IfSome old (λ xs. (text : List ℕ) × AnswersNet end v.bench.start m st (lines xs) left text × Appends before after text))
+    → IfSome old (λ xs. (st : State) → IsDeskAt v st → (text : List ℕ) × AnswersNet end v.bench.start m st (lines xs) left text × Appends before after text)
+all_answered end m None left v before after h = tt
+all_answered end m (Some xs) left v before after h = h
 
 -- a bench on which no call has been made
 opened_at : (s : Start) (v : BenchView) → Opens s v → IsAt v machine.initial
@@ -171,14 +185,14 @@ over_at : (s : Start) (v : DeskView) → IsOver s v → IsDeskAt v initial
 over_at s v o = record { bench = opened_at s v.bench o.bench; marks = subst (λ l. Alike (map note_of l) []) (sym o.marks) Orders.none }
 
 -- the answers of a desk of which nothing was asked
-pub opened_answers : (i : Status) (now : Option (List ℕ)) (s : Start) (m : Mode) (v : DeskView) (before after : Option (List ℕ))
+pub opened_answers : (end : NetEnd) (now left : Option (List ℕ)) (s : Start) (m : Mode) (v : DeskView) (before after : Option (List ℕ))
     → IsOver s v
-    → IfSome now (λ ys. (st : State) → IsDeskAt v st → (text : List ℕ) × AreAnswers i v.bench.start m st (lines ys) text × Appends before after text)
-    → IfSome now (λ ys. (text : List ℕ) × AreAnswers i s m initial (lines ys) text × Appends before after text)
-opened_answers i None s m v before after o h = tt
-opened_answers i (Some ys) s m v before after o h =
+    → IfSome now (λ ys. (st : State) → IsDeskAt v st → (text : List ℕ) × AnswersNet end v.bench.start m st (lines ys) left text × Appends before after text)
+    → IfSome now (λ ys. (text : List ℕ) × AnswersNet end s m initial (lines ys) left text × Appends before after text)
+opened_answers end None left s m v before after o h = tt
+opened_answers end (Some ys) left s m v before after o h =
     let a = h initial (over_at s v o) in
-    (a.0, subst (λ z. AreAnswers i z m initial (lines ys) a.0) o.bench.start a.1, a.2)
+    (a.0, subst (λ z. AnswersNet end z m initial (lines ys) left a.0) o.bench.start a.1, a.2)
 
 -- what a desk began of which nothing was asked
 pub opened_begun : (now : Option (List ℕ)) (s : Start) (m : Mode) (v : DeskView) (before after : Option (List ℕ))

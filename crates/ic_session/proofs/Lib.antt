@@ -7,6 +7,7 @@ pub mod RequestsTaken
 pub mod AnswerSteps
 pub mod AnswerFacts
 pub mod SessionFacts
+pub mod NetsInTurn
 pub mod DemandsTaken
 pub mod Meetings
 pub mod SortedLists

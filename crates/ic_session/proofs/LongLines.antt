@@ -7,7 +7,7 @@ use Rattle.ic_command.proofs.Bodies.{apart}
 use Rattle.ic_command.specs.Asked.{IsAsked, of_request}
 use Rattle.ic_command.specs.Commands.{is_well_formed, unsaid}
 use Rattle.ic_command.specs.Listed.{IsListed}
-use Rattle.ic_command.specs.Questions.{IsQuestion, IsQuit}
+use Rattle.ic_command.specs.Questions.{IsNew, IsQuestion, IsQuit}
 use Rattle.ic_command.specs.Requests.{of_bench}
 use Rattle.ic_command.specs.declared.asked.Asked.TheVariants.{Alone}
 use Rattle.ic_command.specs.declared.command.Command.TheVariants.{Malformed}
@@ -55,3 +55,7 @@ long_unasked line long q a = apart (sym a.0 ∙ long_line line long)
 -- and doesn't end the session
 pub long_stays : (line : List ℕ) → MAX_COMMAND + 1 < length line → IsQuit line → ⊥
 long_stays line long q = apart (sym q.0 ∙ long_line line long)
+
+-- and no other net comes behind it
+pub long_goes_on : (line : List ℕ) → MAX_COMMAND + 1 < length line → IsNew line → ⊥
+long_goes_on line long q = apart (sym q.0 ∙ long_line line long)

@@ -13,7 +13,7 @@ use Rattle.ic_session.specs.Modes.{IsDone, TakesDemand, Gives, asks, no_line, qu
 use Rattle.ic_session.specs.declared.demand.Demand.{Demand}
 use Rattle.ic_session.specs.declared.demand.Demand.TheVariants.{Requests}
 use Rattle.ic_session.specs.Refusals.{refusal_line}
-use Rattle.ic_session.specs.Sessions.{AreAnswers, AreAnswered, none, more, AnswersCommands, NamesFault, IsSessionText}
+use Rattle.ic_session.specs.Sessions.{AreAnswers, AreAnswered, none, more, AnswersCommands, IsLastText, IsSessionText, NamesFirst}
 use Rattle.ic_session.specs.declared.session.Status.{Status}
 use Rattle.ic_session.specs.declared.session.Status.TheVariants.{Ended, Stopped, NetRefused}
 use Rattle.ic_session.specs.Wants.{Wants}
@@ -21,6 +21,7 @@ use Rattle.ic_session.specs.NextRequest.{Takes, alone, listed, unlisted, wanting
 use Rattle.ic_session.proofs.DeskReplies.{in_use_on, AreOneAnswer, one_absorbing, one_reply}
 use Rattle.ic_session.proofs.DeskStates.{IsInUse, AreSameDesks, first_in_use, first_same}
 use Rattle.ic_session.proofs.FirstFaults.{one_first_fault}
+use Rattle.ic_session.proofs.NetsInTurn.{only_net}
 use Rattle.ic_session.proofs.OneTaking.{AskTheSame, one, lists, takes_once}
 use Rattle.ic_session.proofs.WantingParts.{front_wants, behind_wants}
 
@@ -39,7 +40,7 @@ nothing_taken same (wanting h few) = cc
 -- a session that only answers takes requests alone
 plain_taken : {budget : ℕ} {ls left : List TextLine} {d : Demand} → TakesDemand (plain 1 budget) ls d left → (r : Request) × (d ≡ Requests r) × Takes ls r left
 plain_taken (asks on a) = absurd cc
-plain_taken (requests {r = r} unasked on t) = (r, refl, t)
+plain_taken (requests {r = r} unasked on stays t) = (r, refl, t)
 
 -- and ends with its lines
 plain_done : {budget : ℕ} {ls : List TextLine} → IsDone (plain 1 budget) ls → ls ≡ []
@@ -75,31 +76,36 @@ one_answers ok budget lines all whole used other same (more {reply = x} {behind 
     ap₂ (λ us vs. us ++ vs) one.texts others
 
 -- a session that answers commands
-one_ended : (budget : ℕ) (input a b : List ℕ) → AnswersCommands (plain 1 budget) Ended input a → AnswersCommands (plain 1 budget) Ended input b
+one_ended : (budget : ℕ) (ls : List TextLine) (a b : List ℕ) → AnswersCommands (plain 1 budget) Ended ls a → AnswersCommands (plain 1 budget) Ended ls b
     → ¬ (Wants a) → ¬ (Wants b) → a ≡ b
-one_ended budget input a b h k n m =
-    let ok = proper (net_part (lines input)) h.start h.denoted in
-    let one = one_start (net_part (lines input)) k.start h.start k.denoted h.denoted in
-    let answers = subst (λ (s : Start). AreAnswers Ended s (plain 1 budget) initial (command_lines (lines input)) b) one k.answers in
+one_ended budget ls a b h k n m =
+    let ok = proper (net_part ls) h.start h.begins.denoted in
+    let one = one_start (net_part ls) k.start h.start k.begins.denoted h.begins.denoted in
+    let answers = subst (λ (s : Start). AreAnswers Ended s (plain 1 budget) initial (command_lines ls) b) one k.answers in
     let used = first_in_use h.start in
     one_answers ok budget refl (plain_done h.answers.3) (plain_done answers.3) used used first_same h.answers.2 answers.2 n m
 
 -- a session that only answers stops at no refusal
-not_stopped : {budget : ℕ} {input a : List ℕ} → AnswersCommands (plain 1 budget) Stopped input a → ⊥
+not_stopped : {budget : ℕ} {ls : List TextLine} {a : List ℕ} → AnswersCommands (plain 1 budget) Stopped ls a → ⊥
 not_stopped h = let no : false ≡ true = h.answers.3 in cc
 
 -- a session that names a fault
-one_named : (input a b : List ℕ) → NamesFault input a → NamesFault input b → a ≡ b
-one_named input a b h k =
-    let one = one_first_fault (net_part (lines input)) h.fault k.fault h.first k.first in
+one_named : (ls : List TextLine) (a b : List ℕ) → NamesFirst ls a → NamesFirst ls b → a ≡ b
+one_named ls a b h k =
+    let one = one_first_fault (net_part ls) h.fault k.fault h.first k.first in
     h.named ∙ ap refusal_line one ∙ sym k.named
 
--- it ends in one way, with one text
+-- what is written last ends in one way, with one text
+one_last : (budget : ℕ) (ls : List TextLine) (a b : List ℕ) (i j : Status)
+    → IsLastText (plain 1 budget) ls i a → IsLastText (plain 1 budget) ls j b → ¬ (Wants a) → ¬ (Wants b) → (i ≡ j) × (a ≡ b)
+one_last budget ls a b Ended Ended h k n m = (refl, one_ended budget ls a b h k n m)
+one_last budget ls a b NetRefused NetRefused h k n m = (refl, one_named ls a b h.names k.names)
+one_last budget ls a b Stopped j h k n m = absurd (not_stopped h)
+one_last budget ls a b i Stopped h k n m = absurd (not_stopped k)
+one_last budget ls a b Ended NetRefused h k n m = absurd (h.begins.faultless k.names.fault k.names.first.stands)
+one_last budget ls a b NetRefused Ended h k n m = absurd (k.begins.faultless h.names.fault h.names.first.stands)
+
+-- so does a session
 pub one_text : (budget : ℕ) (input a b : List ℕ) (i j : Status)
     → IsSessionText (plain 1 budget) input i a → IsSessionText (plain 1 budget) input j b → ¬ (Wants a) → ¬ (Wants b) → (i ≡ j) × (a ≡ b)
-one_text budget input a b Ended Ended h k n m = (refl, one_ended budget input a b h k n m)
-one_text budget input a b NetRefused NetRefused h k n m = (refl, one_named input a b h k)
-one_text budget input a b Stopped j h k n m = absurd (not_stopped h)
-one_text budget input a b i Stopped h k n m = absurd (not_stopped k)
-one_text budget input a b Ended NetRefused h k n m = absurd (h.faultless k.fault k.first.stands)
-one_text budget input a b NetRefused Ended h k n m = absurd (k.faultless h.fault h.first.stands)
+one_text budget input a b i j h k n m = one_last budget (lines input) a b i j (only_net refl refl h) (only_net refl refl k) n m

@@ -1,13 +1,14 @@
 -- How a session echoes the lines that it answers.
-use Rattle.std.specs.Prelude.{◌≡◌, ◌&&◌, not, nat_le, ℕ, Bool, true, List, [], ◌∷◌, ◌++◌, length, codes, Option, Some, None, if◌then◌else◌}
+use Rattle.std.specs.Prelude.{◌≡◌, ◌&&◌, not, nat_le, ℕ, Bool, true, List, [], ◌∷◌, ◌++◌, length, codes, Option, if◌then◌else◌}
 use Rattle.std.specs.List.{list_all}
 use Rattle.std.specs.Io.BufRead.{strip_last}
 use Rattle.std.specs.Io.KnownBytes.{Appends}
 use Rattle.ic_command.specs.Commands.{is_comment, is_plain}
 use Rattle.ic_command.specs.Words.{words}
 use Rattle.ic_command.specs.declared.command.TheConstants.{MAX_COMMAND}
-use Rattle.ic_session.specs.declared.demand.Demand.{Demand}
 use Rattle.ic_session.specs.declared.mode.Mode.{Mode}
+use Rattle.ic_session.specs.declared.next_demand.NextDemand.{NextDemand}
+use Rattle.ic_session.specs.declared.next_demand.NextDemand.TheVariants as next
 use Rattle.ic_session.specs.InputLines.{TextLine, lines}
 
 -- there are no words, or they are a comment
@@ -41,6 +42,7 @@ abbrev pub echoed : Mode → List TextLine → List ℕ
 echoed m ls = if m.echoes then first_echo ls else []
 
 -- the echo of the line of a demand was written, or nothing where there is no demand
-abbrev pub WritesEcho : Mode → Option Demand → List ℕ → Option (List ℕ) → Option (List ℕ) → Type 0
-WritesEcho m (Some d) input before after = Appends before after (echoed m (lines input))
-WritesEcho m None input before after = after ≡ before
+abbrev pub WritesEcho : Mode → NextDemand → List ℕ → Option (List ℕ) → Option (List ℕ) → Type 0
+WritesEcho m (next.Demand d) input before after = Appends before after (echoed m (lines input))
+WritesEcho m next.Renewal input before after = after ≡ before
+WritesEcho m next.Done input before after = after ≡ before

@@ -34,6 +34,11 @@ abbrev pub net_part : List TextLine → List ℕ
 net_part [] = []
 net_part (l ∷ ls) = if is_bar l.bytes then [] else whole_line l ++ net_part ls
 
+-- whether a bar ends the net text
+abbrev pub has_bar : List TextLine → Bool
+has_bar [] = false
+has_bar (l ∷ ls) = if is_bar l.bytes then true else has_bar ls
+
 -- the commands: the lines behind the bar, or none
 abbrev pub command_lines : List TextLine → List TextLine
 command_lines [] = []

@@ -67,6 +67,7 @@ pub fn run_bounded<R: Read, W: Write, T: Threads + Wait + Sync>(
         explains: false,
         stops: false,
         echoes: false,
+        retries: false,
     };
     run_quietly(threads, alloc, reader, writer, mode, reads)
 }

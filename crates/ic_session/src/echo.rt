@@ -1,14 +1,12 @@
 ghost use Rattle.std.specs.Prelude.{◌≡◌, ◌≢◌, true, IfErr, IfOk, OnErr, OnOk};
-ghost use Rattle.std.specs.List.{list_all};
-ghost use Rattle.std.specs.Io.BufRead.{strip_last};
 ghost use Rattle.std.specs.Io.KnownBytes.{Appends};
-ghost use Rattle.ic_command.specs.Commands.{is_comment, is_plain};
 ghost use Rattle.ic_command.specs.Faults.{AppendsFront};
 ghost use Rattle.ic_command.specs.Words.{words};
 ghost use Rattle.ic_command.specs.declared.lines.piece.IoFault.TheVariants as io;
 ghost use Rattle.ic_session.specs.Echoes.{echo_in, echo_of, is_echoed, is_unanswered, say_nothing};
 
 use crate::mode::Mode;
+use ic_command::line_form::{are_plain, is_comment, without_return};
 use ic_command::words::next_word;
 use ic_command::{IoFault, MAX_COMMAND, Output};
 use std::alloc::{AllocError, Global};
@@ -48,16 +46,6 @@ fn echo_of(alloc: Global, line: &[u8]) -> Result<Vec<u8>, AllocError>
     Ok(text)
 }
 
-/// The line without a carriage return at its end.
-fn without_return(line: &[u8]) -> &[u8]
-    ensures { result.now ≡ strip_last 13 line.now }
-{
-    match line.last() {
-        Some(b'\r') => &line[..line.len() - 1],
-        _ => line,
-    }
-}
-
 /// Whether a line isn't too long, and gets an answer.
 fn is_echoed(line: &[u8]) -> bool
     ensures { result ≡ is_echoed line.now }
@@ -80,25 +68,4 @@ fn says_nothing(line: &[u8]) -> bool
         None => true,
         Some((word, _behind)) => is_comment(word),
     }
-}
-
-fn is_comment(word: &[u8]) -> bool
-    ensures { result ≡ is_comment word.now }
-{
-    match word {
-        [] => false,
-        [byte, ..] => *byte == b'#',
-    }
-}
-
-fn is_plain(byte: u8) -> bool
-    ensures { result ≡ is_plain byte }
-{
-    matches!(byte, b' '..=b'~' | b'\t')
-}
-
-fn are_plain(line: &[u8]) -> bool
-    ensures { result ≡ list_all is_plain line.now }
-{
-    line.iter().all(|byte| is_plain(*byte))
 }

@@ -12,6 +12,7 @@ mod listed_events;
 pub mod mode;
 pub mod net_input;
 mod net_notes;
+mod net_session;
 mod next_demand;
 mod notes;
 pub mod one_text;

@@ -3,6 +3,7 @@ ghost use Rattle.ic_command.specs.Left.{left, work};
 ghost use Rattle.ic_command.specs.Faults.{IsReadFault};
 ghost use Rattle.ic_session.specs.TakenLines.{TakesListed, TakesNextListed};
 
+use crate::place::Place;
 use crate::taken_line::take_line;
 use ic_command::{Input, IoFault, Piece, listed_of};
 use ic_name::EventName;
@@ -21,12 +22,13 @@ pub(crate) enum NextListed {
 }
 
 /// Takes the next `count` lines, and answers the events that they list; `None` where one of them lists none, or where
-/// they are fewer. `line` is room for a line.
+/// they are fewer. `line` is room for a line, and `place` goes along.
 pub(crate) fn listed_events<R: Read>(
     alloc: Global,
     input: &mut Input,
     reader: &mut R,
     line: &mut Vec<u8>,
+    place: &mut Place,
     count: u32,
 ) -> Result<Option<Vec<EventName>>, IoFault>
     ensures taken { IfOk result (λ events. IfSome (left input.old (R.remaining reader.old))
@@ -39,9 +41,18 @@ pub(crate) fn listed_events<R: Read>(
     let mut all = true;
     for _taken in 0..count {
         match next_listed(alloc, input, reader, line)? {
-            NextListed::Event(event) => events.push(event)?,
-            NextListed::Unlisted => all = false,
-            NextListed::Ended => return Ok(None),
+            NextListed::Event(event) => {
+                events.push(event)?;
+                place.pass_listed();
+            }
+            NextListed::Unlisted => {
+                all = false;
+                place.pass_unlisted();
+            }
+            NextListed::Ended => {
+                place.end_in_list();
+                return Ok(None);
+            }
         }
     }
     if all { Ok(Some(events)) } else { Ok(None) }

@@ -1,8 +1,8 @@
-ghost use Rattle.std.specs.Prelude.{◌≡◌, ◌≤◌, ◌++◌, IfErr, IfOk, IfSome, OnOk};
-ghost use Rattle.ic_command.specs.Left.{left};
+ghost use Rattle.std.specs.Prelude.{◌≡◌, ◌<◌, ◌≤◌, ◌++◌, true, IfErr, IfOk, IfSome, OnOk};
+ghost use Rattle.ic_command.specs.Left.{left, work};
 ghost use Rattle.ic_command.specs.Faults.{IsReadFault};
 ghost use Rattle.ic_session.specs.InputLines.{is_bar, whole_line};
-ghost use Rattle.ic_session.specs.NetInput.{ReadsNet};
+ghost use Rattle.ic_session.specs.NetInput.{IsShort, ReadsNet, has_read_bar};
 
 use crate::prompts::{Prompts, ask_for_net};
 use ic_command::{Input, IoFault, Piece};
@@ -10,10 +10,11 @@ use ic_text::grammar::limits::MAX_TEXT;
 use std::alloc::{AllocError, Global};
 use std::io::{Read, Write};
 
-/// The net text of a session: all in front of the bar.
+/// The net text of a session: all in front of the bar, or all that is left.
 #[derive(Drop)]
 pub enum NetInput {
-    Whole(Vec<u8>),
+    /// It was read, and the bar behind it, if there is one.
+    Whole { text: Vec<u8>, barred: bool },
     /// It has more bytes than a net text may have. Reading stops where that is known.
     TooLong,
 }
@@ -25,8 +26,8 @@ fn is_bar(line: &[u8]) -> bool
     matches!(line, b"---" | b"---\r")
 }
 
-/// Reads the net text of a session, and the bar behind it. It asks for each line if the session does. `IoFault::Read` where the reader fails or no call of it is
-/// left, `IoFault::Memory` where there is no memory.
+/// Reads the net text of a session, and the bar behind it. It asks for each line if the session does. `IoFault::Read` where the
+/// reader fails or no call of it is left, `IoFault::Memory` where there is no memory.
 pub fn read_net_text<R: Read, E: Write>(
     alloc: Global,
     input: &mut Input,
@@ -35,6 +36,9 @@ pub fn read_net_text<R: Read, E: Write>(
     prompts: Prompts,
 ) -> Result<NetInput, IoFault>
     ensures read { IfOk result (λ net. IfSome (left input.old (R.remaining reader.old)) (λ bytes. ReadsNet net bytes (left input.new (R.remaining reader.new)))) }
+    ensures short { IfOk result IsShort }
+    ensures less { OnOk result (work input.new ≤ work input.old) }
+    ensures barred { IfOk result (λ net. has_read_bar net ≡ true → work input.new < work input.old) }
     ensures fewer { input.new.reads ≤ input.old.reads }
     ensures fault { IfErr result (IsReadFault input.new.reads) }
 {
@@ -43,11 +47,16 @@ pub fn read_net_text<R: Read, E: Write>(
     loop {
         ask_for_net(errors, prompts);
         match input.next_line(reader, &mut line, MAX_TEXT)? {
-            Piece::End => return Ok(NetInput::Whole(text)),
+            Piece::End => {
+                return Ok(NetInput::Whole {
+                    text,
+                    barred: false,
+                });
+            }
             Piece::TooLong => return Ok(NetInput::TooLong),
             Piece::Line(ended) => {
                 if is_bar(&line) {
-                    return Ok(NetInput::Whole(text));
+                    return Ok(NetInput::Whole { text, barred: true });
                 }
                 append(&mut text, &line, ended)?;
                 if text.len() > MAX_TEXT {

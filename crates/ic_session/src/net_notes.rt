@@ -7,9 +7,11 @@ use std::str;
 /// The bytes of a name that are shown, at most.
 const SHOWN: usize = 40;
 
-/// What is said of a net text that is refused: at which line and column, what is wrong there, and what would be right.
+/// What is said of a net text that is refused: at which line and column, what is wrong there, and what would be right. So many
+/// lines stand before it.
 pub(crate) fn net_note(
     alloc: Global,
+    before: u64,
     text: &[u8],
     refusal: Refusal,
 ) -> Result<Vec<u8>, AllocError> {
@@ -20,7 +22,7 @@ pub(crate) fn net_note(
     let rest = &text[text.len().min(offset)..];
     let feeds = front.iter().filter(|byte| **byte == b'\n').count() as u64;
     let begun = front.rsplit(|byte| *byte == b'\n').next().unwrap_or(front);
-    let line = feeds.saturating_add(1);
+    let line = before.saturating_add(feeds).saturating_add(1);
     let column = (begun.len() as u64).saturating_add(1);
     let hint = hint_at(begun, rest);
     let note = match refusal {

@@ -1,7 +1,7 @@
 use crate::advice::{advice, number_of};
 use crate::fault::Fault;
 use crate::net_notes::net_note;
-use crate::place::Place;
+use crate::place::{ListFault, Place};
 use crate::wrong_words::wrong_in;
 use ic_command::write_reply;
 use ic_name::numbers::COMMAND;
@@ -22,7 +22,7 @@ pub(crate) fn explain_answer<E: Write>(
         return;
     };
     if number == COMMAND {
-        if let Ok(Some(said)) = wrong_in(alloc, place.topic, line) {
+        if let Ok(Some(said)) = wrong_command(alloc, place, line) {
             return say(errors, line_note(alloc, place.line, &said));
         }
     }
@@ -31,9 +31,28 @@ pub(crate) fn explain_answer<E: Write>(
     }
 }
 
-/// Says what is wrong with a net text, at which line and column, and what would be right.
-pub(crate) fn explain_net<E: Write>(alloc: Global, errors: &mut E, text: &[u8], refusal: Refusal) {
-    say(errors, net_note(alloc, text, refusal));
+/// What is wrong with a line that is no command: in the list that it takes, or in its own words.
+fn wrong_command(alloc: Global, place: Place, line: &[u8]) -> Result<Option<String>, AllocError> {
+    match place.list_fault {
+        Some(ListFault::Line(number)) => Ok(Some(format!(in alloc;
+            "line {number} lists no event; expected there: the names of two different agents, such as 0 and 0.2, or a line of a journal"
+        )?)),
+        Some(ListFault::Ended) => Ok(Some(format!(in alloc;
+            "the input ends before as many lines as absorb announces"
+        )?)),
+        None => wrong_in(alloc, place.topic, line),
+    }
+}
+
+/// Says what is wrong with a net text, at which line and column, and what would be right. So many lines stand before it.
+pub(crate) fn explain_net<E: Write>(
+    alloc: Global,
+    errors: &mut E,
+    before: u64,
+    text: &[u8],
+    refusal: Refusal,
+) {
+    say(errors, net_note(alloc, before, text, refusal));
 }
 
 /// Says behind which line a session broke off.

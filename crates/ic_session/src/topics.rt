@@ -22,9 +22,9 @@ pub(crate) enum Topic {
 }
 
 /// The words that stand alone.
-const ALONE: [&str; 11] = [
+const ALONE: [&str; 12] = [
     "net", "active", "journal", "undo-all", "agents", "causes", "history", "marks", "rules",
-    "help", "quit",
+    "help", "new", "quit",
 ];
 
 /// The words that have the names of two agents behind them.

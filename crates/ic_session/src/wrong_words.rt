@@ -1,4 +1,5 @@
 use crate::topics::Topic;
+use ic_command::line_form::is_plain;
 use ic_command::words::next_word;
 use ic_name::{AgentName, NameFault};
 use std::alloc::{AllocError, Global};
@@ -17,7 +18,7 @@ pub(crate) fn wrong_in(
         return Ok(None);
     }
     let body = line.strip_suffix(b"\r").unwrap_or(line);
-    if let Some(offset) = body.iter().position(|byte| !is_typed(*byte)) {
+    if let Some(offset) = body.iter().position(|byte| !is_plain(*byte)) {
         return Ok(Some(format!(in alloc;
             "column {}: a command is written in ASCII, with blanks and tabs alone between its words",
             offset.saturating_add(1)
@@ -41,11 +42,6 @@ pub(crate) fn wrong_in(
         Topic::Number => wrong_number(alloc, behind),
         Topic::Mark | Topic::Place | Topic::List | Topic::TooLong => Ok(None),
     }
-}
-
-/// Whether a command may have the byte.
-fn is_typed(byte: u8) -> bool {
-    matches!(byte, b' '..=b'~' | b'\t')
 }
 
 /// What is wrong with the number that should stand there.

@@ -4,4 +4,5 @@ mod drips;
 mod echoes;
 mod faults;
 mod flushes;
+mod nets;
 mod repeated_lines;

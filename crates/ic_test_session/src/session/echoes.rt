@@ -18,6 +18,7 @@ fn session<R: Threads + Wait + Sync>(
         explains: false,
         stops: false,
         echoes: true,
+        retries: false,
     };
     let mut reader = input;
     let mut writer = Vec::new(alloc);

@@ -54,7 +54,7 @@ fn reads_net(alloc: Global, mut reader: &[u8], text: &[u8]) -> Result<bool, Fail
     let mut input = Input::new(alloc, 10)?;
     let mut errors: Vec<u8> = Vec::new(alloc);
     match read_net_text(alloc, &mut input, &mut reader, &mut errors, Prompts::Silent) {
-        Ok(NetInput::Whole(net)) => Ok(net.as_slice() == text),
+        Ok(NetInput::Whole { text: net, barred }) => Ok(barred && net.as_slice() == text),
         _ => Ok(false),
     }
 }

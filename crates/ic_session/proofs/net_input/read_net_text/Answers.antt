@@ -2,7 +2,7 @@ use Rattle.std.proofs.Common.{rules, arith, ◌∙◌, sym, ap, ◌++◌, ◌<�
 use Rattle.ic_text.specs.declared.grammar.limits.TheConstants.{MAX_TEXT}
 use Rattle.ic_session.specs.InputLines.{is_bar, whole_line}
 use Rattle.ic_command.specs.Left.{left}
-use Rattle.ic_session.proofs.InputFacts.{HasRead, read_more, read_bar, read_long, read_over}
+use Rattle.ic_session.proofs.InputFacts.{HasRead, lessened, read_more, read_bar, read_long, read_over}
 use Rattle.ic_session.proofs.net_input.read_net_text.Goals as goal
 
 pub returns-in-TooLong-clause-read : goal.returns-in-TooLong-clause-read
@@ -24,8 +24,12 @@ loop-line-preserved g c =
     let text = c.in_ok-append-in-Line.ensures ∙ ap (λ bytes. c.loop-line.text.items ++ whole_line (record { bytes = bytes; ended = c.in-Line.ended })) c.deref-in-Line.ensures.value in
     let before = c.loop-line.invariant.fewer in
     let fewer = c.in_ok-next_line.ensures.fewer in
+    let so_far = c.loop-line.invariant.less in
+    let less = lessened c.in_ok-next_line.field-0 c.in-Line.ended c.in-Line.is c.in_ok-next_line.ensures.less in
     record {
       read = subst (HasRead (left c.args.input.now (g.R.Read.remaining c.args.reader.now)) (left c.next_line.new.self (g.R.Read.remaining c.next_line.new.reader))) (sym text) more;
+      short = search (rules, arith, c.if-len-gt-MAX_TEXT.false, c.len.ensures);
+      less = omega arith;
       fewer = omega arith;
     }
 

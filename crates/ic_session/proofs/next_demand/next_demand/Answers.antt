@@ -5,23 +5,28 @@ use Rattle.ic_path.proofs.Errors.{at_error}
 use Rattle.ic_command.specs.Faults.{AppendsFront}
 use Rattle.ic_command.specs.Left.{left}
 use Rattle.ic_session.specs.Echoes.{echo_in}
-use Rattle.ic_session.specs.Modes.{Quits}
-use Rattle.ic_session.specs.declared.mode.Mode.{Mode}
-use Rattle.ic_session.proofs.DemandsTaken.{demand_taken, echo_begun, echo_written, end_taken, long_demand, long_silent, no_front, none_silent, quit_taken, whole_front}
+use Rattle.ic_session.specs.Modes.{Quits, Renews}
+use Rattle.ic_session.proofs.DemandsTaken.{demand_taken, echo_begun, echo_written, end_taken, long_demand, long_silent, no_front, none_silent, quit_taken, renewal_silent, renewal_taken, whole_front}
 use Rattle.ic_session.proofs.next_demand.next_demand.Goals as goal
 
--- what the bytes that were read end, the line does
-ends : (m : Mode) (bytes line : List ℕ) (b : Bool) → bytes ≡ line → b ≡ true → IsTrue b ↔ Quits m bytes → Quits m line
-ends m bytes line b same is h = subst (Quits m) same (h.0 is)
+-- what holds of the bytes that were read holds of the line
+holds : (P : List ℕ → Type 0) (bytes line : List ℕ) (b : Bool) → bytes ≡ line → b ≡ true → IsTrue b ↔ P bytes → P line
+holds P bytes line b same is h = subst P same (h.0 is)
 
-stays : (m : Mode) (bytes line : List ℕ) (b : Bool) → bytes ≡ line → b ≡ false → IsTrue b ↔ Quits m bytes → ¬ (Quits m line)
-stays m bytes line b same is h q = let on : b ≡ true = h.1 (subst (Quits m) (sym same) q) in cc
+fails : (P : List ℕ → Type 0) (bytes line : List ℕ) (b : Bool) → bytes ≡ line → b ≡ false → IsTrue b ↔ P bytes → ¬ (P line)
+fails P bytes line b same is h q = let on : b ≡ true = h.1 (subst P (sym same) q) in cc
 
 pub returns-then-quits-clause-taken : goal.returns-then-quits-clause-taken
 returns-then-quits-clause-taken g c =
     quit_taken c.args.mode (left c.args.input.now (g.R.Read.remaining c.args.reader.now)) (left c.take_line.new.input (g.R.Read.remaining c.take_line.new.reader))
     c.take_line.new.line.items c.in-Line.field-0 c.in_ok-take_line.field-0 c.in-Line.is c.in_ok-take_line.ensures.taken
-    (ends c.args.mode _ _ _ c.deref-in-Line.ensures.value c.if-quits.true c.quits.ensures)
+    (holds (Quits c.args.mode) _ _ _ c.deref-in-Line.ensures.value c.if-quits.true c.quits.ensures)
+
+pub returns-then-renews-clause-taken : goal.returns-then-renews-clause-taken
+returns-then-renews-clause-taken g c =
+    renewal_taken c.args.mode (left c.args.input.now (g.R.Read.remaining c.args.reader.now)) (left c.take_line.new.input (g.R.Read.remaining c.take_line.new.reader))
+    c.take_line.new.line.items c.in-Line.field-0 c.in_ok-take_line.field-0 c.in-Line.is c.in_ok-take_line.ensures.taken
+    (holds (Renews c.args.mode) _ _ _ c.deref-in-Line-2.ensures.value c.if-renews.true c.renews.ensures)
 
 pub returns-in-End-clause-taken : goal.returns-in-End-clause-taken
 returns-in-End-clause-taken g c =
@@ -32,7 +37,7 @@ pub returns-in_ok-demand-in-Line-clause-taken : goal.returns-in_ok-demand-in-Lin
 returns-in_ok-demand-in-Line-clause-taken g c =
     demand_taken c.args.mode (left c.args.input.now (g.R.Read.remaining c.args.reader.now)) (left c.take_line.new.input (g.R.Read.remaining c.take_line.new.reader)) (left c.demand_at.new.input (g.R.Read.remaining c.demand_at.new.reader))
     c.take_line.new.line.items c.in-Line.field-0 c.in_ok-take_line.field-0 c.in_ok-demand-in-Line.demand c.in-Line.is c.in_ok-take_line.ensures.taken
-    (stays c.args.mode _ _ _ c.deref-in-Line.ensures.value c.if-quits.false c.quits.ensures) c.in_ok-demand-in-Line.ensures.taken
+    (fails (Quits c.args.mode) _ _ _ c.deref-in-Line.ensures.value c.if-quits.false c.quits.ensures) (fails (Renews c.args.mode) _ _ _ c.deref-in-Line-2.ensures.value c.if-renews.false c.renews.ensures) c.in_ok-demand-in-Line.ensures.taken
 
 pub returns-in-TooLong-clause-taken : goal.returns-in-TooLong-clause-taken
 returns-in-TooLong-clause-taken g c =
@@ -41,6 +46,9 @@ returns-in-TooLong-clause-taken g c =
 
 pub returns-then-quits-clause-echoed : goal.returns-then-quits-clause-echoed
 returns-then-quits-clause-echoed g c = none_silent c.args.mode (left c.args.input.now (g.R.Read.remaining c.args.reader.now)) (g.W.Write.contents c.args.writer.now)
+
+pub returns-then-renews-clause-echoed : goal.returns-then-renews-clause-echoed
+returns-then-renews-clause-echoed g c = renewal_silent c.args.mode (left c.args.input.now (g.R.Read.remaining c.args.reader.now)) (g.W.Write.contents c.args.writer.now)
 
 pub returns-in-End-clause-echoed : goal.returns-in-End-clause-echoed
 returns-in-End-clause-echoed g c = none_silent c.args.mode (left c.args.input.now (g.R.Read.remaining c.args.reader.now)) (g.W.Write.contents c.args.writer.now)
@@ -55,7 +63,7 @@ returns-in_ok-demand-in-Line-clause-echoed g c =
     echo_written c.args.mode (left c.args.input.now (g.R.Read.remaining c.args.reader.now)) (left c.take_line.new.input (g.R.Read.remaining c.take_line.new.reader))
     c.take_line.new.line.items c.in-Line.field-0 c.in_ok-take_line.field-0 c.in_ok-demand-in-Line.demand (g.W.Write.contents c.args.writer.now) (g.W.Write.contents c.echo.new.writer)
     c.in-Line.is c.in_ok-take_line.ensures.taken
-    (subst (λ bytes. Appends (g.W.Write.contents c.args.writer.now) (g.W.Write.contents c.echo.new.writer) (echo_in c.args.mode bytes)) c.deref-in-Line-2.ensures.value c.in_ok-echo-in-Line.ensures.written)
+    (subst (λ bytes. Appends (g.W.Write.contents c.args.writer.now) (g.W.Write.contents c.echo.new.writer) (echo_in c.args.mode bytes)) c.deref-in-Line-3.ensures.value c.in_ok-echo-in-Line.ensures.written)
 
 pub returns-in_err-take_line-clause-begun : goal.returns-in_err-take_line-clause-begun
 returns-in_err-take_line-clause-begun g c =
@@ -67,7 +75,7 @@ returns-in_err-echo-in-Line-clause-begun g c =
     (echo_begun c.args.mode (left c.args.input.now (g.R.Read.remaining c.args.reader.now)) (left c.take_line.new.input (g.R.Read.remaining c.take_line.new.reader))
     c.take_line.new.line.items c.in-Line.field-0 c.in_ok-take_line.field-0 (g.W.Write.contents c.args.writer.now) (g.W.Write.contents c.echo.new.writer)
     c.in-Line.is c.in_ok-take_line.ensures.taken
-    (subst (λ bytes. AppendsFront (g.W.Write.contents c.args.writer.now) (g.W.Write.contents c.echo.new.writer) (echo_in c.args.mode bytes)) c.deref-in-Line-2.ensures.value c.in_err-echo-in-Line.ensures.front))
+    (subst (λ bytes. AppendsFront (g.W.Write.contents c.args.writer.now) (g.W.Write.contents c.echo.new.writer) (echo_in c.args.mode bytes)) c.deref-in-Line-3.ensures.value c.in_err-echo-in-Line.ensures.front))
 
 pub returns-in_err-demand-in-Line-clause-begun : goal.returns-in_err-demand-in-Line-clause-begun
 returns-in_err-demand-in-Line-clause-begun g c =
@@ -75,4 +83,4 @@ returns-in_err-demand-in-Line-clause-begun g c =
     (echo_begun c.args.mode (left c.args.input.now (g.R.Read.remaining c.args.reader.now)) (left c.take_line.new.input (g.R.Read.remaining c.take_line.new.reader))
     c.take_line.new.line.items c.in-Line.field-0 c.in_ok-take_line.field-0 (g.W.Write.contents c.args.writer.now) (g.W.Write.contents c.echo.new.writer)
     c.in-Line.is c.in_ok-take_line.ensures.taken
-    (whole_front (subst (λ bytes. Appends (g.W.Write.contents c.args.writer.now) (g.W.Write.contents c.echo.new.writer) (echo_in c.args.mode bytes)) c.deref-in-Line-2.ensures.value c.in_ok-echo-in-Line.ensures.written)))
+    (whole_front (subst (λ bytes. Appends (g.W.Write.contents c.args.writer.now) (g.W.Write.contents c.echo.new.writer) (echo_in c.args.mode bytes)) c.deref-in-Line-3.ensures.value c.in_ok-echo-in-Line.ensures.written)))

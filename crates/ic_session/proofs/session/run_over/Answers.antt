@@ -1,82 +1,32 @@
-use Rattle.std.proofs.Common.{Err, ap, ◌∙◌, subst}
-use Rattle.std.proofs.lemmas.Result.{IfOk-weaker, on_err_weaker}
-use Rattle.ic_path.proofs.Errors.{at_error}
-use Rattle.ic_text.specs.Grammar.{Denotes}
-use Rattle.ic_text.specs.Faults.{Stands, IsFirstFault}
-use Rattle.ic_text.specs.declared.grammar.refusal.Refusal.{Refusal}
+use Rattle.std.proofs.Common.{arith}
 use Rattle.ic_command.specs.Left.{left}
-use Rattle.ic_session.proofs.SessionFacts.{wrote_too_long, wrote_fault, wrote_answers, begun_nothing, begun_too_long, begun_fault, begun_answers}
-use Rattle.ic_session.proofs.AnswerFacts.{opened_answers, opened_begun}
+use Rattle.ic_path.proofs.Errors.{at_error}
+use Rattle.ic_session.proofs.NetsInTurn.{led_begun, led_none, led_on, led_over}
 use Rattle.ic_session.proofs.session.run_over.Goals as goal
 
-pub returns-in-TooLong-clause-written : goal.returns-in-TooLong-clause-written
-returns-in-TooLong-clause-written g c =
-    let now = left c.read_net_text.new.input (g.R.Read.remaining c.read_net_text.new.reader) in
-    let read = c.in_ok-read_net_text.ensures.read in
-    IfOk-weaker c.refuse.result _ _
-    (wrote_too_long c.args.setting.now.mode (left c.args.input.now (g.R.Read.remaining c.args.reader.now)) now (g.W.Write.contents c.args.writer.now) (g.W.Write.contents c.refuse.new.writer) c.in_ok-read_net_text.field-0 c.in-TooLong.is read)
-    c.refuse.ensures.named
+pub loop-status-init : goal.loop-status-init
+loop-status-init g c = record {
+  led = led_none c.args.setting.now.mode (left c.args.input.now (g.R.Read.remaining c.args.reader.now)) (g.W.Write.contents c.args.writer.now);
+  fewer = omega arith;
+}
 
-pub returns-in-Err-Refused-clause-written : goal.returns-in-Err-Refused-clause-written
-returns-in-Err-Refused-clause-written g c =
-    let now = left c.read_net_text.new.input (g.R.Read.remaining c.read_net_text.new.reader) in
-    let read = c.in_ok-read_net_text.ensures.read in
-    let first = subst (λ bytes. IsFirstFault bytes c.in-Err-Refused.refusal) c.deref.ensures.value (c.read_net.ensures.fault c.in-Err-Refused.refusal (c.in-Err-Refused.is ∙ ap Err c.in-Err-Refused.field-0-is)) in
-    IfOk-weaker c.refuse-in-Err-Refused.result _ _
-    (wrote_fault c.args.setting.now.mode (left c.args.input.now (g.R.Read.remaining c.args.reader.now)) now (g.W.Write.contents c.args.writer.now) (g.W.Write.contents c.refuse-in-Err-Refused.new.writer)
-    c.in_ok-read_net_text.field-0 c.in-Whole.text c.in-Err-Refused.refusal c.in-Whole.is read first)
-    c.refuse-in-Err-Refused.ensures.named
+pub loop-status-preserved : goal.loop-status-preserved
+loop-status-preserved g c =
+    let before = c.loop-status.invariant.fewer in
+    let fewer = c.in_ok-status.ensures.fewer in
+    record {
+      led = led_on c.args.setting.now.mode (left c.args.input.now (g.R.Read.remaining c.args.reader.now)) (left c.loop-status.input (g.R.Read.remaining c.loop-status.reader)) (left c.run_net.new.input (g.R.Read.remaining c.run_net.new.reader))
+          (g.W.Write.contents c.args.writer.now) (g.W.Write.contents c.loop-status.writer) (g.W.Write.contents c.run_net.new.writer) c.in_ok-status.field-0 c.loop-status.invariant.led c.in-Another.is c.in_ok-status.ensures.written;
+      fewer = omega arith;
+    }
 
-pub returns-clause-written : goal.returns-clause-written
-returns-clause-written g c =
-    let now = left c.read_net_text.new.input (g.R.Read.remaining c.read_net_text.new.reader) in
-    let read = c.in_ok-read_net_text.ensures.read in
-    let denoted = subst (λ bytes. Denotes bytes c.in-Ok.start) c.deref.ensures.value c.in-Ok.ensures.found in
-    let faultless = subst (λ bytes. (f : Refusal) → Stands bytes f → ⊥) c.deref.ensures.value c.in-Ok.ensures.faultless in
-    IfOk-weaker c.answer_all.result _ _
-    (λ status answered. wrote_answers c.args.setting.now.mode (left c.args.input.now (g.R.Read.remaining c.args.reader.now)) now (g.W.Write.contents c.args.writer.now) (g.W.Write.contents c.answer_all.new.writer)
-    c.in_ok-read_net_text.field-0 c.in-Whole.text c.in-Ok.start status c.in-Whole.is read denoted faultless
-    (opened_answers status now c.in-Ok.start c.args.setting.now.mode c.in_ok-desk.desk (g.W.Write.contents c.args.writer.now) (g.W.Write.contents c.answer_all.new.writer) c.in_ok-desk.ensures answered))
-    c.answer_all.ensures.answered
+pub returns-in-Over-clause-written : goal.returns-in-Over-clause-written
+returns-in-Over-clause-written g c =
+    led_over c.args.setting.now.mode (left c.args.input.now (g.R.Read.remaining c.args.reader.now)) (left c.loop-status.input (g.R.Read.remaining c.loop-status.reader)) (left c.run_net.new.input (g.R.Read.remaining c.run_net.new.reader))
+    (g.W.Write.contents c.args.writer.now) (g.W.Write.contents c.loop-status.writer) (g.W.Write.contents c.run_net.new.writer) c.in_ok-status.field-0 c.in-Over.status c.loop-status.invariant.led c.in-Over.is c.in_ok-status.ensures.written
 
-pub returns-in_err-read_net_text-clause-begun : goal.returns-in_err-read_net_text-clause-begun
-returns-in_err-read_net_text-clause-begun g c =
-    at_error c.from_residual.result (begun_nothing c.args.setting.now.mode (left c.args.input.now (g.R.Read.remaining c.args.reader.now)) (g.W.Write.contents c.args.writer.now))
-
-pub returns-in-TooLong-clause-begun : goal.returns-in-TooLong-clause-begun
-returns-in-TooLong-clause-begun g c =
-    let now = left c.read_net_text.new.input (g.R.Read.remaining c.read_net_text.new.reader) in
-    let read = c.in_ok-read_net_text.ensures.read in
-    on_err_weaker c.refuse.result
-    (begun_too_long c.args.setting.now.mode (left c.args.input.now (g.R.Read.remaining c.args.reader.now)) now (g.W.Write.contents c.args.writer.now) (g.W.Write.contents c.refuse.new.writer) c.in_ok-read_net_text.field-0 c.in-TooLong.is read)
-    c.refuse.ensures.front
-
-pub returns-in-Err-Memory-clause-begun : goal.returns-in-Err-Memory-clause-begun
-returns-in-Err-Memory-clause-begun g c =
-    begun_nothing c.args.setting.now.mode (left c.args.input.now (g.R.Read.remaining c.args.reader.now)) (g.W.Write.contents c.args.writer.now)
-
-pub returns-in-Err-Refused-clause-begun : goal.returns-in-Err-Refused-clause-begun
-returns-in-Err-Refused-clause-begun g c =
-    let now = left c.read_net_text.new.input (g.R.Read.remaining c.read_net_text.new.reader) in
-    let read = c.in_ok-read_net_text.ensures.read in
-    let first = subst (λ bytes. IsFirstFault bytes c.in-Err-Refused.refusal) c.deref.ensures.value (c.read_net.ensures.fault c.in-Err-Refused.refusal (c.in-Err-Refused.is ∙ ap Err c.in-Err-Refused.field-0-is)) in
-    on_err_weaker c.refuse-in-Err-Refused.result
-    (begun_fault c.args.setting.now.mode (left c.args.input.now (g.R.Read.remaining c.args.reader.now)) now (g.W.Write.contents c.args.writer.now) (g.W.Write.contents c.refuse-in-Err-Refused.new.writer)
-    c.in_ok-read_net_text.field-0 c.in-Whole.text c.in-Err-Refused.refusal c.in-Whole.is read first)
-    c.refuse-in-Err-Refused.ensures.front
-
-pub returns-in_err-desk-clause-begun : goal.returns-in_err-desk-clause-begun
-returns-in_err-desk-clause-begun g c =
-    at_error c.from_residual-in_err-desk.result (begun_nothing c.args.setting.now.mode (left c.args.input.now (g.R.Read.remaining c.args.reader.now)) (g.W.Write.contents c.args.writer.now))
-
-pub returns-clause-begun : goal.returns-clause-begun
-returns-clause-begun g c =
-    let now = left c.read_net_text.new.input (g.R.Read.remaining c.read_net_text.new.reader) in
-    let read = c.in_ok-read_net_text.ensures.read in
-    let denoted = subst (λ bytes. Denotes bytes c.in-Ok.start) c.deref.ensures.value c.in-Ok.ensures.found in
-    let faultless = subst (λ bytes. (f : Refusal) → Stands bytes f → ⊥) c.deref.ensures.value c.in-Ok.ensures.faultless in
-    on_err_weaker c.answer_all.result
-    (λ begun. begun_answers c.args.setting.now.mode (left c.args.input.now (g.R.Read.remaining c.args.reader.now)) now (g.W.Write.contents c.args.writer.now) (g.W.Write.contents c.answer_all.new.writer)
-    c.in_ok-read_net_text.field-0 c.in-Whole.text c.in-Ok.start c.in-Whole.is read denoted faultless
-    (opened_begun now c.in-Ok.start c.args.setting.now.mode c.in_ok-desk.desk (g.W.Write.contents c.args.writer.now) (g.W.Write.contents c.answer_all.new.writer) c.in_ok-desk.ensures begun))
-    c.answer_all.ensures.begun
+pub returns-in_err-status-clause-begun : goal.returns-in_err-status-clause-begun
+returns-in_err-status-clause-begun g c =
+    at_error c.from_residual.result
+    (led_begun c.args.setting.now.mode (left c.args.input.now (g.R.Read.remaining c.args.reader.now)) (left c.loop-status.input (g.R.Read.remaining c.loop-status.reader))
+    (g.W.Write.contents c.args.writer.now) (g.W.Write.contents c.loop-status.writer) (g.W.Write.contents c.run_net.new.writer) c.loop-status.invariant.led c.in_err-status.ensures.begun)

@@ -6,7 +6,7 @@ use Rattle.ic_session.specs.declared.fault.Fault.{Fault}
 use Rattle.ic_session.specs.declared.fault.Fault.TheVariants as fault
 use Rattle.ic_session.specs.Faults.{fault_of}
 use Rattle.ic_session.specs.Sessions.{partly}
-use Rattle.ic_session.proofs.session.answer.Goals as goal
+use Rattle.ic_session.proofs.net_session.answer.Goals as goal
 
 pub returns-in_err-reply-clause-begun : goal.returns-in_err-reply-clause-begun
 returns-in_err-reply-clause-begun g c =

@@ -1,6 +1,6 @@
 use Rattle.std.proofs.lemmas.Result.{IfOk-weaker}
 use Rattle.ic_session.proofs.Meetings.{request_met, question_met}
-use Rattle.ic_session.proofs.session.meet.Goals as goal
+use Rattle.ic_session.proofs.net_session.meet.Goals as goal
 
 pub returns-in-Requests-clause-turns : goal.returns-in-Requests-clause-turns
 returns-in-Requests-clause-turns g c =
