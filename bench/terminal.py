@@ -1,8 +1,9 @@
 #!/usr/bin/env python3
-"""Types a lesson at the built program, as at a terminal: python3 bench/terminal.py [PROGRAM].
+"""Types two lessons at the built program, as at a terminal: python3 bench/terminal.py [PROGRAM].
 
-The program runs with -i on a pseudo-terminal. Behind each prompt of the lesson stands what is typed there, once the program has
-asked for it. What the terminal then shows has to be the lesson; if it isn't, it is printed, and the status is 1.
+The program runs with -i on a pseudo-terminal; the second lesson begins with two files. Behind each prompt of a lesson stands what is
+typed there, once the program has asked for it. What the terminal then shows has to be the lesson; if it isn't, it is printed, and the
+status is 1.
 """
 
 import os
@@ -10,6 +11,7 @@ import pty
 import select
 import subprocess
 import sys
+import tempfile
 
 from program import program_named
 
@@ -49,6 +51,18 @@ journal 0
 icbench> quit
 """
 
+FILES = {"pair.net": "G(x,a) = D(x,b);\n", "start.txt": "---\nfire 0 1\nfire 0 1\n"}
+LESSON_FROM_FILES = """\
+net read: 2 agents, 1 active pair; help lists the commands
+fired 0 1
+refused 21 not active
+line 4: the two agents aren't both there with their principal ports joined; active lists the pairs that can fire
+icbench> journal
+journal 1
+0 1 rank 0
+icbench> quit
+"""
+
 
 def shown(terminal, prompt=None):
     """What the terminal shows up to this prompt, or until the program ends or is silent for too long."""
@@ -66,13 +80,13 @@ def shown(terminal, prompt=None):
     return text
 
 
-def typed(program):
+def typed(command, lesson, folder):
     """What the terminal shows while the lesson is typed, and how the program ends."""
     terminal, program_side = pty.openpty()
-    running = subprocess.Popen([program, "-i"], stdin=program_side, stdout=program_side, stderr=program_side)
+    running = subprocess.Popen(command, cwd=folder, stdin=program_side, stdout=program_side, stderr=program_side)
     os.close(program_side)
     text = ""
-    for line in LESSON.splitlines():
+    for line in lesson.splitlines():
         for prompt in PROMPTS:
             if line.startswith(prompt):
                 text += shown(terminal, prompt)
@@ -82,14 +96,28 @@ def typed(program):
     return text, running.wait(SECONDS)
 
 
-def main():
-    text, status = typed(program_named(sys.argv[1:]))
-    if (text, status) == (LESSON, 0):
-        print("the lesson was shown as it is told")
-        return 0
+def is_shown(command, lesson, folder):
+    """Whether the terminal shows the lesson as it is told. If not, what it shows is printed."""
+    text, status = typed(command, lesson, folder)
+    if (text, status) == (lesson, 0):
+        return True
     print(text, end="")
     print(f"status {status}: the lesson was shown otherwise")
-    return 1
+    return False
+
+
+def main():
+    program = os.path.abspath(program_named(sys.argv[1:]))
+    with tempfile.TemporaryDirectory() as folder:
+        for name, text in FILES.items():
+            with open(os.path.join(folder, name), "w") as file:
+                file.write(text)
+        if not is_shown([program, "-i"], LESSON, folder):
+            return 1
+        if not is_shown([program, "-i", *FILES], LESSON_FROM_FILES, folder):
+            return 1
+    print("the lessons were shown as they are told")
+    return 0
 
 
 if __name__ == "__main__":

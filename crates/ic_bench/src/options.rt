@@ -42,10 +42,10 @@ impl Options {
         }
     }
 
-    /// What the session asks for by prompts.
-    pub fn prompts(self) -> Prompts {
+    /// What the session asks for by prompts, where so many lines were read ahead.
+    pub fn prompts(self, ahead: u64) -> Prompts {
         if self.interactive {
-            Prompts::Lines
+            Prompts::Behind(ahead)
         } else {
             Prompts::Silent
         }

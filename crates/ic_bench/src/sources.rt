@@ -1,11 +1,17 @@
+ghost use Rattle.std.specs.Prelude.{◌≡◌, ◌≤◌, length, IfOk, IfSome};
 ghost use Rattle.std.specs.Io.{ReadsAtMost};
 
+use ic_session::MAX_READS;
+use std::alloc::{AllocError, Global};
 use std::fs::{Files, OpenOptions};
 use std::io;
 use std::io::Read;
 
 /// The name of the standard input among files.
 const INPUT: &str = "-";
+
+/// The bytes that one read asks for, at most, where files are read ahead.
+const CHUNK: usize = 8192;
 
 /// What is read from at a time.
 #[derive(Drop)]
@@ -16,7 +22,7 @@ enum Open<F> {
 }
 
 /// The files of a command line, read one after the other as one input. `-` is the standard input. A file is opened when the one
-/// before it has ended.
+/// before it has ended. Those in front of the standard input may be read ahead.
 #[derive(Drop)]
 pub struct Sources<'a, F: Files, R: Read> {
     files: &'a F,
@@ -26,11 +32,18 @@ pub struct Sources<'a, F: Files, R: Read> {
     next: usize,
     ends_with_input: bool,
     unread: Option<usize>,
+    /// What was read ahead, and how much of it was taken.
+    ahead: Vec<u8>,
+    taken: usize,
+    /// What kept a file from being read ahead.
+    failed: Option<io::Error>,
+    ghost within: { taken ≤ length ahead.items },
 }
 
 impl<'a, F: Files, R: Read> Sources<'a, F, R> {
     /// These files, and then the standard input, if they end with it.
     pub fn new(
+        alloc: Global,
         files: &'a F,
         names: &'a [&'a str],
         input: &'a mut R,
@@ -44,7 +57,58 @@ impl<'a, F: Files, R: Read> Sources<'a, F, R> {
             next: 0,
             ends_with_input,
             unread: None,
+            ahead: Vec::new(alloc),
+            taken: 0,
+            failed: None,
         }
+    }
+
+    /// Reads the files in front of the standard input ahead, and answers how many lines end in them: how many aren't typed. If a
+    /// file can't be read, no line is typed, and the answer is the greatest number. An error where memory runs out.
+    pub fn read_ahead(&mut self) -> Result<u64, AllocError> {
+        let mut chunk = [0u8; CHUNK];
+        for _read in 0..MAX_READS {
+            match self.read_file(&mut chunk) {
+                Ok(Some(count)) => self.ahead.extend_from_slice(&chunk[..count])?,
+                Ok(None) => break,
+                Err(error) => {
+                    self.failed = Some(error);
+                    return Ok(u64::MAX);
+                }
+            }
+        }
+        let feeds = self.ahead.iter().filter(|byte| **byte == b'\n').count();
+        Ok(feeds as u64)
+    }
+
+    /// Reads on from a file, or opens the next one, of which nothing is read yet. `None` where the standard input comes, or
+    /// nothing more.
+    fn read_file(&mut self, buf: &mut [u8]) -> io::Result<Option<usize>>
+        ensures few { IfOk result (λ read. IfSome read (λ count. count ≤ length buf.new)) }
+        ensures whole { length buf.new ≡ length buf.old }
+    {
+        let count = self.read_on(buf)?;
+        if count > 0 {
+            return Ok(Some(count));
+        }
+        self.unread = None;
+        if self.names.get(self.next).is_none_or(|name| *name == INPUT) {
+            return Ok(None);
+        }
+        self.open_next()?;
+        Ok(Some(0))
+    }
+
+    /// Takes what was read ahead, as far as there is room.
+    fn take_ahead(&mut self, buf: &mut [u8]) -> usize
+        ensures few { result ≤ length buf.new }
+        ensures whole { length buf.new ≡ length buf.old }
+    {
+        let rest = &self.ahead[self.taken..];
+        let count = rest.len().min(buf.len());
+        buf[..count].copy_from_slice(&rest[..count]);
+        self.taken += count;
+        count
     }
 
     /// The place of the file that couldn't be opened or read, if the last call of `read` met one.
@@ -90,6 +154,13 @@ impl<'a, F: Files, R: Read> Sources<'a, F, R> {
 
 impl<F: Files, R: Read> Read for Sources<'_, F, R> {
     fn read(&mut self, buf: &mut [u8]) -> io::Result<usize> {
+        let count = self.take_ahead(buf);
+        if count > 0 {
+            return Ok(count);
+        }
+        if let Some(error) = self.failed.take() {
+            return Err(error);
+        }
         for _file in 0..self.names.len() + 2 {
             let count = self.read_on(buf)?;
             if count > 0 || buf.is_empty() {

@@ -1,6 +1,6 @@
 ghost use Rattle.std.specs.Prelude.{◌≤◌, IfSome};
 
-use crate::topics::Topic;
+use ic_command::Topic;
 
 /// What was wrong with a request that was refused by this number, and what would be right; `None` for a number that no request is
 /// refused by.

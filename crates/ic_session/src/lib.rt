@@ -22,8 +22,6 @@ pub mod refusal;
 pub mod session;
 pub mod setting;
 mod taken_line;
-mod topics;
-mod wrong_words;
 
 pub use bounded::{MAX_READS, run_bounded, run_in, run_on, run_quietly, run_session};
 pub use demand::Demand;

@@ -44,8 +44,10 @@ pub fn read_net_text<R: Read, E: Write>(
 {
     let mut text = Vec::new(alloc);
     let mut line = Vec::new(alloc);
+    let mut prompts = prompts;
     loop {
         ask_for_net(errors, prompts);
+        prompts = prompts.after(1);
         match input.next_line(reader, &mut line, MAX_TEXT)? {
             Piece::End => {
                 return Ok(NetInput::Whole {

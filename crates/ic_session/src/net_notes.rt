@@ -1,5 +1,5 @@
 use crate::expected::expected_after;
-use crate::topics::{Topic, topic_of};
+use ic_command::{Topic, topic_of};
 use ic_text::Refusal;
 use std::alloc::{AllocError, Global};
 use std::str;

@@ -65,7 +65,8 @@ pub(crate) fn run_net<R: Read, W: Write, E: Write, T: Threads + Wait + Sync, G: 
 {
     let alloc = setting.alloc;
     let before = place.taken();
-    let (text, barred) = match read_net_text(alloc, input, reader, errors, setting.prompts)? {
+    let prompts = setting.prompts.after(before);
+    let (text, barred) = match read_net_text(alloc, input, reader, errors, prompts)? {
         NetInput::TooLong => {
             let net = NetText {
                 bytes: &[],
@@ -175,7 +176,7 @@ fn answer_all<R: Read, W: Write, E: Write, T: Threads + Wait + Sync, G: Gate>(
     let alloc = setting.alloc;
     let mut line = Vec::new(alloc);
     loop {
-        ask_for_command(errors, setting.prompts);
+        ask_for_command(errors, setting.prompts.after(place.taken()));
         match next_demand(
             alloc,
             input,

@@ -1,5 +1,5 @@
 use crate::mode::Mode;
-use crate::topics::{Topic, topic_of};
+use ic_command::{Topic, topic_of};
 
 /// What is wrong with a list of events.
 #[derive(Clone, Copy, Debug, PartialEq, Eq)]

@@ -9,20 +9,30 @@ use std::io::Write;
 pub enum Prompts {
     /// Nothing.
     Silent,
-    /// Each line, as at a terminal.
-    Lines,
+    /// Each line, as at a terminal, but for the next lines, which are so many.
+    Behind(u64),
 }
 
-/// Asks for a line of the net text, if the session asks for lines. If the writer fails, that is left out.
+impl Prompts {
+    /// What it asks for once so many lines more were taken.
+    pub(crate) fn after(self, lines: u64) -> Prompts {
+        match self {
+            Prompts::Silent => Prompts::Silent,
+            Prompts::Behind(left) => Prompts::Behind(left.saturating_sub(lines)),
+        }
+    }
+}
+
+/// Asks for a line of the net text, if the session asks for the next line. If the writer fails, that is left out.
 pub(crate) fn ask_for_net<E: Write>(errors: &mut E, prompts: Prompts) {
-    if prompts == Prompts::Lines {
+    if prompts == Prompts::Behind(0) {
         let _ = write_reply(errors, b"net> ");
     }
 }
 
-/// Asks for a command, if the session asks for lines. If the writer fails, that is left out.
+/// Asks for a command, if the session asks for the next line. If the writer fails, that is left out.
 pub(crate) fn ask_for_command<E: Write>(errors: &mut E, prompts: Prompts) {
-    if prompts == Prompts::Lines {
+    if prompts == Prompts::Behind(0) {
         let _ = write_reply(errors, b"icbench> ");
     }
 }
@@ -36,7 +46,7 @@ pub(crate) fn greet<E: Write>(
     desk: &Desk<Store>,
     prompts: Prompts,
 ) {
-    if prompts == Prompts::Lines {
+    if prompts != Prompts::Silent {
         if let Ok(text) = greeting(alloc, agents, desk) {
             let _ = write_reply(errors, &text);
         }

@@ -1,8 +1,8 @@
-use ic_command::words::next_word;
+use crate::words::next_word;
 
 /// What a line is about, by its first word.
 #[derive(Clone, Copy, Debug, PartialEq, Eq)]
-pub(crate) enum Topic {
+pub enum Topic {
     /// What stands alone.
     Alone,
     /// What has the names of two agents behind it.
@@ -37,7 +37,7 @@ const COUNTED: [&str; 3] = ["reduce", "step", "unstep"];
 const MARKED: [&str; 2] = ["mark", "back"];
 
 /// What a line is about.
-pub(crate) fn topic_of(line: &[u8]) -> Topic {
+pub fn topic_of(line: &[u8]) -> Topic {
     let Some((word, _)) = next_word(line) else {
         return Topic::Unknown;
     };

@@ -1,6 +1,6 @@
-use crate::topics::Topic;
-use ic_command::line_form::is_plain;
-use ic_command::words::next_word;
+use crate::line_form::is_plain;
+use crate::topic::Topic;
+use crate::words::next_word;
 use ic_name::{AgentName, NameFault};
 use std::alloc::{AllocError, Global};
 use std::str;
@@ -8,12 +8,8 @@ use std::str;
 /// The bytes of a word that are shown, at most.
 const SHOWN: usize = 40;
 
-/// What is wrong with a line that is no command, if one of its bytes or words shows it. The line is about this.
-pub(crate) fn wrong_in(
-    alloc: Global,
-    topic: Topic,
-    line: &[u8],
-) -> Result<Option<String>, AllocError> {
+/// What is wrong with a line that is no command, in a sentence, if one of its bytes or words shows it. The line is about this.
+pub fn wrong_in(alloc: Global, topic: Topic, line: &[u8]) -> Result<Option<String>, AllocError> {
     if topic == Topic::List {
         return Ok(None);
     }
