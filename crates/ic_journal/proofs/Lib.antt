@@ -2,6 +2,7 @@ pub mod SameSets
 pub mod MachineSteps
 pub mod Answering
 pub mod ThereAndBack
+pub mod OneIds
 pub mod KeptLines
 pub mod KeptBenches
 pub mod PairLimits

@@ -1,6 +1,7 @@
 pub mod Views
 pub mod Benches
 pub mod Calls
+pub mod Coming
 pub mod Limits
 pub mod Proposals
 pub mod Faults
