@@ -45,7 +45,7 @@ impl Options {
     /// What the session asks for by prompts, where so many lines were read ahead.
     pub fn prompts(self, ahead: u64) -> Prompts {
         if self.interactive {
-            Prompts::Behind(ahead)
+            Prompts::After(ahead)
         } else {
             Prompts::Silent
         }

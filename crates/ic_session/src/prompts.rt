@@ -9,8 +9,8 @@ use std::io::Write;
 pub enum Prompts {
     /// Nothing.
     Silent,
-    /// Each line, as at a terminal, but for the next lines, which are so many.
-    Behind(u64),
+    /// Each line after the next so many, as at a terminal.
+    After(u64),
 }
 
 impl Prompts {
@@ -18,21 +18,21 @@ impl Prompts {
     pub(crate) fn after(self, lines: u64) -> Prompts {
         match self {
             Prompts::Silent => Prompts::Silent,
-            Prompts::Behind(left) => Prompts::Behind(left.saturating_sub(lines)),
+            Prompts::After(left) => Prompts::After(left.saturating_sub(lines)),
         }
     }
 }
 
 /// Asks for a line of the net text, if the session asks for the next line. If the writer fails, that is left out.
 pub(crate) fn ask_for_net<E: Write>(errors: &mut E, prompts: Prompts) {
-    if prompts == Prompts::Behind(0) {
+    if prompts == Prompts::After(0) {
         let _ = write_reply(errors, b"net> ");
     }
 }
 
 /// Asks for a command, if the session asks for the next line. If the writer fails, that is left out.
 pub(crate) fn ask_for_command<E: Write>(errors: &mut E, prompts: Prompts) {
-    if prompts == Prompts::Behind(0) {
+    if prompts == Prompts::After(0) {
         let _ = write_reply(errors, b"icbench> ");
     }
 }
