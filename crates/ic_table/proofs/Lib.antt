@@ -44,3 +44,6 @@ pub mod Differing
 pub mod Decided
 pub mod TouchedSpots
 pub mod IdleSpots
+pub mod WholePaths
+pub mod GivenUpPaths
+pub mod TakenPaths
