@@ -47,3 +47,4 @@ pub mod IdleSpots
 pub mod WholePaths
 pub mod GivenUpPaths
 pub mod TakenPaths
+pub mod LooseTakes
