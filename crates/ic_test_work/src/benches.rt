@@ -11,6 +11,10 @@ use std::sync::ledger::Ledger;
 pub const FOUR_COPIES: &[u8] =
     b"G(E,a) = D(b,E); G(E,c) = D(d,E); G(E,e) = D(f,E); G(E,g) = D(h,E);";
 
+/// The net and the journal that any sweep of the four copies leaves at a normal end.
+pub const FOUR_COPIES_SWEPT: &[u8] =
+    b"# agents 16 wires 20 rings 0\nD(_0,_1) = a;\nG(_2,_0) = b;\nE = _2;\nE = _1;\nD(_3,_4) = c;\nG(_5,_3) = d;\nE = _5;\nE = _4;\nD(_6,_7) = e;\nG(_8,_6) = f;\nE = _8;\nE = _7;\nD(_9,_10) = g;\nG(_11,_9) = h;\nE = _11;\nE = _10;\njournal 16\n0 2 rank 0\n4 6 rank 0\n8 10 rank 0\n12 14 rank 0\n1 0.0 rank 1\n3 0.3 rank 1\n5 4.0 rank 1\n7 4.3 rank 1\n9 8.0 rank 1\n11 8.3 rank 1\n13 12.0 rank 1\n15 12.3 rank 1\n1.1 3.0 rank 2\n5.1 7.0 rank 2\n9.1 11.0 rank 2\n13.1 15.0 rank 2\n";
+
 /// A net without an end: each event makes an active pair again.
 pub const ENDLESS: &[u8] = b"G(x,a) = D(x,b);";
 

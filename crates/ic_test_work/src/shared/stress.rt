@@ -1,6 +1,6 @@
 ghost use Rattle.std.specs.Prelude.{◌≡◌};
 
-use crate::benches::{FOUR_COPIES, bench_over, net_of};
+use crate::benches::{FOUR_COPIES, FOUR_COPIES_SWEPT, bench_over, net_of, shown};
 use ic_journal::{Bench, Proposal, Store};
 use ic_name::{Call, Event, EventId, Line};
 use ic_shared::{Pass, Shared, settle, share};
@@ -124,13 +124,22 @@ fn shows_the_same_again(alloc: Global, bench: &Bench<Store>) -> Option<bool> {
     shows_the_same(alloc, bench, &mut again)
 }
 
-/// The bench on which four threads made their turns, settled.
+/// How many receipts all these passes have.
+fn count_receipts<B: Ledger>(passes: &[Pass<B>]) -> usize {
+    let mut count = 0usize;
+    for pass in passes {
+        count = count.saturating_add(pass.len());
+    }
+    count
+}
+
+/// The bench on which four threads made their turns, settled, and whether as many lines settled as there were receipts.
 fn settled_of_four<B: Ledger + Send + Sync, R: Threads + Wait + Sync>(
     rt: &R,
     alloc: Global,
     bench: Bench<Store>,
     blank: Blank,
-) -> Option<Bench<Store>>
+) -> Option<(Bench<Store>, bool)>
     requires name { blank.name ≡ B.name }
     requires parts { (blank.parts ≡ B.parts) × (blank.parts ≡ 5) }
 {
@@ -141,11 +150,13 @@ fn settled_of_four<B: Ledger + Send + Sync, R: Threads + Wait + Sync>(
         4,
         &|place, pass| { make_turns(rt, &shared, pass, place) },
     );
+    let receipts = count_receipts(passes.as_slice());
     let settled = settle(opening, passes, shared).ok()?;
-    Some(settled.bench)
+    let counted = settled.lines as usize == receipts;
+    Some((settled.bench, counted))
 }
 
-fn four_threads<R: Threads + Wait + Sync>(rt: &R, alloc: Global) -> Option<Bench<Store>> {
+fn four_threads<R: Threads + Wait + Sync>(rt: &R, alloc: Global) -> Option<(Bench<Store>, bool)> {
     let bench = bench_over(alloc, FOUR_COPIES)?;
     settled_of_four::<Brand, R>(rt, alloc, bench, Blank::new(5))
 }
@@ -162,25 +173,34 @@ fn clears(alloc: Global, bench: &mut Bench<Store>) -> Option<bool> {
     Some(undone == 16 && shows_the_start(alloc, bench)?)
 }
 
-/// Whether a sweep by four workers leaves all sixteen events at its normal end, and undoing them shows the start again.
+/// Whether a sweep by four workers ends with the net and the journal of one worker, and undoing all shows the start again.
 fn sweeps_and_clears<R: Threads + Wait + Sync>(
     rt: &R,
     alloc: Global,
     bench: Bench<Store>,
 ) -> Option<bool> {
     let mut swept = sweep(rt, alloc, bench, 4, 1_048_576, &NoGate).ok()?;
-    Some(swept.end == End::Normal && clears(alloc, &mut swept.bench)?)
+    let text = shown(alloc, &swept.bench)?;
+    let whole = swept.end == End::Normal && text.as_slice() == FOUR_COPIES_SWEPT;
+    Some(whole && clears(alloc, &mut swept.bench)?)
 }
 
-/// Whether the bench of four threads shows the same net again, and whether it is swept and cleared.
-fn after_four_threads<R: Threads + Wait + Sync>(rt: &R, alloc: Global) -> Option<(bool, bool)> {
-    let bench = four_threads(rt, alloc)?;
+/// Whether each line of the bench of four threads has a receipt, whether it shows the same net again, and whether it is swept
+/// and cleared.
+fn after_four_threads<R: Threads + Wait + Sync>(
+    rt: &R,
+    alloc: Global,
+) -> Option<(bool, bool, bool)> {
+    let (bench, counted) = four_threads(rt, alloc)?;
     let same = shows_the_same_again(alloc, &bench);
     let cleared = sweeps_and_clears(rt, alloc, bench);
-    Some((same?, cleared?))
+    Some((counted, same?, cleared?))
 }
 
 #[test]
 fn four_threads_settle_under_stress(rt: HostRuntime) {
-    assert_eq!(rt; after_four_threads(&rt, rt.alloc()), Some((true, true)));
+    assert_eq!(rt;
+        after_four_threads(&rt, rt.alloc()),
+        Some((true, true, true))
+    );
 }

@@ -1,4 +1,4 @@
-use crate::benches::{ENDLESS, FOUR_COPIES, bench_over, shown};
+use crate::benches::{ENDLESS, FOUR_COPIES, FOUR_COPIES_SWEPT, bench_over, shown};
 use crate::work::random_nets::{Numbers, some_net};
 use ic_work::{End, NoGate, Swept, sweep};
 use std::alloc::Global;
@@ -49,10 +49,6 @@ fn outcome_of<R: Threads + Wait + Sync>(
         text,
     })
 }
-
-/// The net and the journal that any sweep of the four copies leaves at a normal end.
-const FOUR_COPIES_SWEPT: &[u8] =
-    b"# agents 16 wires 20 rings 0\nD(_0,_1) = a;\nG(_2,_0) = b;\nE = _2;\nE = _1;\nD(_3,_4) = c;\nG(_5,_3) = d;\nE = _5;\nE = _4;\nD(_6,_7) = e;\nG(_8,_6) = f;\nE = _8;\nE = _7;\nD(_9,_10) = g;\nG(_11,_9) = h;\nE = _11;\nE = _10;\njournal 16\n0 2 rank 0\n4 6 rank 0\n8 10 rank 0\n12 14 rank 0\n1 0.0 rank 1\n3 0.3 rank 1\n5 4.0 rank 1\n7 4.3 rank 1\n9 8.0 rank 1\n11 8.3 rank 1\n13 12.0 rank 1\n15 12.3 rank 1\n1.1 3.0 rank 2\n5.1 7.0 rank 2\n9.1 11.0 rank 2\n13.1 15.0 rank 2\n";
 
 /// Whether so many workers sweep the four copies to their end.
 fn sweeps_four_copies<R: Threads + Wait + Sync>(rt: &R, alloc: Global, workers: u32) -> bool {
