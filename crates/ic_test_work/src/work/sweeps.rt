@@ -1,5 +1,6 @@
 use crate::benches::{ENDLESS, FOUR_COPIES, FOUR_COPIES_SWEPT, bench_over, shown};
 use crate::work::random_nets::{Numbers, some_net};
+use ic_journal::{Bench, Store};
 use ic_work::{End, NoGate, Swept, sweep};
 use std::alloc::Global;
 use std::sync::Wait;
@@ -99,6 +100,36 @@ fn no_more_is_fired_than_the_budget(rt: HostRuntime) -> Result<(), Fail> {
         let ended = ending(&rt, rt.alloc(), text, 4, budget);
         assert!(rt; ended == Some((budget, End::Budget)), "budget {budget}");
     }
+    Ok(())
+}
+
+/// How many lines the journal of a bench has.
+fn journal_lines(bench: &Bench<Store>) -> Option<usize> {
+    let journal = bench.journal().ok()?;
+    let mut lines = 0usize;
+    for byte in &journal {
+        if *byte == b'\n' {
+            lines = lines.saturating_add(1);
+        }
+    }
+    Some(lines)
+}
+
+/// How many events two workers fire, why they end, and how many lines the journal has then.
+fn ending_of_two<R: Threads + Wait + Sync>(
+    rt: &R,
+    alloc: Global,
+    text: &[u8],
+    budget: u32,
+) -> Option<(u32, End, usize)> {
+    let swept = swept(rt, alloc, text, 2, budget)?;
+    Some((swept.fired, swept.end, journal_lines(&swept.bench)?))
+}
+
+#[test]
+fn two_workers_fire_an_endless_net_as_often_as_they_may(rt: HostRuntime) -> Result<(), Fail> {
+    let ended = ending_of_two(&rt, rt.alloc(), ENDLESS, 2_000);
+    assert!(rt; ended == Some((2_000, End::Budget, 2_001)));
     Ok(())
 }
 
