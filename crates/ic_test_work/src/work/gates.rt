@@ -7,7 +7,7 @@ use std::test::Fail;
 use std::thread::Threads;
 
 /// How often a worker that is held back looks, at most.
-const TURNS: u32 = 50_000_000;
+const TURNS: u32 = 1_000_000_000;
 
 /// Holds the first commit of each of the first workers, so many of them, until so many of the others' were answered, and each
 /// of the others' until all of those have asked for their first.
@@ -16,22 +16,53 @@ struct HoldsFirst {
     held: usize,
     others: u64,
     budget: u32,
+    /// How often a worker looks, at most.
+    turns: u32,
     asked: AtomicU64,
     answered: AtomicU64,
-    /// How many workers saw all these answers while they were held.
+    /// How many workers asked before all these answers were there, and were held until they were.
     seen: AtomicU64,
+    /// Whether one of the others went on before all of those had asked.
+    unheld: AtomicBool,
     /// Whether a ticket was past the budget.
     late: AtomicBool,
 }
 
-/// Waits until the number is so great; whether it was in the end.
-fn await_number(number: &AtomicU64, least: u64) -> bool {
-    for _ in 0..TURNS {
-        if number.load(Ordering::SeqCst) >= least {
-            return true;
+impl HoldsFirst {
+    /// Waits until the number is so great; whether it was in the end.
+    fn await_number(&self, number: &AtomicU64, least: u64) -> bool {
+        for _ in 0..self.turns {
+            if number.load(Ordering::SeqCst) >= least {
+                return true;
+            }
+        }
+        false
+    }
+
+    /// Holds one of the first workers, if it asks for the first time and the answers aren't there yet.
+    fn hold_back(&self) {
+        let early = self.answered.load(Ordering::SeqCst) < self.others;
+        let first = self.asked.fetch_add(1, Ordering::SeqCst) < self.held as u64;
+        if first && early && self.await_number(&self.answered, self.others) {
+            self.seen.fetch_add(1, Ordering::SeqCst);
         }
     }
-    false
+
+    /// Lets one of the others wait for the first ones. Once one went on too early, none waits any more.
+    fn let_wait(&self) {
+        if !self.unheld.load(Ordering::SeqCst)
+            && !self.await_number(&self.asked, self.held as u64)
+        {
+            self.unheld.store(true, Ordering::SeqCst);
+        }
+    }
+
+    /// Whether each of the first workers was held while the others fired, and no ticket was past the budget.
+    fn was_kept(&self) -> bool {
+        self.seen.load(Ordering::SeqCst) == self.held as u64
+            && !self.unheld.load(Ordering::SeqCst)
+            && !self.late.load(Ordering::SeqCst)
+    }
 }
 
 impl Gate for HoldsFirst {
@@ -39,13 +70,10 @@ impl Gate for HoldsFirst {
         if ticket >= u64::from(self.budget) {
             self.late.store(true, Ordering::SeqCst);
         }
-        let held = self.held as u64;
         if worker >= self.held {
-            await_number(&self.asked, held);
-        } else if self.asked.fetch_add(1, Ordering::SeqCst) < held
-            && await_number(&self.answered, self.others)
-        {
-            self.seen.fetch_add(1, Ordering::SeqCst);
+            self.let_wait();
+        } else {
+            self.hold_back();
         }
     }
 
@@ -65,15 +93,17 @@ struct Hold {
     budget: u32,
 }
 
-/// A gate that holds workers so.
-fn holding(hold: Hold) -> HoldsFirst {
+/// A gate that holds workers so, each of whom looks so often.
+fn holding(hold: Hold, turns: u32) -> HoldsFirst {
     HoldsFirst {
         held: hold.held as usize,
         others: hold.others,
         budget: hold.budget,
+        turns,
         asked: AtomicU64::new(0),
         answered: AtomicU64::new(0),
         seen: AtomicU64::new(0),
+        unheld: AtomicBool::new(false),
         late: AtomicBool::new(false),
     }
 }
@@ -105,11 +135,9 @@ fn goes_on<R: Threads + Wait + Sync>(
     text: &[u8],
     hold: Hold,
 ) -> Result<bool, Fail> {
-    let gate = holding(hold);
+    let gate = holding(hold, TURNS);
     let whole = fires_all(rt, alloc, text, hold, &gate)?;
-    let held = gate.seen.load(Ordering::SeqCst) == u64::from(hold.held);
-    let early = !gate.late.load(Ordering::SeqCst);
-    Ok(held && early && whole)
+    Ok(whole && gate.was_kept())
 }
 
 /// Puts the name with this number in.
@@ -175,4 +203,27 @@ fn a_worker_fires_on_while_others_are_held(rt: HostRuntime) -> Result<(), Fail> 
         assert!(rt; goes_on(&rt, rt.alloc(), text, hold)?, "{events} events");
     }
     Ok(())
+}
+
+/// Whether the gate takes commits of two workers, which are made on one thread in this order, for those of two threads.
+fn takes_for_two_threads(workers: &[usize]) -> bool {
+    let hold = Hold {
+        held: 1,
+        others: 3,
+        events: 4,
+        budget: 4,
+    };
+    let gate = holding(hold, 1_000);
+    for (ticket, worker) in workers.iter().enumerate() {
+        gate.before_commit(*worker, ticket as u64);
+        gate.after_commit(*worker, ticket as u64);
+    }
+    gate.was_kept()
+}
+
+#[test]
+fn one_thread_in_turn_is_told_from_two(rt: HostRuntime) {
+    for workers in [[0, 1, 1, 1], [1, 0, 1, 1], [1, 1, 0, 1], [1, 1, 1, 0]] {
+        assert!(rt; !takes_for_two_threads(&workers));
+    }
 }
