@@ -3,6 +3,7 @@
 mod both_stores;
 mod histories;
 mod ids;
+mod limits;
 mod proposals;
 mod reducing;
 mod wires;
