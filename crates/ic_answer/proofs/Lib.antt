@@ -23,3 +23,4 @@ pub mod UnstepReplies
 pub mod SteppedEvents
 pub mod StepReplies
 pub mod UntoldTurns
+pub mod ChangedEvents

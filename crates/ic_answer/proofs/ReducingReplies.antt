@@ -1,5 +1,5 @@
 -- What is told of a reduction is the answer.
-use Rattle.std.proofs.Common.{◌≡◌, ◌≤◌, ℕ, List, ◌++◌, length, codes, Result, IfOk, OnErr, Vec, Global, refl, sym, subst, append_assoc, arith}
+use Rattle.std.proofs.Common.{◌≡◌, ℕ, List, ◌++◌, codes, Result, Ok, Err, IfOk, refl, sym, subst, append_assoc, arith}
 use Rattle.std.specs.Prelude.{MatchResult}
 use Rattle.std.specs.Fmt.{decimal}
 use Rattle.std.specs.declared.alloc.AllocError.{AllocError}
@@ -7,7 +7,6 @@ use Rattle.std.proofs.lemmas.Fmt.{decimal_digit}
 use Rattle.ic_theory.specs.Starts.{Start}
 use Rattle.ic_theory.specs.Machine.{State}
 use Rattle.ic_journal.specs.Views.{BenchView}
-use Rattle.ic_journal.specs.Benches.{IsBench}
 use Rattle.ic_command.specs.declared.command.Command.TheVariants.{Reduce}
 use Rattle.ic_journal.specs.declared.reducing.end.End.{End}
 use Rattle.ic_journal.specs.declared.reducing.end.End.TheVariants.{Normal, Budget, Limit, Memory}
@@ -17,9 +16,8 @@ use Rattle.ic_answer.specs.declared.answer.Answer.{Answer}
 use Rattle.ic_answer.specs.declared.refused.Refused.TheVariants.{MemoryBeforeReduce}
 use Rattle.ic_answer.specs.Ends.{end_text}
 use Rattle.ic_answer.specs.CommandReplies.{RepliesToCommand, reduced_normal, reduced_budget, reduced_limit, reduced_memory, reduce_memory}
-use Rattle.ic_answer.specs.Texts.{answer_text, reduced_text, refusal_text, wanting_after}
+use Rattle.ic_answer.specs.Texts.{answer_text, reduced_text, refusal_text, unfired_text, wanting_after}
 use Rattle.ic_answer.specs.Turns.{Tells, TurnsByCommand}
-use Rattle.ic_answer.proofs.UntoldTurns.{untold, told_or_refused}
 
 -- the parts of the text in another grouping
 pub reduced_parts : (n : ℕ) (end : List ℕ)
@@ -51,14 +49,16 @@ reduce_wants v most = λ st at. subst (λ t. RepliesToCommand v.start st (Reduce
     before_firing : wanting_after 0 ≡ refusal_text MemoryBeforeReduce
     before_firing = rw (decimal_digit 0 (omega arith)) refl
 
--- what is told of it, or a refusal where no line was added
-pub reduces_or_refused : (old new : BenchView) (most n : ℕ) (end : End) (text : Result (Vec ℕ Global) AllocError) (result : Result Answer AllocError)
-    → IsBench new → Reduces old most n end new → IfOk text (λ t. t.items ≡ end_text n end)
-    → IfOk text (λ t. IfOk result (λ a. answer_text a ≡ t.items))
-    → OnErr text (IfOk result (λ a. (answer_text a ≡ refusal_text MemoryBeforeReduce) × (length new.lines ≤ length old.lines)))
+-- what is told where nothing was fired
+pub unfired_is : (end : End) → unfired_text end ≡ end_text 0 end
+unfired_is Normal = rw (decimal_digit 0 (omega arith)) refl
+unfired_is Budget = rw (decimal_digit 0 (omega arith)) refl
+unfired_is Limit = rw (decimal_digit 0 (omega arith)) refl
+unfired_is Memory = rw (decimal_digit 0 (omega arith)) refl
+
+-- the answer tells of the reduction, or the start stays
+pub reduction_told : (old new : BenchView) (most n : ℕ) (end : End) (result : Result Answer AllocError) → Reduces old most n end new
+    → IfOk result (λ a. answer_text a ≡ end_text n end)
     → MatchResult result (λ a. TurnsByCommand old (Reduce most) (answer_text a) new) (λ _. new.start ≡ old.start)
-reduces_or_refused old new most n end text result lawful h is told instead =
-    told_or_refused (λ t. TurnsByCommand old (Reduce most) t new) (new.start ≡ old.start) (length new.lines ≤ length old.lines) (end_text n end) text result MemoryBeforeReduce
-    (reduces old new most n end (end_text n end) refl h)
-    (untold old new (Reduce most) (refusal_text MemoryBeforeReduce) lawful h.start (record { more = h.continues.added; lines = h.continues.lines }) (reduce_wants old most))
-    h.start is told instead
+reduction_told old new most n end (Ok a) h is = reduces old new most n end (answer_text a) is h
+reduction_told old new most n end (Err e) h is = h.start

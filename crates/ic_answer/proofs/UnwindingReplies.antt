@@ -33,8 +33,10 @@ use Rattle.ic_answer.specs.declared.answer.Answer.{Answer}
 use Rattle.ic_answer.specs.declared.refused.Refused.TheVariants as refused
 use Rattle.ic_answer.specs.CommandReplies.{RepliesToCommand, MayWant, unwind_not_standing, unwind_history_full, unwound, undo_all_history_full, undone_all}
 use Rattle.ic_answer.specs.Texts.{answer_text, event_line, pair_line, unwound_text, undone_all_text, refusal_text}
+use Rattle.ic_answer.specs.Changed.{HasChanged}
 use Rattle.ic_answer.specs.Turns.{Tells, TurnsByCommand}
 use Rattle.ic_answer.specs.Unwinding.{RestsOn, AreUndoneInTurn, events_of}
+use Rattle.ic_answer.proofs.ChangedEvents.{undoing_changes}
 use Rattle.ic_answer.proofs.StandingCauses.{named_event, none_named}
 use Rattle.ic_answer.proofs.TurnSteps.{tells_memory}
 use Rattle.ic_answer.proofs.UndoneInTurn.{EndsSo, undone_in_turn}
@@ -185,12 +187,32 @@ lines_more head text next names i none name few before is more =
     let lines = ap (λ t. before_it ++ t) (sym one) ∙ sym (flat_map-append (pair_line []) (take i names) (name ∷ [])) ∙ ap (flat_map (pair_line [])) taken in
     more ∙ ap (λ t. t ++ pair_line [] name) before ∙ append_assoc head before_it (pair_line [] name) ∙ ap (λ t. head ++ t) lines
 
--- what is told of undoing, or a refusal where no line was added
-pub undoes_or_refused : (old new : BenchView) (c : Command) (undone : List Stander) (known : List ℕ) (text : Result (Vec ℕ Global) AllocError) (result : Result Answer AllocError)
-    → IsBench new → MayWant c → AreUndone old undone new → TurnsByCommand old c known new → IfOk text (λ t. t.items ≡ known)
+-- no line was added where nothing was undone
+few_lines : {old new : BenchView} {undone : List Stander} → AreUndone old undone new → length undone ≡ 0 → length new.lines ≤ length old.lines
+few_lines {old} {new} {undone} did none =
+    let whole = ap length did.lines ∙ length-append old.lines (map undoing undone) in
+    let lines = length-map undone undoing in
+    omega (arith, whole, lines, none)
+
+-- what is told of undoing so many events, or a refusal where there were none
+pub undoes_or_refused : (old new : BenchView) (c : Command) (count : ℕ) (undone : List Stander) (known : List ℕ) (text : Result (Vec ℕ Global) AllocError) (result : Result Answer AllocError)
+    → IsBench new → MayWant c → count ≡ length undone → AreUndone old undone new → TurnsByCommand old c known new → IfOk text (λ t. t.items ≡ known)
     → IfOk text (λ t. IfOk result (λ a. answer_text a ≡ t.items))
-    → OnErr text (IfOk result (λ a. (answer_text a ≡ refusal_text refused.Memory) × (length new.lines ≤ length old.lines)))
+    → OnErr text (IfOk result (λ a. (answer_text a ≡ refusal_text refused.Memory) × (count ≡ 0)))
     → MatchResult result (λ a. TurnsByCommand old c (answer_text a) new) (λ _. new.start ≡ old.start)
-undoes_or_refused old new c undone known text result lawful want did turns is told instead =
-    told_or_refused (λ t. TurnsByCommand old c t new) (new.start ≡ old.start) (length new.lines ≤ length old.lines) known text result refused.Memory turns
-    (untold old new c (refusal_text refused.Memory) lawful did.start (record { more = map undoing undone; lines = did.lines }) (tells_memory old c want)) did.start is told instead
+undoes_or_refused old new c count undone known text result lawful want counted did turns is told instead =
+    told_or_refused (λ t. TurnsByCommand old c t new) (new.start ≡ old.start) (count ≡ 0) known text result refused.Memory turns
+    (λ none. untold old new c (refusal_text refused.Memory) lawful did.start (record { more = map undoing undone; lines = did.lines }) (tells_memory old c want) (few_lines did (sym counted ∙ none)))
+    did.start is told instead
+
+-- undoing so many events changes what stands, if there are any
+pub undoing_so_many : (old new : BenchView) (count : ℕ) (undone : List Stander) → count ≡ length undone → AreUndone old undone new → 0 < count → HasChanged old new
+undoing_so_many old new count undone counted did some = undoing_changes old new undone did (omega (arith, counted, some))
+
+-- as many events have names as were undone
+pub vec_count : {old new : BenchView} {P : Stander → Type 0} (names : Vec Pair Global) → (u : bench.IsUnwound old P names.items new) → names.len ≡ length u.undone
+vec_count names u =
+    let named = ap length u.named in
+    let undone = length-map u.undone (λ x. pair x.event) in
+    let counted = names.ok.0 in
+    omega (arith, named, undone, counted)

@@ -9,6 +9,7 @@ pub mod CommandReplies
 pub mod Ends
 pub mod Turns
 pub mod Longer
+pub mod Changed
 pub mod Unstepped
 pub mod Stepped
 pub mod Stepping

@@ -1,5 +1,5 @@
 -- Histories that grow.
-use Rattle.std.specs.Prelude.{◌≡◌, ◌<◌, List, ◌++◌, length}
+use Rattle.std.specs.Prelude.{◌≡◌, List, ◌++◌}
 use Rattle.ic_name.specs.declared.lines.Line.{Line}
 use Rattle.ic_journal.specs.Views.{BenchView}
 
@@ -7,7 +7,3 @@ use Rattle.ic_journal.specs.Views.{BenchView}
 pub record IsLonger (old new : BenchView) : Type 0 where
   pub more : List Line
   pub lines : new.lines ≡ old.lines ++ more
-
--- the history has more lines
-abbrev pub HasGrown : BenchView → BenchView → Type 0
-HasGrown old new = length old.lines < length new.lines

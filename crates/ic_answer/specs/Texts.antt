@@ -1,10 +1,12 @@
 -- The lines of answers.
-use Rattle.std.specs.Prelude.{ℕ, List, [], ◌++◌, length, codes}
+use Rattle.std.specs.Prelude.{ℕ, List, [], ◌++◌, length, codes, option_map, Option, None}
 use Rattle.std.specs.Fmt.{decimal}
 use Rattle.std.specs.List.{flat_map}
 use Rattle.ic_name.specs.NameTexts.{pair_text}
 use Rattle.ic_name.specs.declared.numbers.TheConstants.{COMMAND, DEEP, FULL, HISTORY_FULL, MEMORY, NOT_ACTIVE, NOT_STANDING, NO_MARK, TOO_MANY_MARKS}
 use Rattle.ic_name.specs.Events.{Pair, Event, pair}
+use Rattle.ic_journal.specs.declared.reducing.end.End.{End}
+use Rattle.ic_journal.specs.declared.reducing.end.End.TheVariants as ends
 use Rattle.ic_answer.specs.declared.answer.Answer.{Answer}
 use Rattle.ic_answer.specs.declared.answer.Answer.TheVariants as answers
 use Rattle.ic_answer.specs.declared.refused.TheConstants.{NO_PORT}
@@ -88,7 +90,23 @@ refusal_words Command = codes "command"
 refusal_words NoMark = codes "no mark"
 refusal_words TooManyMarks = codes "too many marks"
 
+-- what is told of a reduction that fired nothing
+abbrev pub unfired_text : End → List ℕ
+unfired_text ends.Normal = codes "reduced 0 normal\n"
+unfired_text ends.Budget = codes "reduced 0 budget\n"
+unfired_text ends.Limit = codes "reduced 0 limit\n"
+unfired_text ends.Memory = codes "refused 25 memory after 0\n"
+
 -- what is written in answer
 abbrev pub answer_text : Answer → List ℕ
 answer_text (answers.Text t) = t.items
 answer_text (answers.Refused r) = refusal_text r
+answer_text (answers.Unfired end) = unfired_text end
+answer_text (answers.Hindered t reason) = t.items
+
+-- what a session that explains itself adds to it
+abbrev pub reason_text : Answer → Option (List ℕ)
+reason_text (answers.Text t) = None
+reason_text (answers.Refused r) = None
+reason_text (answers.Unfired end) = None
+reason_text (answers.Hindered t reason) = option_map (λ r. r.items) reason

@@ -1,6 +1,7 @@
 ghost use Rattle.std.specs.Prelude.{◌≡◌, MatchResult, OnErr};
 ghost use Rattle.ic_answer.specs.Texts.{answer_text};
-ghost use Rattle.ic_answer.specs.Longer.{HasGrown, IsLonger};
+ghost use Rattle.ic_answer.specs.Changed.{HasChanged};
+ghost use Rattle.ic_answer.specs.Longer.{IsLonger};
 ghost use Rattle.ic_answer.specs.Turns.{TurnsByCommand};
 
 use crate::answer::Answer;
@@ -14,10 +15,10 @@ use ic_command::Command;
 use ic_journal::{Bench, Gate, LinkStore};
 use std::alloc::{AllocError, Global};
 
-/// Carries out a command over a bench. Where there is no memory for it, the answer is a refusal, and then neither net nor
-/// standing set have changed, but for what a `reduce` says that it has fired. An error only where the history has grown and
-/// there is no memory for the answer. The start stays the same in each case, and the history only grows. The gate sees each
-/// commit of a `reduce`.
+/// Carries out a command over a bench. If there is no memory for it, the answer is a refusal, and then neither net nor
+/// standing set have changed, except for what a `reduce` says that it has fired. An error only if other events stand than
+/// before and there is no memory for the answer. The start stays the same in each case, and the history only grows. The
+/// gate sees each commit of a `reduce`.
 pub fn carry_out<L: LinkStore, G: Gate>(
     alloc: Global,
     bench: &mut Bench<L>,
@@ -26,7 +27,7 @@ pub fn carry_out<L: LinkStore, G: Gate>(
 ) -> Result<Answer, AllocError>
     ensures turns { MatchResult result (λ answer. TurnsByCommand bench.old command (answer_text answer) bench.new) (λ _. bench.new.start ≡ bench.old.start) }
     ensures lines { IsLonger bench.old bench.new }
-    ensures grown { OnErr result (HasGrown bench.old bench.new) }
+    ensures changed { OnErr result (HasChanged bench.old bench.new) }
 {
     match command {
         Command::Nothing => Ok(Answer::Text(Vec::new(alloc))),

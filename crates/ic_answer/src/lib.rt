@@ -28,7 +28,7 @@ pub use causes::tell_causes;
 pub use commands::carry_out;
 pub use dependents::tell_dependents;
 pub use histories::tell_history;
-pub use reducing::end_text;
+pub use reducing::end_answer;
 pub use refused::Refused;
 pub use rules::RULES;
 pub use stepping::step_often;

@@ -3,7 +3,8 @@ ghost use Rattle.std.specs.Fmt.{decimal};
 ghost use Rattle.std.specs.List.{flat_map};
 ghost use Rattle.ic_command.specs.declared.command.Command.TheVariants.{UndoAll, Unwind};
 ghost use Rattle.ic_answer.specs.Texts.{answer_text, pair_line, undone_all_text};
-ghost use Rattle.ic_answer.specs.Longer.{HasGrown, IsLonger};
+ghost use Rattle.ic_answer.specs.Changed.{HasChanged};
+ghost use Rattle.ic_answer.specs.Longer.{IsLonger};
 ghost use Rattle.ic_answer.specs.Turns.{TurnsByCommand};
 
 use crate::answer::Answer;
@@ -15,8 +16,7 @@ use ic_name::EventName;
 use ic_undo::{UndoAllFault, UnwindFault, clear, unwind};
 use std::alloc::{AllocError, Global};
 
-/// Undoes an event with all that rests on it. An error where lines were added and there is no memory to tell what
-/// was undone.
+/// Undoes an event with all that rests on it. An error if events were undone and there is no memory to tell which.
 pub(crate) fn undo_with_dependents<L: LinkStore>(
     alloc: Global,
     bench: &mut Bench<L>,
@@ -24,40 +24,39 @@ pub(crate) fn undo_with_dependents<L: LinkStore>(
 ) -> Result<Answer, AllocError>
     ensures turns { MatchResult result (λ answer. TurnsByCommand bench.old (Unwind event.now) (answer_text answer) bench.new) (λ _. bench.new.start ≡ bench.old.start) }
     ensures lines { IsLonger bench.old bench.new }
-    ensures grown { OnErr result (HasGrown bench.old bench.new) }
+    ensures changed { OnErr result (HasChanged bench.old bench.new) }
 {
     bench.lawful();
     let Some(id) = bench.event(event) else {
         return Ok(Answer::Refused(Refused::NotStanding));
     };
-    let lines = bench.lines();
     let unwound = unwind(alloc, bench, id);
     bench.lawful();
     match unwound {
-        Ok(names) => { text_or_refused(unwound_text(alloc, &names), bench, lines, Refused::Memory) }
+        Ok(names) => {
+            let text = unwound_text(alloc, &names);
+            text_or_refused(text, names.len(), Refused::Memory)
+        }
         Err(UnwindFault::NotStanding) => Ok(Answer::Refused(Refused::NotStanding)),
         Err(UnwindFault::HistoryFull) => Ok(Answer::Refused(Refused::HistoryFull)),
         Err(UnwindFault::Memory) => Ok(Answer::Refused(Refused::Memory)),
     }
 }
 
-/// Undoes all events. An error where lines were added and there is no memory to tell how many events were undone.
+/// Undoes all events. An error if events were undone and there is no memory to tell how many.
 pub(crate) fn undo_everything<L: LinkStore>(
     alloc: Global,
     bench: &mut Bench<L>,
 ) -> Result<Answer, AllocError>
     ensures turns { MatchResult result (λ answer. TurnsByCommand bench.old UndoAll (answer_text answer) bench.new) (λ _. bench.new.start ≡ bench.old.start) }
     ensures lines { IsLonger bench.old bench.new }
-    ensures grown { OnErr result (HasGrown bench.old bench.new) }
+    ensures changed { OnErr result (HasChanged bench.old bench.new) }
 {
     bench.lawful();
-    let lines = bench.lines();
     let cleared = clear(bench);
     bench.lawful();
     match cleared {
-        Ok(count) => {
-            text_or_refused(undone_all_text(alloc, count), bench, lines, Refused::Memory)
-        }
+        Ok(count) => text_or_refused(undone_all_text(alloc, count), count, Refused::Memory),
         Err(UndoAllFault::HistoryFull) => Ok(Answer::Refused(Refused::HistoryFull)),
         Err(UndoAllFault::Memory) => Ok(Answer::Refused(Refused::Memory)),
     }

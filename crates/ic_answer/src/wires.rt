@@ -117,7 +117,7 @@ fn head_of(
 }
 
 /// Puts a port at the end: an agent and the number of its port, or a free name.
-fn push_port(
+pub fn push_port(
     alloc: Global,
     names: &Texts,
     text: &mut Vec<u8>,

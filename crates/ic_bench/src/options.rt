@@ -28,7 +28,7 @@ pub struct Options {
 }
 
 impl Options {
-    /// How the session is run. One at a terminal explains itself, too, and goes on behind a net that was refused.
+    /// How the session is run. One at a terminal explains itself, too, and goes on after a net that was refused.
     pub fn mode(self) -> Mode
         ensures { result ≡ mode_of self }
     {

@@ -21,7 +21,7 @@ use clap::Error;
 use clap::error::ErrorKind;
 use ic_command::write_reply;
 use ic_session::{Fault, Gate, MAX_READS, MAX_WORKERS, Setting, Status, run_in, run_quietly};
-use std::alloc::{AllocError, Global};
+use std::alloc::Global;
 use std::convert::AsStr;
 use std::fs::Files;
 use std::io;
@@ -94,12 +94,8 @@ fn run_files<R: Read, W: Write, E: Write, T: Threads + Wait + Sync, G: Gate, F: 
     let options = asked.options;
     let files = &asked.files;
     let mut sources = Sources::new(host.alloc, host.files, files, reader, options.interactive);
-    let ahead = match read_ahead(&mut sources, options) {
-        Ok(lines) => lines,
-        Err(_) => return fail(Fault::Memory, errors),
-    };
-    let setting = setting_of(host, options, ahead);
-    match session(&setting, &mut sources, writer, errors) {
+    let ahead = sources.read_ahead(host.alloc);
+    match session(host, options, ahead, &mut sources, writer, errors) {
         Ok(status) => session_status(status),
         Err(fault) => {
             if fault == Fault::Read {
@@ -125,65 +121,38 @@ fn run<R: Read, W: Write, E: Write, T: Threads + Wait + Sync, G: Gate, F: Files>
     requires { (0 < options.workers) × (options.workers ≤ MAX_WORKERS) }
     ensures { RunsSession options (R.remaining reader.old) (record { before = W.contents writer.old; after = W.contents writer.new }) (record { before = E.contents errors.old; after = E.contents errors.new }) result }
 {
-    let setting = setting_of(host, options, 0);
-    match session(&setting, reader, writer, errors) {
+    match session(host, options, 0, reader, writer, errors) {
         Ok(status) => session_status(status),
         Err(fault) => fail(fault, errors),
     }
 }
 
-/// Reads ahead what a session at a terminal reads from files, and answers how many lines end there. An error where memory runs out.
-fn read_ahead<F: Files, R: Read>(
-    sources: &mut Sources<'_, F, R>,
-    options: Options,
-) -> Result<u64, AllocError> {
-    if options.interactive {
-        sources.read_ahead()
-    } else {
-        Ok(0)
-    }
-}
-
-/// What a session with these options is run on, of which so many lines were read ahead.
-fn setting_of<'a, T, G, F>(
-    host: &Host<'a, T, G, F>,
+/// Runs a session over an input, of which so many lines were read ahead, and answers how it ended.
+fn session<R: Read, W: Write, E: Write, T: Threads + Wait + Sync, G: Gate, F: Files>(
+    host: &Host<'_, T, G, F>,
     options: Options,
     ahead: u64,
-) -> Setting<'a, T, G>
-    ensures { result.mode ≡ mode_of options }
-{
-    Setting {
-        threads: host.threads,
-        alloc: host.alloc,
-        gate: host.gate,
-        mode: options.mode(),
-        prompts: options.prompts(ahead),
-    }
-}
-
-/// Runs a session over an input, and answers how it ended.
-fn session<R: Read, W: Write, E: Write, T: Threads + Wait + Sync, G: Gate>(
-    setting: &Setting<'_, T, G>,
     reader: &mut R,
     writer: &mut W,
     errors: &mut E,
 ) -> Result<Status, Fault>
-    requires { (0 < setting.now.mode.workers) × (setting.now.mode.workers ≤ MAX_WORKERS) }
-    ensures wrote { IfOk result (λ status. IfSome (R.remaining reader.old) (λ bytes. Writes setting.now.mode bytes status (W.contents writer.old) (W.contents writer.new))) }
-    ensures began { OnErr result (IfSome (R.remaining reader.old) (λ bytes. (text : List ℕ) × IsBegun setting.now.mode bytes text × Appends (W.contents writer.old) (W.contents writer.new) text)) }
-    ensures silent { setting.now.mode.explains ≡ false → E.contents errors.new ≡ E.contents errors.old }
+    requires { (0 < options.workers) × (options.workers ≤ MAX_WORKERS) }
+    ensures wrote { IfOk result (λ status. IfSome (R.remaining reader.old) (λ bytes. Writes (mode_of options) bytes status (W.contents writer.old) (W.contents writer.new))) }
+    ensures began { OnErr result (IfSome (R.remaining reader.old) (λ bytes. (text : List ℕ) × IsBegun (mode_of options) bytes text × Appends (W.contents writer.old) (W.contents writer.new) text)) }
+    ensures silent { (mode_of options).explains ≡ false → E.contents errors.new ≡ E.contents errors.old }
 {
-    if setting.mode.explains {
-        return run_in(setting, reader, writer, errors);
+    let mode = options.mode();
+    if mode.explains {
+        let setting = Setting {
+            threads: host.threads,
+            alloc: host.alloc,
+            gate: host.gate,
+            mode,
+            prompts: options.prompts(ahead),
+        };
+        return run_in(&setting, reader, writer, errors);
     }
-    run_quietly(
-        setting.threads,
-        setting.alloc,
-        reader,
-        writer,
-        setting.mode,
-        MAX_READS,
-    )
+    run_quietly(host.threads, host.alloc, reader, writer, mode, MAX_READS)
 }
 
 /// Says that a file can't be read, and answers the status.

@@ -2,7 +2,7 @@ ghost use Rattle.std.specs.Prelude.{◌≡◌, ◌≤◌, length, IfOk, IfSome};
 ghost use Rattle.std.specs.Io.{ReadsAtMost};
 
 use ic_session::MAX_READS;
-use std::alloc::{AllocError, Global};
+use std::alloc::Global;
 use std::fs::{Files, OpenOptions};
 use std::io;
 use std::io::Read;
@@ -22,7 +22,7 @@ enum Open<F> {
 }
 
 /// The files of a command line, read one after the other as one input. `-` is the standard input. A file is opened when the one
-/// before it has ended. Those in front of the standard input may be read ahead.
+/// before it has ended. Those before the standard input may be read ahead.
 #[derive(Drop)]
 pub struct Sources<'a, F: Files, R: Read> {
     files: &'a F,
@@ -63,22 +63,39 @@ impl<'a, F: Files, R: Read> Sources<'a, F, R> {
         }
     }
 
-    /// Reads the files in front of the standard input ahead, and answers how many lines end in them: how many aren't typed. If a
-    /// file can't be read, no line is typed, and the answer is the greatest number. An error where memory runs out.
-    pub fn read_ahead(&mut self) -> Result<u64, AllocError> {
+    /// Reads the files before the standard input ahead, if that comes last, and answers how many lines end in them: how many
+    /// aren't typed. If a file can't be read, no line is typed, and the answer is the greatest number. If memory runs out, the
+    /// rest is read later.
+    pub fn read_ahead(&mut self, alloc: Global) -> u64 {
+        if !self.ends_with_input {
+            return 0;
+        }
+        let mut ahead = Vec::new(alloc);
         let mut chunk = [0u8; CHUNK];
         for _read in 0..MAX_READS {
+            if ahead.reserve(CHUNK).is_err() {
+                break;
+            }
             match self.read_file(&mut chunk) {
-                Ok(Some(count)) => self.ahead.extend_from_slice(&chunk[..count])?,
+                Ok(Some(count)) => {
+                    let Ok(()) = ahead.extend_from_slice(&chunk[..count]) else {
+                        unreachable!()
+                    };
+                }
                 Ok(None) => break,
                 Err(error) => {
                     self.failed = Some(error);
-                    return Ok(u64::MAX);
+                    break;
                 }
             }
         }
-        let feeds = self.ahead.iter().filter(|byte| **byte == b'\n').count();
-        Ok(feeds as u64)
+        let feeds = ahead.iter().filter(|byte| **byte == b'\n').count();
+        self.taken = 0;
+        self.ahead = ahead;
+        if self.failed.is_some() {
+            return u64::MAX;
+        }
+        feeds as u64
     }
 
     /// Reads on from a file, or opens the next one, of which nothing is read yet. `None` where the standard input comes, or

@@ -14,7 +14,7 @@ use std::alloc::{AllocError, Global};
 pub enum Asked {
     /// What it says alone.
     Alone(Request),
-    /// To absorb the events that so many lines behind it list.
+    /// To absorb the events that so many lines after it list.
     Absorb(u32),
 }
 

@@ -40,7 +40,7 @@ fn listed_in(alloc: Global, body: &[u8]) -> Result<Option<EventName>, AllocError
     event_of(alloc, first, second)
 }
 
-/// Whether there are no words behind the names, or those of a rank.
+/// Whether there are no words after the names, or those of a rank.
 fn is_rank_part(alloc: Global, behind: &[u8]) -> Result<bool, AllocError>
     ensures { IfOk result (λ is. IsTrue is ↔ IsRankPart (words behind.now)) }
 {

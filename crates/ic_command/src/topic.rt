@@ -5,15 +5,15 @@ use crate::words::next_word;
 pub enum Topic {
     /// What stands alone.
     Alone,
-    /// What has the names of two agents behind it.
+    /// What has the names of two agents after it.
     Pair,
-    /// What has a number behind it.
+    /// What has a number after it.
     Number,
-    /// What has the name of a mark behind it.
+    /// What has the name of a mark after it.
     Mark,
-    /// What has a port of an agent or a free name behind it.
+    /// What has a port of an agent or a free name after it.
     Place,
-    /// What has the number of lines behind it, and these lines.
+    /// What has the number of lines after it, and these lines.
     List,
     /// No word that anything begins with.
     Unknown,
@@ -27,13 +27,13 @@ const ALONE: [&str; 12] = [
     "help", "new", "quit",
 ];
 
-/// The words that have the names of two agents behind them.
+/// The words that have the names of two agents after them.
 const PAIRED: [&str; 5] = ["fire", "undo", "why", "unwind", "dependents"];
 
-/// The words that have a number behind them.
+/// The words that have a number after them.
 const COUNTED: [&str; 3] = ["reduce", "step", "unstep"];
 
-/// The words that have the name of a mark behind them.
+/// The words that have the name of a mark after them.
 const MARKED: [&str; 2] = ["mark", "back"];
 
 /// What a line is about.

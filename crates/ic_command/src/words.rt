@@ -30,7 +30,7 @@ fn solids(bytes: &[u8]) -> usize
     bytes.iter().take_while(|byte| is_solid(**byte)).count()
 }
 
-/// The first word of a line, and what stands behind it.
+/// The first word of a line, and what stands after it.
 pub fn next_word(line: &[u8]) -> Option<(&[u8], &[u8])>
     ensures { MatchOption result (words line.now ≡ []) (λ x. words line.now ≡ x.0.now ∷ words x.1.now) }
 {

@@ -1,5 +1,6 @@
 -- What a desk answers to absorbing events.
-use Rattle.std.proofs.Common.{◌≡◌, ◌≤◌, ℕ, List, [], length, Result, Err, IfErr, IfOk, OnErr, refl, sym, ap, subst, ◌∙◌}
+use Rattle.std.proofs.Common.{◌≡◌, ◌≤◌, ℕ, List, [], length, map, Result, Ok, Err, IfErr, IfOk, OnErr, refl, sym, ap, subst, arith, length-append, ◌∙◌}
+use Rattle.std.proofs.lemmas.List.{length-map}
 use Rattle.std.specs.Prelude.{MatchResult}
 use Rattle.std.specs.declared.alloc.AllocError.{AllocError}
 use Rattle.std.specs.Global.{Vec}
@@ -8,12 +9,13 @@ use Rattle.ic_name.specs.declared.lines.Reply.TheVariants as reply
 use Rattle.ic_journal.specs.Views.{BenchView}
 use Rattle.ic_journal.specs.Benches.{IsBench}
 use Rattle.ic_undo.specs.Absorbing as bench
+use Rattle.ic_undo.specs.GoingBack.{firing}
 use Rattle.ic_undo.specs.declared.faults.AbsorbFault.{AbsorbFault}
 use Rattle.ic_undo.specs.declared.faults.AbsorbFault.TheVariants as fault
+use Rattle.ic_undo.specs.declared.obstacle.Obstacle.{Obstacle}
 use Rattle.ic_command.specs.declared.request.Request.TheVariants.{Absorb}
 use Rattle.ic_answer.specs.declared.answer.Answer.{Answer}
 use Rattle.ic_answer.specs.declared.refused.Refused.TheVariants.{Deep, Full, HistoryFull, Memory}
-use Rattle.ic_answer.specs.Longer.{IsLonger}
 use Rattle.ic_answer.specs.Texts.{answer_text, refusal_text}
 use Rattle.ic_answer.specs.Unwinding as undone
 use Rattle.ic_answer.proofs.UntoldTurns.{still_there, told_or_refused}
@@ -41,9 +43,9 @@ module _ (old new : BenchView) (ok : IsBench old) (lawful : IsBench new) (marks 
   }
 
   -- one of them can't come to stand
-  pub never_turns : (p : Pair) (text : List ℕ) → bench.AbsorbsNone old names.items (fault.NeverActive p) new → text ≡ never_text p
+  pub never_turns : (p : Pair) (why : Obstacle) (text : List ℕ) → bench.AbsorbsNone old names.items (fault.NeverActive p why) new → text ≡ never_text p
       → TurnsByRequest (desk_of old marks) (Absorb names) text (desk_of new marks)
-  never_turns p text (least, (came, none, t)) told = record {
+  never_turns p why text (least, (came, none, obstacle, t)) told = record {
     start = t.same.start;
     replies = λ st at. (
         let c = comes_and_goes old new ok lawful names.items st.bench at.bench came [] t in
@@ -91,22 +93,36 @@ module _ (old new : BenchView) (ok : IsBench old) (lawful : IsBench new) (marks 
         );
   }
 
-  -- what is told of it, or a refusal where no line was added
-  pub absorbs_or_refused : (known : List ℕ) (text : Result (Vec ℕ) AllocError) (result : Result Answer AllocError) → bench.Fits old names.items
-      → new.start ≡ old.start → IsLonger old new → TurnsByRequest (desk_of old marks) (Absorb names) known (desk_of new marks) → IfOk text (λ t. t.items ≡ known)
-      → IfOk text (λ t. IfOk result (λ a. answer_text a ≡ t.items))
-      → OnErr text (IfOk result (λ a. (answer_text a ≡ refusal_text Memory) × (length new.lines ≤ length old.lines)))
+  -- one of them can't come to stand, or no memory is left to tell which
+  pub never_or_refused : (p : Pair) (why : Obstacle) (text : Result (Vec ℕ) AllocError) (answer : List ℕ) → bench.AbsorbsNone old names.items (fault.NeverActive p why) new
+      → IfOk text (λ t. t.items ≡ never_text p) → IfOk text (λ t. answer ≡ t.items) → OnErr text (answer ≡ refusal_text Memory)
+      → TurnsByRequest (desk_of old marks) (Absorb names) answer (desk_of new marks)
+  never_or_refused p why (Ok t) answer h is told instead = never_turns p why answer h (told ∙ is)
+  never_or_refused p why (Err e) answer (least, (came, none, obstacle, t)) is told instead =
+      subst (λ x. TurnsByRequest (desk_of old marks) (Absorb names) x (desk_of new marks)) (sym instead) (absorb_wants (came, t))
+
+  -- what is told of absorbing so many events, or a refusal where there were none
+  pub absorbs_or_refused : (count : ℕ) (text : Result (Vec ℕ) AllocError) (result : Result Answer AllocError) → bench.Absorbs old names.items count new
+      → IfOk text (λ t. t.items ≡ absorbed_text count) → IfOk text (λ t. IfOk result (λ a. answer_text a ≡ t.items))
+      → OnErr text (IfOk result (λ a. (answer_text a ≡ refusal_text Memory) × (count ≡ 0)))
       → MatchResult result (λ a. TurnsByRequest (desk_of old marks) (Absorb names) (answer_text a) (desk_of new marks)) (λ _. new.start ≡ old.start)
-  absorbs_or_refused known text result room start longer turns is told instead =
-      told_or_refused (λ t. TurnsByRequest (desk_of old marks) (Absorb names) t (desk_of new marks)) (new.start ≡ old.start) (length new.lines ≤ length old.lines) known text result Memory
-      turns refused start is told instead
+  absorbs_or_refused count text result h is told instead =
+      told_or_refused (λ t. TurnsByRequest (desk_of old marks) (Absorb names) t (desk_of new marks)) (new.start ≡ old.start) (count ≡ 0) (absorbed_text count) text result Memory
+      (absorbed_turns count (absorbed_text count) h refl) refused h.fired.start is told instead
     where
-      refused : length new.lines ≤ length old.lines → TurnsByRequest (desk_of old marks) (Absorb names) (refusal_text Memory) (desk_of new marks)
-      refused few = record {
-        start = start;
+      few : count ≡ 0 → length new.lines ≤ length old.lines
+      few none =
+          let all = ap length h.fired.lines ∙ length-append old.lines (map firing h.came) in
+          let lines = length-map h.came firing in
+          let counted = h.fired_count in
+          omega (arith, none, all, lines, counted)
+
+      refused : count ≡ 0 → TurnsByRequest (desk_of old marks) (Absorb names) (refusal_text Memory) (desk_of new marks)
+      refused none = record {
+        start = h.fired.start;
         replies = λ st at. (
           st,
-          absorb_memory (record { fits = fits old new ok lawful names.items st.bench at.bench room; fired = runs.none }) (record { gone = []; backwards = refl; undid = undone.none }),
-          record { bench = still_there old new lawful start longer few st.bench at.bench; marks = at.marks },
+          absorb_memory (record { fits = fits old new ok lawful names.items st.bench at.bench h.fits; fired = runs.none }) (record { gone = []; backwards = refl; undid = undone.none }),
+          record { bench = still_there old new lawful h.fired.start (record { more = map firing h.came; lines = h.fired.lines }) (few none) st.bench at.bench; marks = at.marks },
         );
       }

@@ -13,3 +13,4 @@ pub mod AbsorbTurns
 pub mod DeskTellings
 pub use Rattle.ic_undo.proofs.Backs
 pub use Rattle.ic_undo.proofs.PairTests
+pub mod ChangedBenches

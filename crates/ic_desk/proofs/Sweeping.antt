@@ -1,8 +1,6 @@
 -- What is told of a desk whose reductions are sweeps.
-use Rattle.std.proofs.Common.{◌≡◌, ℕ, ◌<◌, ◌≤◌, List, length, Result, Ok, IfOk, OnErr, Vec, Global}
-use Rattle.std.specs.declared.alloc.AllocError.{AllocError}
+use Rattle.std.proofs.Common.{◌≡◌, ℕ, ◌<◌, List, sym, subst}
 use Rattle.ic_journal.specs.Views.{BenchView}
-use Rattle.ic_journal.specs.Benches.{IsBench}
 use Rattle.ic_journal.specs.declared.reducing.end.End.{End}
 use Rattle.ic_work.specs.Sweeps.{Sweeps}
 use Rattle.ic_command.specs.declared.command.Command.TheVariants.{Reduce}
@@ -14,7 +12,6 @@ use Rattle.ic_answer.specs.Ends.{end_text}
 use Rattle.ic_answer.specs.Texts.{answer_text, refusal_text}
 use Rattle.ic_answer.proofs.ReducingReplies.{reduce_wants}
 use Rattle.ic_answer.proofs.TurnSteps.{told_same}
-use Rattle.ic_answer.proofs.UntoldTurns.{untold, told_or_refused}
 use Rattle.ic_desk.specs.ManyWorkers.{TurnsWith, as_one, swept}
 use Rattle.ic_desk.specs.Views.{NamedView, DeskView, TurnsByRequest}
 use Rattle.ic_desk.proofs.DeskTurns.{desk_of, bench_turns}
@@ -37,19 +34,12 @@ sweep_turns workers old new marks most n end many sweeps = record {
       );
 }
 
--- or it is refused, where no line was added
-pub sweep_or_refused : (workers : ℕ) (old new : BenchView) (marks : List NamedView) (most n : ℕ) (end : End) (text : Result (Vec ℕ Global) AllocError) (answer : Answer)
-    → 1 < workers → IsBench new → Sweeps old most n end new → IfOk text (λ t. t.items ≡ end_text n end)
-    → IfOk text (λ t. answer_text answer ≡ t.items) → OnErr text ((answer_text answer ≡ refusal_text MemoryBeforeReduce) × (length new.lines ≤ length old.lines))
+-- by the answer
+pub sweep_told : (workers : ℕ) (old new : BenchView) (marks : List NamedView) (most n : ℕ) (end : End) (answer : Answer)
+    → 1 < workers → Sweeps old most n end new → answer_text answer ≡ end_text n end
     → TurnsWith workers (desk_of old marks) (Bench (Reduce most)) (answer_text answer) (desk_of new marks)
-sweep_or_refused workers old new marks most n end text answer many lawful sweeps is told instead =
-    told_or_refused (λ t. TurnsWith workers (desk_of old marks) (Bench (Reduce most)) t (desk_of new marks)) (Unit {0}) (length new.lines ≤ length old.lines) (end_text n end) text (Ok answer)
-    MemoryBeforeReduce (sweep_turns workers old new marks most n end many sweeps) refused tt is told instead
-  where
-    refused : length new.lines ≤ length old.lines → TurnsWith workers (desk_of old marks) (Bench (Reduce most)) (refusal_text MemoryBeforeReduce) (desk_of new marks)
-    refused few = as_with_one workers (desk_of old marks) (desk_of new marks) (Bench (Reduce most)) (refusal_text MemoryBeforeReduce)
-        (bench_turns old new marks (Reduce most) (refusal_text MemoryBeforeReduce) (untold old new (Reduce most) (refusal_text MemoryBeforeReduce) lawful sweeps.start
-        (record { more = sweeps.continues.added; lines = sweeps.continues.lines }) (reduce_wants old most) few))
+sweep_told workers old new marks most n end answer many sweeps told =
+    subst (λ t. TurnsWith workers (desk_of old marks) (Bench (Reduce most)) t (desk_of new marks)) (sym told) (sweep_turns workers old new marks most n end many sweeps)
 
 -- or there is no memory for one
 pub wanting_turns : (workers : ℕ) (old new : BenchView) (marks : List NamedView) (most : ℕ) → new ≡ old

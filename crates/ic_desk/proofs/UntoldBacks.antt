@@ -1,20 +1,17 @@
 -- Where there is no memory to tell of a way back on which nothing was done.
-use Rattle.std.proofs.Common.{◌≡◌, ◌≤◌, ℕ, List, [], ◌∷◌, ◌++◌, length, map, inl, Result, IfOk, OnErr, Vec, Global, refl, sym, ap, ap₂, subst, append-nil, length-append, arith, ◌∙◌}
+use Rattle.std.proofs.Common.{◌≡◌, ℕ, ◌+◌, List, [], ◌∷◌, length, inl, Result, IfOk, OnErr, Vec, Global, refl, sym, ap₂, subst, append-nil, arith, ◌∙◌}
 use Rattle.std.specs.Prelude.{MatchResult}
 use Rattle.std.specs.declared.alloc.AllocError.{AllocError}
 use Rattle.std.proofs.lemmas.Fmt.{decimal_digit}
-use Rattle.std.proofs.lemmas.List.{length-map}
 use Rattle.ic_name.specs.Events.{Event}
 use Rattle.ic_path.specs.Orders.{IsIn}
 use Rattle.ic_theory.specs.Starts.{Start}
 use Rattle.ic_theory.specs.Machine as machine
-use Rattle.ic_journal.specs.Rosters.{Stander}
 use Rattle.ic_journal.specs.Views.{BenchView}
 use Rattle.ic_journal.specs.Benches.{IsBench}
 use Rattle.ic_undo.specs.declared.faults.Counts.{Counts}
-use Rattle.ic_undo.specs.GoingBack.{Goes, IsBack, IsPartWay, firing}
+use Rattle.ic_undo.specs.GoingBack.{IsBack, IsPartWay}
 use Rattle.ic_undo.specs.Marks.{IsMark}
-use Rattle.ic_journal.specs.Undone.{undoing}
 use Rattle.ic_command.specs.declared.request.Request.TheVariants.{Back}
 use Rattle.ic_answer.specs.declared.answer.Answer.{Answer}
 use Rattle.ic_answer.specs.declared.refused.Refused.TheVariants.{MemoryBeforeBack}
@@ -28,21 +25,9 @@ use Rattle.ic_desk.proofs.BackReplies.{goes_back}
 use Rattle.ic_desk.proofs.DeskTurns.{desk_of, back_turns, part_way_turns}
 use Rattle.ic_desk.proofs.Marks.{noted}
 
--- nothing was undone and nothing fired where no line was added
-nothing_done : {old new : BenchView} {gone : List Stander} {came : List Event} {counts : Counts} → Goes old gone came counts new → length new.lines ≤ length old.lines
-    → (counts.undone ≡ 0) × (counts.fired ≡ 0)
-nothing_done {old} {new} {gone} {came} {counts} g few =
-    let all = length-append (old.lines ++ map undoing gone) (map firing came) in
-    let before = length-append old.lines (map undoing gone) in
-    let undone = length-map gone undoing in
-    let fired = length-map came firing in
-    let lines = lengths in
-    let one = g.undone_count in
-    let two = g.fired_count in
-    (omega (arith, few, all, before, undone, fired, lines, one), omega (arith, few, all, before, undone, fired, lines, two))
-  where
-    lengths : length new.lines ≡ length ((old.lines ++ map undoing gone) ++ map firing came)
-    lengths = ap length (g.fired.lines ∙ ap (λ ls. ls ++ map firing came) g.undone.lines)
+-- nothing was undone and nothing fired where there were none of either
+nothing_done : (counts : Counts) → counts.undone + counts.fired ≡ 0 → (counts.undone ≡ 0) × (counts.fired ≡ 0)
+nothing_done counts none = (omega (arith, none), omega (arith, none))
 
 -- a way back on which nothing is done is one on which memory may be wanting
 goes_nowhere : {s : Start} {st next : machine.State} {marked : List Event} {undone fired : ℕ} → GoesBack s st marked undone fired next → undone ≡ 0 → fired ≡ 0
@@ -76,21 +61,21 @@ module _ (old new : BenchView) (ok : IsBench old) (lawful : IsBench new) (marks 
   pub back_or_refused : (counts : Counts) (text : Result (Vec ℕ Global) AllocError) (result : Result Answer AllocError) → IsBack old x.mark counts new
       → IfOk text (λ t. t.items ≡ back_text name counts.undone counts.fired)
       → IfOk text (λ t. IfOk result (λ a. answer_text a ≡ t.items))
-      → OnErr text (IfOk result (λ a. (answer_text a ≡ refusal_text MemoryBeforeBack) × (length new.lines ≤ length old.lines)))
+      → OnErr text (IfOk result (λ a. (answer_text a ≡ refusal_text MemoryBeforeBack) × (counts.undone + counts.fired ≡ 0)))
       → MatchResult result (λ a. TurnsByRequest (desk_of old marks) (Back name) (answer_text a) (desk_of new marks)) (λ _. new.start ≡ old.start)
   back_or_refused counts text result b is told instead =
-      told_or_refused (λ t. TurnsByRequest (desk_of old marks) (Back name) t (desk_of new marks)) (new.start ≡ old.start) (length new.lines ≤ length old.lines)
+      told_or_refused (λ t. TurnsByRequest (desk_of old marks) (Back name) t (desk_of new marks)) (new.start ≡ old.start) (counts.undone + counts.fired ≡ 0)
       (back_text name counts.undone counts.fired) text result MemoryBeforeBack
       (back_turns old new ok lawful marks name x there named same k counts (back_text name counts.undone counts.fired) b refl) refused start is told instead
     where
       start : new.start ≡ old.start
       start = b.did.fired.start ∙ b.did.undone.start
 
-      refused : length new.lines ≤ length old.lines → TurnsByRequest (desk_of old marks) (Back name) (refusal_text MemoryBeforeBack) (desk_of new marks)
-      refused few = record {
+      refused : counts.undone + counts.fired ≡ 0 → TurnsByRequest (desk_of old marks) (Back name) (refusal_text MemoryBeforeBack) (desk_of new marks)
+      refused nothing = record {
         start = start;
         replies = λ st at. (
-            let none = nothing_done b.did few in
+            let none = nothing_done counts nothing in
             let own = subst (λ s. IsBack old (record { start = s; events = x.mark.events }) counts new) same b in
             let over = subst (λ s. IsMark (record { start = s; events = x.mark.events })) same k in
             let r = goes_back old ok x.mark.events over st.bench at.bench new lawful counts own in
@@ -103,12 +88,12 @@ module _ (old new : BenchView) (ok : IsBench old) (lawful : IsBench new) (marks 
   pub part_way_or_refused : (counts : Counts) (text : Result (Vec ℕ Global) AllocError) (result : Result Answer AllocError) → IsPartWay old x.mark counts new
       → IfOk text (λ t. t.items ≡ wanting_text counts.undone counts.fired)
       → IfOk text (λ t. IfOk result (λ a. answer_text a ≡ t.items))
-      → OnErr text (IfOk result (λ a. (answer_text a ≡ refusal_text MemoryBeforeBack) × (length new.lines ≤ length old.lines)))
+      → OnErr text (IfOk result (λ a. (answer_text a ≡ refusal_text MemoryBeforeBack) × (counts.undone + counts.fired ≡ 0)))
       → MatchResult result (λ a. TurnsByRequest (desk_of old marks) (Back name) (answer_text a) (desk_of new marks)) (λ _. new.start ≡ old.start)
   part_way_or_refused counts text result b is told instead =
-      told_or_refused (λ t. TurnsByRequest (desk_of old marks) (Back name) t (desk_of new marks)) (new.start ≡ old.start) (length new.lines ≤ length old.lines)
+      told_or_refused (λ t. TurnsByRequest (desk_of old marks) (Back name) t (desk_of new marks)) (new.start ≡ old.start) (counts.undone + counts.fired ≡ 0)
       (wanting_text counts.undone counts.fired) text result MemoryBeforeBack (on_way (wanting_text counts.undone counts.fired) refl)
-      (λ few. let none = nothing_done b.did few in on_way (refusal_text MemoryBeforeBack) (sym before_back ∙ ap₂ wanting_text (sym none.0) (sym none.1)))
+      (λ nothing. let none = nothing_done counts nothing in on_way (refusal_text MemoryBeforeBack) (sym before_back ∙ ap₂ wanting_text (sym none.0) (sym none.1)))
       (b.did.fired.start ∙ b.did.undone.start) is told instead
     where
       on_way : (t : List ℕ) → t ≡ wanting_text counts.undone counts.fired → TurnsByRequest (desk_of old marks) (Back name) t (desk_of new marks)

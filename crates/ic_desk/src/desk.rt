@@ -2,7 +2,8 @@ ghost use Rattle.std.specs.Prelude.{◌≡◌, ◌<◌, ◌≤◌, List, length,
 ghost use Rattle.ic_set.specs.Pairs.{AreActivePairs};
 ghost use Rattle.ic_set.specs.declared.pairs.ActivePair.{ActivePair as APair};
 ghost use Rattle.ic_journal.specs.Views.{set_of};
-ghost use Rattle.ic_answer.specs.Longer.{HasGrown, IsLonger};
+ghost use Rattle.ic_answer.specs.Changed.{HasChanged};
+ghost use Rattle.ic_answer.specs.Longer.{IsLonger};
 ghost use Rattle.ic_answer.specs.Texts.{answer_text};
 ghost use Rattle.ic_command.specs.declared.command.Command.TheVariants.{Reduce};
 ghost use Rattle.ic_command.specs.declared.request.Request.TheVariants as request;
@@ -15,7 +16,7 @@ use crate::fault::DeskFault;
 use crate::going_back::go_back;
 use crate::marking::mark_under;
 use crate::named_mark::NamedMark;
-use ic_answer::{Answer, Refused, carry_out, end_text, text_or_refused};
+use ic_answer::{Answer, Refused, carry_out, end_answer};
 use ic_command::{Command, Request};
 use ic_journal::{Bench, Gate, LinkStore, Store};
 use ic_start::Start;
@@ -66,9 +67,9 @@ impl<L: LinkStore> Desk<L> {
         Ok(pairs.len())
     }
 
-    /// Answers a request. Where there is no memory for it, the answer is a refusal, and then neither net, standing set nor
-    /// marks have changed, but for what the answer says. An error only where the history has grown and there is no memory for
-    /// the answer. The gate sees each commit of a `reduce`.
+    /// Answers a request. If there is no memory for it, the answer is a refusal, and then neither net, standing set nor
+    /// marks have changed, except for what the answer says. An error only if other events stand than before and there is no
+    /// memory for the answer. The gate sees each commit of a `reduce`.
     pub fn carry_out<G: Gate>(
         &mut self,
         alloc: Global,
@@ -76,7 +77,7 @@ impl<L: LinkStore> Desk<L> {
         gate: &G,
     ) -> Result<Answer, AllocError>
         ensures turns { IfOk result (λ answer. TurnsByRequest self.old request (answer_text answer) self.new) }
-        ensures grown { OnErr result (HasGrown self.old.bench self.new.bench) }
+        ensures changed { OnErr result (HasChanged self.old.bench self.new.bench) }
     {
         match request {
             Request::Bench(command) => carry_out_command(
@@ -97,8 +98,8 @@ impl Desk<Store> {
     /// Answers a request as `carry_out` does, but that a `reduce` by two workers or more, of 64 at most, is a sweep;
     /// the desk comes back with the answer.
     ///
-    /// `DeskFault::Memory` where the history has grown and there is no memory for the answer, and `DeskFault::Settle` where
-    /// the workers' passes aren't what the history says, which takes a `reduce` and two workers or more; the desk is gone then.
+    /// `DeskFault::Memory` if other events stand than before and there is no memory for the answer. `DeskFault::Settle` if
+    /// the workers' passes aren't what the history says, which takes a `reduce` and two workers or more. The desk is gone then.
     pub fn carry_out_with<T: Threads + Wait + Sync, G: Gate>(
         mut self,
         threads: &T,
@@ -126,8 +127,8 @@ impl Desk<Store> {
     /// Reduces the net by a sweep of so many workers, 2 to 64 of them, of at most so many events, 1 to 1,048,576; the marks
     /// stay. Where there is no memory for a sweep, the answer says so, and nothing has changed. The gate sees each commit.
     ///
-    /// `DeskFault::Memory` where the history has grown and there is no memory to tell how many events were fired, and
-    /// `DeskFault::Settle` where the workers' passes aren't what the history says.
+    /// `DeskFault::Memory` if events were fired and there is no memory to tell how many, and `DeskFault::Settle` if the
+    /// workers' passes aren't what the history says.
     pub fn sweep<T: Threads + Wait + Sync, G: Gate>(
         self,
         threads: &T,
@@ -141,13 +142,10 @@ impl Desk<Store> {
         ensures { IfOk result (λ r. TurnsWith workers self (request.Bench (Reduce most)) (answer_text r.1) r.0) }
     {
         let Desk { bench, marks } = self;
-        let lines = bench.lines();
         match sweep(threads, alloc, bench, workers, most, gate) {
             Ok(swept) => {
-                let text = end_text(alloc, swept.fired, swept.end);
+                let answer = end_answer(alloc, swept.fired, swept.end)?;
                 let bench = swept.bench;
-                bench.lawful();
-                let answer = text_or_refused(text, &bench, lines, Refused::MemoryBeforeReduce)?;
                 Ok((Desk { bench, marks }, answer))
             }
             Err(SweepFault::Memory(bench)) => {
@@ -169,7 +167,7 @@ fn carry_out_command<L: LinkStore, G: Gate>(
 ) -> Result<Answer, AllocError>
     ensures turns { MatchResult result (λ answer. TurnsByRequest (record { bench = bench.old; marks = marks.now }) (request.Bench command) (answer_text answer) (record { bench = bench.new; marks = marks.now })) (λ _. bench.new.start ≡ bench.old.start) }
     ensures lines { IsLonger bench.old bench.new }
-    ensures grown { OnErr result (HasGrown bench.old bench.new) }
+    ensures changed { OnErr result (HasChanged bench.old bench.new) }
 {
     carry_out(alloc, bench, command, gate)
 }

@@ -7,6 +7,7 @@ pub mod fault;
 mod going_back;
 mod marking;
 mod named_mark;
+mod obstacle_text;
 pub mod telling;
 mod texts;
 

@@ -1,5 +1,5 @@
 ghost use Rattle.std.specs.Prelude.{◌≡◌, ◌++◌, IfOk, OnErr, OnOk, map};
-ghost use Rattle.ic_answer.specs.Longer.{HasGrown};
+ghost use Rattle.ic_answer.specs.Changed.{HasChanged};
 ghost use Rattle.ic_answer.specs.Texts.{answer_text};
 ghost use Rattle.ic_command.specs.declared.question.Question.TheVariants.{Step};
 ghost use Rattle.ic_desk.specs.Questions.{Told, mark_line, marks_text};
@@ -18,11 +18,11 @@ use std::alloc::{AllocError, Global};
 impl<L: LinkStore> Desk<L> {
     /// Answers a question. Three questions change something: a step fires the active pair with the least lead as `fire`
     /// does, steps do so again and again, and an unstep undoes the event that was fired last as `undo` does. If there is no
-    /// memory for it, the answer is a refusal, and then nothing has changed; an error only where the history has grown and
-    /// there is no memory for the answer.
+    /// memory for it, the answer is a refusal, and then nothing has changed; an error only if other events stand than
+    /// before and there is no memory for the answer.
     pub fn tell(&mut self, alloc: Global, question: Question) -> Result<Answer, AllocError>
         ensures told { IfOk result (λ answer. Told self.old question (answer_text answer) self.new) }
-        ensures grown { OnErr result (HasGrown self.old.bench self.new.bench) }
+        ensures changed { OnErr result (HasChanged self.old.bench self.new.bench) }
     {
         match question {
             Question::Agents => Ok(Answer::text_or_memory(tell_agents(alloc, &self.bench))),
@@ -50,7 +50,7 @@ impl<L: LinkStore> Desk<L> {
     /// Fires the active pair with the least lead, as `fire` does with its name.
     fn step(&mut self, alloc: Global) -> Result<Answer, AllocError>
         ensures told { IfOk result (λ answer. Told self.old Step (answer_text answer) self.new) }
-        ensures grown { OnErr result (HasGrown self.old.bench self.new.bench) }
+        ensures changed { OnErr result (HasChanged self.old.bench self.new.bench) }
     {
         self.bench.lawful();
         let Some(pair) = self.bench.least_active() else {

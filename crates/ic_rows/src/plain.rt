@@ -29,7 +29,7 @@ pub fn run_plain_session(
     Ok(Status::Ended)
 }
 
-/// The net text and the commands of a session: what stands in front of its first line `---`, and what stands behind it.
+/// The net text and the commands of a session: what stands before its first line `---`, and what stands after it.
 fn parts(input: &[u8]) -> (&[u8], &[u8]) {
     let mut end = 0usize;
     for line in input.split(|byte| *byte == b'\n') {

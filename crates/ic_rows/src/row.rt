@@ -32,7 +32,7 @@ pub struct Row<'a> {
     ghost in_range: { (0 < workers) × (workers ≤ 64) },
 }
 
-/// The row of a line: its columns are divided by tabs, and the one behind the stores says what the session shows.
+/// The row of a line: its columns are divided by tabs, and the one after the stores says what the session shows.
 pub fn row_of(line: &str) -> Option<Row<'_>> {
     let mut columns = line.split('\t');
     let name = columns.next()?;

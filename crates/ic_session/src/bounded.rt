@@ -162,7 +162,7 @@ pub fn run_on<R: Read, W: Write, E: Write, T: Threads + Wait + Sync, G: Gate>(
     }
 }
 
-/// Says behind which line a session broke off, where it explains itself.
+/// Says after which line a session broke off, where it explains itself.
 fn tell<E: Write>(alloc: Global, errors: &mut E, place: Place, fault: Fault, mode: Mode) {
     if mode.explains {
         explain_fault(alloc, errors, place, fault);

@@ -11,6 +11,6 @@ pub struct Mode {
     pub stops: bool,
     /// Whether each command stands before its answer.
     pub echoes: bool,
-    /// Whether the session goes on with another net behind one that was refused.
+    /// Whether the session goes on with another net after one that was refused.
     pub retries: bool,
 }

@@ -10,10 +10,10 @@ use ic_text::grammar::limits::MAX_TEXT;
 use std::alloc::{AllocError, Global};
 use std::io::{Read, Write};
 
-/// The net text of a session: all in front of the bar, or all that is left.
+/// The net text of a session: all before the bar, or all that is left.
 #[derive(Drop)]
 pub enum NetInput {
-    /// It was read, and the bar behind it, if there is one.
+    /// It was read, and the bar after it, if there is one.
     Whole { text: Vec<u8>, barred: bool },
     /// It has more bytes than a net text may have. Reading stops where that is known.
     TooLong,
@@ -26,7 +26,7 @@ fn is_bar(line: &[u8]) -> bool
     matches!(line, b"---" | b"---\r")
 }
 
-/// Reads the net text of a session, and the bar behind it. It asks for each line if the session does. `IoFault::Read` where the
+/// Reads the net text of a session, and the bar after it. It asks for each line if the session does. `IoFault::Read` where the
 /// reader fails or no call of it is left, `IoFault::Memory` where there is no memory.
 pub fn read_net_text<R: Read, E: Write>(
     alloc: Global,

@@ -224,7 +224,7 @@ fn answer<W: Write, E: Write, T: Threads + Wait + Sync, G: Gate>(
     let (after, answer) = meet(setting, desk, demand)?;
     output.reply(writer, answer.bytes())?;
     if setting.mode.explains {
-        explain_answer(setting.alloc, errors, place, line, answer.bytes());
+        explain_answer(setting.alloc, errors, place, line, &answer);
     }
     Ok((after, stops_at(setting.mode, answer.bytes())))
 }

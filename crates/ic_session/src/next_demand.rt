@@ -21,11 +21,11 @@ use ic_command::{
 use std::alloc::{AllocError, Global};
 use std::io::{Read, Write};
 
-/// What the next line of a session asks for, with the lines behind it that it takes.
+/// What the next line of a session asks for, with the lines after it that it takes.
 #[derive(Drop)]
 pub(crate) enum NextDemand {
     Demand(Demand),
-    /// It ends what the session does with this net: another net comes behind it.
+    /// It ends what the session does with this net: another net comes after it.
     Renewal,
     /// The input has ended, or the line ends the session.
     Done,
@@ -91,7 +91,7 @@ fn renews(line: &[u8], mode: Mode) -> bool
     mode.explains && is_new(line)
 }
 
-/// What a line that was taken asks for, with the lines behind it that it takes.
+/// What a line that was taken asks for, with the lines after it that it takes.
 fn demand_at<R: Read>(
     alloc: Global,
     input: &mut Input,
@@ -127,7 +127,7 @@ fn question_at(alloc: Global, line: &[u8], mode: Mode) -> Result<Option<Question
     }
 }
 
-/// The request of a line that was taken, with the lines behind it that it takes.
+/// The request of a line that was taken, with the lines after it that it takes.
 fn request_at<R: Read>(
     alloc: Global,
     input: &mut Input,

@@ -3,30 +3,33 @@ use crate::fault::Fault;
 use crate::net_notes::net_note;
 use crate::place::{ListFault, Place};
 use ic_command::{write_reply, wrong_in};
+use ic_desk::Answer;
 use ic_name::numbers::COMMAND;
 use ic_text::Refusal;
 use std::alloc::{AllocError, Global};
 use std::io::Write;
 
-/// Says what is wrong with a request that was answered so, if it was refused, and what would be right. The line is the one that
-/// asked, unless it listed events on further lines. If memory runs out or the writer fails, nothing is said.
+/// Says what is wrong with a request that was answered so, if it was refused, and what would be right, with the reason that the
+/// answer tells. The line is the one that asked, unless it listed events on further lines. If memory runs out or the writer
+/// fails, nothing is said.
 pub(crate) fn explain_answer<E: Write>(
     alloc: Global,
     errors: &mut E,
     place: Place,
     line: &[u8],
-    answer: &[u8],
+    answer: &Answer,
 ) {
-    let Some(number) = number_of(answer) else {
+    let Some(number) = number_of(answer.bytes()) else {
         return;
     };
     if number == COMMAND {
         if let Ok(Some(said)) = wrong_command(alloc, place, line) {
-            return say(errors, line_note(alloc, place.line, &said));
+            return say(errors, line_note(alloc, place.line, &said, None));
         }
     }
     if let Some(said) = advice(place.topic, number) {
-        say(errors, line_note(alloc, place.line, said));
+        let note = line_note(alloc, place.line, said, answer.reason());
+        say(errors, note);
     }
 }
 
@@ -54,16 +57,16 @@ pub(crate) fn explain_net<E: Write>(
     say(errors, net_note(alloc, before, text, refusal));
 }
 
-/// Says behind which line a session broke off.
+/// Says after which line a session broke off.
 pub(crate) fn explain_fault<E: Write>(alloc: Global, errors: &mut E, place: Place, fault: Fault) {
     let said = match fault {
-        Fault::Read => "the input can't be read behind this line; all before it was answered",
+        Fault::Read => "the input can't be read after this line; all lines up to it were answered",
         Fault::Write => "the answer to this line can't be written",
         Fault::Memory => "there is no memory for this line, or to answer what it changed",
         Fault::Settle =>
             "what the workers say that they did for this line isn't what the history says",
     };
-    say(errors, line_note(alloc, place.line, said));
+    say(errors, line_note(alloc, place.line, said, None));
 }
 
 /// Writes a note, if there is one, as far as that is possible.
@@ -73,7 +76,18 @@ fn say<E: Write>(errors: &mut E, note: Result<Vec<u8>, AllocError>) {
     }
 }
 
-/// What is said of a line.
-fn line_note(alloc: Global, line: u64, said: &str) -> Result<Vec<u8>, AllocError> {
-    Ok(format!(in alloc; "line {}: {}\n", line, said)?.into_bytes())
+/// What is said of a line, and the reason for it, if there is one.
+fn line_note(
+    alloc: Global,
+    line: u64,
+    said: &str,
+    reason: Option<&[u8]>,
+) -> Result<Vec<u8>, AllocError> {
+    let mut note = format!(in alloc; "line {}: {}", line, said)?.into_bytes();
+    if let Some(reason) = reason {
+        note.extend_from_slice(b": ")?;
+        note.extend_from_slice(reason)?;
+    }
+    note.push(b'\n')?;
+    Ok(note)
 }

@@ -31,7 +31,7 @@ impl Place {
         }
     }
 
-    /// Behind a net text and the line that ends it.
+    /// After a net text and the line that ends it.
     pub(crate) fn pass_net(&mut self, text: &[u8]) {
         let feeds = text.iter().filter(|byte| **byte == b'\n').count();
         self.taken = self.taken.saturating_add(feeds as u64).saturating_add(1);
@@ -60,12 +60,12 @@ impl Place {
         self.topic = Topic::TooLong;
     }
 
-    /// Behind a line more of a list.
+    /// After a line more of a list.
     pub(crate) fn pass_listed(&mut self) {
         self.taken = self.taken.saturating_add(1);
     }
 
-    /// Behind a line more of a list that lists no event.
+    /// After a line more of a list that lists no event.
     pub(crate) fn pass_unlisted(&mut self) {
         self.taken = self.taken.saturating_add(1);
         if self.list_fault.is_none() {

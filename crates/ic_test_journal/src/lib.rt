@@ -8,4 +8,6 @@ mod net;
 #[cfg(test)]
 mod orders;
 #[cfg(test)]
+mod places;
+#[cfg(test)]
 mod undo;

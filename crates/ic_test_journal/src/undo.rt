@@ -2,4 +2,5 @@
 
 mod absorbing;
 mod going_back;
+mod obstacles;
 mod unwinding;

@@ -23,14 +23,17 @@ use Rattle.ic_journal.specs.Views.{BenchView, set_of}
 use Rattle.ic_journal.proofs.MachineSteps.{events_at}
 use Rattle.ic_journal.proofs.SameSets.{full-alike}
 use Rattle.ic_undo.specs.declared.faults.AbsorbFault.TheVariants as absorb
+use Rattle.ic_undo.specs.declared.obstacle.Obstacle.{Obstacle}
 use Rattle.ic_undo.specs.declared.turns.Hindrance.{Hindrance}
 use Rattle.ic_undo.specs.declared.turns.Hindrance.TheVariants as hindrance
 use Rattle.ic_undo.specs.Absorbing.{Fits, Absorbs, AbsorbsNone, NoneIsNext, TakesBack, refusing}
+use Rattle.ic_undo.specs.Obstacles.{IsObstacle}
 use Rattle.ic_journal.specs.Undone.{AreIdsOfFree, AreUndoneFrom}
 use Rattle.ic_undo.specs.Coming.{Comes, NoneListed, HindersNext, fault_from}
 use Rattle.ic_undo.specs.Ready.{TellsMissing}
 use Rattle.ic_undo.proofs.ComingEvents.{none_came, stands_now, came_length, next_listed, comes_from}
 use Rattle.ic_undo.proofs.MissingNames.{all_stand, least_never}
+use Rattle.ic_undo.proofs.Obstacles.{obstacle-alike}
 use Rattle.ic_undo.proofs.StayedBenches.{unchanged, none_undone, free_same}
 use Rattle.ic_undo.proofs.TakenBack.{taken_back}
 use Rattle.ic_set.proofs.Admissions.{same_self}
@@ -86,13 +89,15 @@ module _ (old start : BenchView) (names : List Pair) (lawful : IsBench old) (sta
       fired_count = counted ∙ sym (came_length old mid names ids whole);
     }
 
-    -- else the least one that is missing is never active
-    pub never_absorbed : (new : BenchView) → IsBench new → AreUndoneFrom mid ids new → (p : Pair) → test p ≡ true → ((q : Pair) → test q ≡ true → is_gt (pair_cmp p q) ≡ false) → AbsorbsNone old names (absorb.NeverActive p) new
-    never_absorbed new after u p there least = (
+    -- else the least one that is missing is never active, and what is in its way there is so over all that stood and came
+    pub never_absorbed : (new : BenchView) → IsBench new → AreUndoneFrom mid ids new → (p : Pair) (why : Obstacle) → test p ≡ true → ((q : Pair) → test q ≡ true → is_gt (pair_cmp p q) ≡ false)
+        → IsObstacle mid.start (standing (set_of mid)) p why → AbsorbsNone old names (absorb.NeverActive p why) new
+    never_absorbed new after u p why there least obstacle = (
       least_never old mid names ids lawful' whole test tells none p there least,
       (
         whole.came,
         none_next,
+        obstacle-alike old.start p why (alike_back (stands_now old mid names ids whole)) (subst (λ s. IsObstacle s (standing (set_of mid)) p why) whole.fired.start obstacle),
         taken_back old mid mid new names ids [] lawful lawful' after whole (same_self (set_of mid)) (sym (append-nil mid.lines)) (omega arith) (u whole.fired.came whole.free whole.under) fits,
       ),
     )

@@ -26,6 +26,7 @@ mod TakenBack
 pub mod PairTests
 mod MissingNames
 mod ReadyPairs
+mod Obstacles
 mod Absorbed
 mod AllUndone
 mod TurnsTaken

@@ -20,6 +20,7 @@ use Rattle.ic_journal.specs.Benches.{IsBench}
 use Rattle.ic_journal.specs.Views.{BenchView, set_of}
 use Rattle.ic_journal.specs.Undone.{undoing}
 use Rattle.ic_undo.specs.GoingBack.{AreFired, firing}
+use Rattle.ic_undo.specs.Obstacles.{IsObstacle}
 use Rattle.ic_undo.specs.declared.faults.AbsorbFault.{AbsorbFault}
 use Rattle.ic_undo.specs.declared.faults.AbsorbFault.TheVariants as absorb
 
@@ -89,9 +90,9 @@ NoneIsNext old names came = (e : Event) → IsActive old.start (reverse came ++ 
 abbrev pub refusing : Event → Reply → Line
 refusing e r = record { call = Fire e; reply = r }
 
--- why events aren't absorbed; what stood before stands then
+-- why events aren't absorbed, and what was in the way of the least one when none was next; what stood before stands then
 abbrev pub AbsorbsNone : BenchView → List Pair → AbsorbFault → BenchView → Type 0
-AbsorbsNone old names (absorb.NeverActive p) new = IsLeastNever old.start (standing (set_of old)) names p × ((came : List Event) × NoneIsNext old names came × TakesBack old names came [] new)
+AbsorbsNone old names (absorb.NeverActive p why) new = IsLeastNever old.start (standing (set_of old)) names p × ((came : List Event) × NoneIsNext old names came × IsObstacle old.start (reverse came ++ standing (set_of old)) p why × TakesBack old names came [] new)
 AbsorbsNone old names absorb.Deep new = (came : List Event) × (e : Event) × IsNextListed old names came e × IsDeep e × TakesBack old names came (refusing e reply.Deep ∷ []) new
 AbsorbsNone old names absorb.Full new = (came : List Event) × (e : Event) × IsNextListed old names came e × ¬ (IsDeep e) × IsFull old.start (reverse came ++ standing (set_of old)) e × TakesBack old names came (refusing e reply.Full ∷ []) new
 AbsorbsNone old names absorb.HistoryFull new = (MAX_LINES < length old.lines + 2 * length names) × (new ≡ old)

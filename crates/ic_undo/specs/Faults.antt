@@ -28,7 +28,7 @@ back_number (back.Memory counts) = MEMORY
 
 -- the number of a refusal of `absorb`
 abbrev pub absorb_number : AbsorbFault → ℕ
-absorb_number (absorb.NeverActive p) = NEVER_ACTIVE
+absorb_number (absorb.NeverActive p why) = NEVER_ACTIVE
 absorb_number absorb.Deep = DEEP
 absorb_number absorb.Full = FULL
 absorb_number absorb.HistoryFull = HISTORY_FULL

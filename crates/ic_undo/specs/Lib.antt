@@ -7,6 +7,7 @@ pub mod Stood
 pub mod GoingBack
 pub mod Among
 pub mod Resting
+pub mod Obstacles
 pub mod Absorbing
 pub mod Ready
 pub mod Coming

@@ -5,6 +5,7 @@ ghost use Rattle.ic_undo.specs.Coming.{fault_from};
 
 use crate::backwards::undo_each;
 use crate::faults::AbsorbFault;
+use crate::obstacle::obstacle_of;
 use crate::turns::{Hindrance, Stop, Turns, fire_listed};
 use ic_journal::{Bench, LinkStore, ReserveFault};
 use ic_name::limits::MAX_LINES;
@@ -18,8 +19,8 @@ use std::alloc::Global;
 ///
 /// `HistoryFull` before anything else, exactly where the history would be too long with two lines for each listed event.
 /// `Deep`, `Full` or `Memory` where a firing is answered so, or where memory runs out elsewhere; else `NeverActive` where
-/// a listed event is in no sound set of what stood and what is listed, with the least such name. At each of these what
-/// was fired is undone, the last first, and that takes no memory.
+/// a listed event is in no sound set of what stood and what is listed, with the least such name, and with what is in its
+/// way then. At each of these what was fired is undone, the last first, and that takes no memory.
 pub fn absorb<L: LinkStore>(
     alloc: Global,
     bench: &mut Bench<L>,
@@ -46,9 +47,10 @@ pub fn absorb<L: LinkStore>(
             let Some(name) = missing.pop_first() else {
                 return Ok(ids.len() as u32);
             };
+            let obstacle = obstacle_of(bench, &name);
             take_back(bench, ids);
             bench.lawful();
-            Err(AbsorbFault::NeverActive(name))
+            Err(AbsorbFault::NeverActive(name, obstacle))
         }
         Err(stop) => {
             let Stop { ids, why } = stop;

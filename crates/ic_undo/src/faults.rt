@@ -1,6 +1,7 @@
 ghost use Rattle.std.specs.Prelude.{◌≡◌};
 ghost use Rattle.ic_undo.specs.Faults.{absorb_number, back_number, undo_all_number, unwind_number};
 
+use crate::obstacle::Obstacle;
 use ic_name::{EventName, numbers};
 use thiserror::Error;
 
@@ -50,8 +51,9 @@ pub enum BackFault {
 /// Why listed events aren't absorbed. What stood before stands then, under the ids that it had.
 #[derive(Drop)]
 pub enum AbsorbFault {
-    /// The least listed event that is in no sound set of what stood and what is listed.
-    NeverActive(EventName),
+    /// The least listed event that is in no sound set of what stood and what is listed. The second part says what was in its
+    /// way when no listed event could be fired any more, before what was fired is undone.
+    NeverActive(EventName, Obstacle),
     /// A listed event was active whose children's names would have too many digits.
     Deep,
     /// A listed event was active with which there would be too many agents.
@@ -105,7 +107,7 @@ impl AbsorbFault {
         ensures { result ≡ absorb_number self.now }
     {
         match self {
-            AbsorbFault::NeverActive(_) => numbers::NEVER_ACTIVE,
+            AbsorbFault::NeverActive(_, _) => numbers::NEVER_ACTIVE,
             AbsorbFault::Deep => numbers::DEEP,
             AbsorbFault::Full => numbers::FULL,
             AbsorbFault::HistoryFull => numbers::HISTORY_FULL,

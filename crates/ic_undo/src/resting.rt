@@ -54,7 +54,7 @@ fn reached_from<L: LinkStore>(
     Ok(ids)
 }
 
-/// Puts those of the others behind the ids whose lines aren't among these yet.
+/// Puts those of the others after the ids whose lines the ids don't have yet.
 fn add_new(
     ids: &mut Vec<EventId>,
     lines: &mut BTreeSet<u32>,

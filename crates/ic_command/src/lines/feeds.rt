@@ -9,7 +9,7 @@ fn goes_on(byte: u8) -> bool
     byte != b'\n'
 }
 
-/// The number of bytes in front of the first line feed, or of all.
+/// The number of bytes before the first line feed, or of all.
 #[tactic(auto, using(crate::proofs::FirstLines::prefix_is, crate::proofs::FirstLines::first_within))]
 pub(crate) fn line_len(bytes: &[u8]) -> usize
     ensures length { result ≡ length (first_line bytes.now) }

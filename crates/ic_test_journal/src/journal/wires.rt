@@ -1,42 +1,16 @@
+use crate::places::{Place, is_at, port_at};
 use ic_journal::Wire;
-use ic_name::{AgentName, Port};
 use ic_test_games::player::{Game, Player, Step, wins};
 use std::alloc::Global;
 use std::test::Fail;
 
-/// A port of an agent, whose name is a text, or a name of the net's text, by its number.
-#[derive(Clone, Copy)]
-enum Place {
-    Agent(&'static [u8], u8),
-    Name(u32),
-}
-
 /// A port, the port at the other end of its wire, and the numbers of the firings that made the wire.
 type WireRow = (Place, Place, &'static [usize]);
-
-/// The port at a place.
-fn port_at(alloc: Global, place: Place) -> Result<Port, Fail> {
-    match place {
-        Place::Agent(text, number) => Ok(Port::Of(AgentName::read(alloc, text)?, number)),
-        Place::Name(number) => Ok(Port::Name(number)),
-    }
-}
 
 /// The wire at a place, if there is one.
 fn wire_at(alloc: Global, player: &Player, place: Place) -> Result<Option<Wire>, Fail> {
     let port = port_at(alloc, place)?;
     Ok(player.bench.wire(&port)?)
-}
-
-/// Whether the port is at this place.
-fn is_at(alloc: Global, port: &Port, place: Place) -> Result<bool, Fail> {
-    match (port, place) {
-        (Port::Of(name, number), Place::Agent(text, wanted)) => Ok(
-            *number == wanted && name.is(&AgentName::read(alloc, text)?),
-        ),
-        (Port::Name(number), Place::Name(wanted)) => Ok(*number == wanted),
-        _ => Ok(false),
-    }
 }
 
 /// Whether just these firings made the wire, in this order.

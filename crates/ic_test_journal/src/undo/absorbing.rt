@@ -54,7 +54,7 @@ fn an_order_is_found(rt: HostRuntime) -> Result<(), Fail> {
 /// The listed event that can't come to stand, where one can't.
 fn refused(alloc: Global, bench: &mut Bench<Store>, names: &[EventName]) -> Option<EventName> {
     match absorb(alloc, bench, names) {
-        Err(AbsorbFault::NeverActive(name)) => Some(name),
+        Err(AbsorbFault::NeverActive(name, _)) => Some(name),
         _ => None,
     }
 }

@@ -6,9 +6,10 @@ use Rattle.ic_undo.specs.declared.faults.UnwindFault.TheVariants as fault
 use Rattle.ic_command.specs.declared.command.Command.TheVariants.{Unwind}
 use Rattle.ic_answer.specs.declared.refused.Refused.TheVariants as refused
 use Rattle.ic_answer.specs.Texts.{pair_line, refusal_text}
+use Rattle.ic_answer.proofs.ChangedEvents.{changed_at_error}
 use Rattle.ic_answer.proofs.TurnSteps.{told, stays_for_memory}
 use Rattle.ic_answer.proofs.UndoingReplies.{Stands}
-use Rattle.ic_answer.proofs.UnwindingReplies.{fault_known, tells_not_standing, unwinds, unwind_doesnt_fit, undoes_or_refused}
+use Rattle.ic_answer.proofs.UnwindingReplies.{fault_known, tells_not_standing, unwinds, unwind_doesnt_fit, undoes_or_refused, vec_count, undoing_so_many}
 use Rattle.ic_answer.proofs.unwinding.undo_with_dependents.Goals as goal
 
 pub returns-in_default-clause-turns : goal.returns-in_default-clause-turns
@@ -19,10 +20,18 @@ returns-in-Ok-clause-turns g c =
     let x = c.in-Some.ensures.found in
     let stands : Stands c.args.bench.now c.in-Some.id c.args.event.now x.0 = record { there = x.1; under = x.2; name = x.3 } in
     let did = c.in-Ok.ensures.unwound in
+    let counted = vec_count c.in-Ok.names did in
     let known = codes "unwound " ++ decimal (length c.in-Ok.names.items) ++ codes "\n" ++ flat_map (pair_line []) c.in-Ok.names.items in
-    undoes_or_refused c.args.bench.now c.unwind-unwound.new.bench (Unwind c.args.event.now) did.undone known c.unwound_text.result c.text_or_refused.result c.lawful-2.ensures tt did.did
+    undoes_or_refused c.args.bench.now c.unwind-unwound.new.bench (Unwind c.args.event.now) c.in-Ok.names.len did.undone known c.unwound_text-text.result c.text_or_refused.result c.lawful-2.ensures tt counted did.did
     (unwinds c.args.bench.now c.unwind-unwound.new.bench c.lawful.ensures c.lawful-2.ensures c.in-Some.id c.args.event.now x.0 c.in-Ok.names.items known stands did refl)
-    (rw c.deref.ensures.value at c.unwound_text.ensures) c.text_or_refused.ensures.text (rw c.lines-lines.ensures at c.text_or_refused.ensures.refused)
+    (rw c.deref.ensures.value at c.unwound_text-text.ensures) c.text_or_refused.ensures.text (rw c.len.ensures at c.text_or_refused.ensures.refused)
+
+pub returns-in-Ok-clause-changed : goal.returns-in-Ok-clause-changed
+returns-in-Ok-clause-changed g c =
+    let did = c.in-Ok.ensures.unwound in
+    changed_at_error c.args.bench.now c.unwind-unwound.new.bench c.text_or_refused.result
+    (undoing_so_many c.args.bench.now c.unwind-unwound.new.bench c.in-Ok.names.len did.undone (vec_count c.in-Ok.names did) did.did)
+    (rw c.len.ensures at c.text_or_refused.ensures.error)
 
 pub returns-in-Err-NotStanding-clause-turns : goal.returns-in-Err-NotStanding-clause-turns
 returns-in-Err-NotStanding-clause-turns g c =

@@ -6,7 +6,9 @@ use Rattle.ic_answer.specs.Texts.{refusal_text}
 use Rattle.ic_answer.specs.declared.refused.Refused.TheVariants.{NoMark}
 use Rattle.ic_command.specs.declared.request.Request.TheVariants.{Back}
 use Rattle.ic_undo.specs.declared.faults.BackFault.TheVariants as fault
+use Rattle.ic_answer.proofs.ChangedEvents.{changed_at_error}
 use Rattle.ic_desk.specs.Views.{NamedView}
+use Rattle.ic_desk.proofs.ChangedBenches.{back_changes, part_way_changes}
 use Rattle.ic_desk.proofs.DeskTurns.{desk_on_way, fault_known, other_notes, no_mark_turns, no_room_turns}
 use Rattle.ic_desk.proofs.Marks.{found, has_at, same_read}
 use Rattle.ic_desk.proofs.Stoods.{marks_back, notes_stay}
@@ -51,7 +53,12 @@ returns-in-Ok-clause-turns g c =
     (notes_stay c.args.marks.now c.in-Some.place c.index-marks-place-in-Ok.result c.stands_after.new.self c.lines.result c.stands_after.ensures)
     (back_or_refused c.args.bench.now c.back_since-went.new.bench c.lawful.ensures c.lawful-3.ensures c.args.marks.now c.args.name.now _ found.there found.named
     (c.requires _ found.there).start (rw c.mark-mark.ensures at c.lawful-2.ensures) c.in-Ok.counts c.back_text-text.result c.text_or_refused.result (rw c.mark-mark.ensures at c.in-Ok.ensures.back)
-    c.back_text-text.ensures c.text_or_refused.ensures.text (rw c.lines-lines.ensures at c.text_or_refused.ensures.refused))
+    c.back_text-text.ensures c.text_or_refused.ensures.text (rw c.changes.ensures at c.text_or_refused.ensures.refused))
+
+pub returns-in-Ok-clause-changed : goal.returns-in-Ok-clause-changed
+returns-in-Ok-clause-changed g c =
+    changed_at_error c.args.bench.now c.back_since-went.new.bench c.text_or_refused.result
+    (back_changes c.args.bench.now c.back_since-went.new.bench c.mark-mark.result.now c.in-Ok.counts c.in-Ok.ensures.back) (rw c.changes.ensures at c.text_or_refused.ensures.error)
 
 pub returns-in-Ok-clause-desk : goal.returns-in-Ok-clause-desk
 returns-in-Ok-clause-desk g c =
@@ -82,7 +89,14 @@ returns-in-Err-Memory-clause-turns g c =
     (rw c.in-Err-Memory.is at c.in-Err-Memory.field-0-is) c.back_since-went.ensures.fault in
     part_way_or_refused c.args.bench.now c.back_since-went.new.bench c.lawful.ensures c.lawful-3.ensures c.args.marks.now c.args.name.now _ found.there found.named
     (c.requires _ found.there).start (rw c.mark-mark.ensures at c.lawful-2.ensures) c.in-Err-Memory.counts c.wanting_text-text.result c.text_or_refused-in-Err-Memory.result (rw c.mark-mark.ensures at went)
-    c.wanting_text-text.ensures c.text_or_refused-in-Err-Memory.ensures.text (rw c.lines-lines.ensures at c.text_or_refused-in-Err-Memory.ensures.refused)
+    c.wanting_text-text.ensures c.text_or_refused-in-Err-Memory.ensures.text (rw c.changes-in-Err-Memory.ensures at c.text_or_refused-in-Err-Memory.ensures.refused)
+
+pub returns-in-Err-Memory-clause-changed : goal.returns-in-Err-Memory-clause-changed
+returns-in-Err-Memory-clause-changed g c =
+    let went = fault_known c.args.bench.now c.mark-mark.result.now c.back_since-went.new.bench c.back_since-went.result c.in-Err-Memory.field-0 (fault.Memory c.in-Err-Memory.counts) c.in-Err-Memory.is
+    (rw c.in-Err-Memory.is at c.in-Err-Memory.field-0-is) c.back_since-went.ensures.fault in
+    changed_at_error c.args.bench.now c.back_since-went.new.bench c.text_or_refused-in-Err-Memory.result
+    (part_way_changes c.args.bench.now c.back_since-went.new.bench c.mark-mark.result.now c.in-Err-Memory.counts went) (rw c.changes-in-Err-Memory.ensures at c.text_or_refused-in-Err-Memory.ensures.error)
 
 pub returns-in-Err-Memory-clause-desk : goal.returns-in-Err-Memory-clause-desk
 returns-in-Err-Memory-clause-desk g c =

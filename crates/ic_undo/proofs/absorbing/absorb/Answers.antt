@@ -47,7 +47,7 @@ returns-in-Some-clause-fault g c =
     let fits = reserved_fits v start names stays c.lawful-2.ensures c.in-Ok.ensures.1 in
     let turns = c.in-Ok-fired.turns in
     never_absorbed v start names c.lawful.ensures stays fits c.fire_listed-fired.new.bench c.lawful-3.ensures turns.ids.items c.in-Ok-fired.ensures.comes c.in-Ok-fired.ensures.none (contains pair_cmp turns.missing) c.in-Ok-fired.ensures.missing
-    c.take_back.new.bench c.lawful-in-Ok-fired.ensures c.take_back.ensures c.in-Some.name c.in-Some.ensures.member c.in-Some.ensures.least
+    c.take_back.new.bench c.lawful-in-Ok-fired.ensures c.take_back.ensures c.in-Some.name c.obstacle_of-obstacle.result c.in-Some.ensures.member c.in-Some.ensures.least c.obstacle_of-obstacle.ensures
 
 pub returns-in-Err-clause-fault : goal.returns-in-Err-clause-fault
 returns-in-Err-clause-fault g c =

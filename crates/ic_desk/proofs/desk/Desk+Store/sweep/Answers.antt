@@ -10,7 +10,7 @@ use Rattle.ic_desk.specs.ManyWorkers.{TurnsWith}
 use Rattle.ic_desk.specs.Views.{DeskView}
 use Rattle.ic_desk.proofs.DeskTurns.{desk_of, desk_still}
 use Rattle.ic_desk.proofs.LongerHistories.{unchanged}
-use Rattle.ic_desk.proofs.Sweeping.{sweep_or_refused, wanting_turns}
+use Rattle.ic_desk.proofs.Sweeping.{sweep_told, wanting_turns}
 use Rattle.ic_desk.proofs.desk.Desk+Store.sweep.Given as given
 use Rattle.ic_desk.proofs.desk.Desk+Store.sweep.Goals as goal
 
@@ -31,8 +31,8 @@ invariant_of-result-in-Err-Memory g c =
 pub returns-in_ok-answer-in-Ok : goal.returns-in_ok-answer-in-Ok
 returns-in_ok-answer-in-Ok g c =
     subst (λ (v : DeskView). TurnsWith c.args.workers v (Bench (Reduce c.args.most)) (answer_text c.in_ok-answer-in-Ok.answer) (desk_of c.in-Ok.swept.bench c.self.inside.marks.items)) c.self.view_is
-    (sweep_or_refused c.args.workers c.self.inside.bench c.in-Ok.swept.bench c.self.inside.marks.items c.args.most c.in-Ok.swept.fired c.in-Ok.swept.end c.end_text-text.result c.in_ok-answer-in-Ok.answer
-    c.requires.workers.0 c.lawful.ensures c.in-Ok.ensures.swept c.end_text-text.ensures c.in_ok-answer-in-Ok.ensures.text (rw c.lines-lines.ensures at c.in_ok-answer-in-Ok.ensures.refused))
+    (sweep_told c.args.workers c.self.inside.bench c.in-Ok.swept.bench c.self.inside.marks.items c.args.most c.in-Ok.swept.fired c.in-Ok.swept.end c.in_ok-answer-in-Ok.answer
+    c.requires.workers.0 c.in-Ok.ensures.swept c.in_ok-answer-in-Ok.ensures.answer)
 
 pub returns-in-Err-Memory : goal.returns-in-Err-Memory
 returns-in-Err-Memory g c =
