@@ -39,12 +39,12 @@ pub fn causes()
     ensures { (n : Naming) (s : Start) (es : List Event) (ls : List Link) (a b : AgentId) (ids : List LinkId) (e c : Event) → IsProper s → IsSound s es → Shows n s es ls → n.agent a ≡ e.lead → n.agent b ≡ e.other → Joins ls (spot.Agent a 0) ids (spot.Agent b 0) → IsCause s es e c ↔ ((d : EventId) × (id : LinkId) × IsIn id ids × (id.maker ≡ maker.Event d) × (n.has_event d ≡ true) × (n.event d ≡ c)) }
 {}
 
-/// Where the links of an event come, under ids that are held by then, the links of the set with it are shown.
+/// If the links of an event are added, under ids that are held by then, the links of the set with it are shown.
 pub fn fired()
     ensures { (n more : Naming) (s : Start) (es : List Event) (ls new all : List Link) (e : Event) → Shows n s es ls → Extends n more → TellsApart more → ((l : Link) → IsIn l new → IsHeld more l) → map (link_of more) new ≡ born_links s.profile e → Alike (new ++ ls) all → Shows more s (e ∷ es) all }
 {}
 
-/// Where all links that an event made go, those of the set without it are shown, even if ids are given up that no link
+/// If all links that an event made are taken out, those of the set without it are shown, even if ids are given up that no link
 /// that is left has.
 pub fn undone()
     ensures { (n less : Naming) (s : Start) (es rest : List Event) (ls left : List Link) (d : EventId) (e : Event) → IsSound s es → Shows n s es ls → n.has_event d ≡ true → n.event d ≡ e → Pick e es rest → Drops d ls left → Extends less n → ((l : Link) → IsIn l left → IsHeld less l) → Shows less s rest left }

@@ -24,8 +24,8 @@ fn event(alloc: Global, a: u16, b: u16) -> Option<Event> {
     Event::of(first, Kind::Gamma, second, Kind::Eps)
 }
 
-/// Puts in a link. Its place is above those of the links before it. An error comes where it finds no room, or memory is
-/// wanting.
+/// Puts in a link. Its place is above those of the links before it. An error comes if it finds no room, or memory
+/// runs out.
 fn put(store: &mut LinkRows, maker: MakerId, place: u32, a: Spot, b: Spot) -> Result<(), AllocError>
     requires { (m : ALink) → IsIn m store.old → m.id.place < place }
     ensures { OnOk result ((m : ALink) → IsIn m store.new → m.id.place ≤ place) }

@@ -65,7 +65,7 @@ impl History {
         self.lines.capacity().min(MAX_LINES) - self.lines.len()
     }
 
-    /// Makes room for so many lines. Where there is room, it takes no memory; at an error nothing changes.
+    /// Makes room for so many lines. If there is room already, it takes no memory; at an error nothing changes.
     pub fn reserve(&mut self, lines: usize) -> Result<(), AllocError>
         requires { length self.old.lines + lines ≤ MAX_LINES }
         ensures lines { self.new.lines ≡ self.old.lines }

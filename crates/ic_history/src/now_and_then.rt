@@ -5,7 +5,7 @@ ghost use Rattle.ic_roster.specs.Rosters.{event_in, IsNamed};
 use ic_names::{KnownNames, NameTable};
 use ic_roster::Interaction;
 
-/// A table of names beside the names that were known at some time, so many of which, from the first place on, it has still.
+/// A table of names beside the names that were known at some time. It still has so many of them, from the first place on.
 #[derive(Drop)]
 pub(crate) struct NowAndThen<'a> {
     table: &'a NameTable,

@@ -5,7 +5,7 @@ use ic_name::{AgentName, Event, Kind};
 use std::alloc::AllocError;
 use std::marker::Model;
 
-/// An event that is to be fired. It is made of names and kinds alone, so a thread can make it before it takes a lock.
+/// An event to fire. It is made of names and kinds alone, so a thread can make it before it takes a lock.
 #[derive(Drop)]
 pub struct Proposal {
     event: Event,

@@ -22,7 +22,7 @@ pub fn has_room<L: LinkStore>(store: &L, link: &Link) -> bool
 }
 
 /// Puts in a link of an event that has no other, and takes the event's links away again. What was before is restored:
-/// the list up to order, and with it the number of rings and each far end. An error comes where memory is wanting,
+/// the list up to order, and with it the number of rings and each far end. An error comes if memory runs out,
 /// and then the list is the same.
 pub fn there_and_back<L: LinkStore>(
     store: &mut L,

@@ -16,7 +16,7 @@ pub struct Principals {
     pub other: AgentId,
 }
 
-/// The spot at which the path from a spot ends of which the store told this: the spot itself, where no link ends at it.
+/// The spot at which the path from a spot ends, from what the store told: the spot itself if no link ends at it.
 pub(crate) fn end_of(spot: Spot, far: Far) -> Spot
     ensures { (ls : List ALink) → IsSlim shape ls → degree shape ls spot ≤ 1 → IsFar ls spot far → result ≡ far_end shape ls spot }
 {

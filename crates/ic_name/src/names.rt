@@ -161,7 +161,7 @@ impl AgentName {
     }
 
     /// Writes the text of the name at the end of `out`: the start number in decimal, then a dot and a digit for
-    /// each generation. Where memory runs out, `out` is as before.
+    /// each generation. If memory runs out, `out` is as before.
     pub fn write_to(&self, out: &mut Vec<u8>) -> Result<(), AllocError>
         ensures ok { OnOk result (out.new.items ≡ out.old.items ++ name_text self.now) }
         ensures err { OnErr result (out.new.items ≡ out.old.items) }

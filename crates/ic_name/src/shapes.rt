@@ -13,7 +13,7 @@ pub struct Shape {
     pub generations: usize,
 }
 
-/// How far the text of a name has been read: not at all, to the end of a name, or to a dot behind one.
+/// How far the text of a name has been read: not at all, to the end of a name, or to a dot after one.
 #[derive(Clone, Copy)]
 pub enum Place {
     Front,

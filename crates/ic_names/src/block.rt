@@ -6,7 +6,7 @@ ghost use Rattle.ic_names.specs.Blocks.{anchor_depth, number_of, block_of};
 /// The number of digits in a block, at most: so many fit in 64 bits. At each multiple of it there is an anchor.
 pub const BLOCK: u64 = 32;
 
-/// A block of digits: those of a name behind its anchor, in one number. The anchor is the nearest ancestor at a depth that is
+/// A block of digits: those of a name after its anchor, in one number. The anchor is the nearest ancestor at a depth that is
 /// a multiple of 32; that of a start agent's name is the name itself. Names of one depth and one anchor are in the order of
 /// their blocks.
 #[derive(Clone, Copy)]
@@ -53,7 +53,7 @@ impl Block {
         Block(number)
     }
 
-    /// Puts the digits behind the anchor of a name of this depth and block at their places among the name's digits, and gives
+    /// Puts the digits after the anchor of a name of this depth and block at their places among the name's digits, and gives
     /// the depth of the anchor.
     pub fn put_digits(self, digits: &mut [u8], depth: usize) -> usize
         requires some { 0 < depth }

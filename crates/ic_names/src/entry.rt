@@ -11,7 +11,7 @@ pub enum Origin {
     Child { digit: u8, parent: u32 },
 }
 
-/// What is kept of a name, in 48 bytes: its key, its digits behind its anchor, where its children stand, by digit, where its
+/// What is kept of a name, in 48 bytes: its key, its digits after its anchor, where its children stand, by digit, where its
 /// anchor stands, and where it comes from.
 #[derive(Clone, Copy)]
 pub struct Entry {

@@ -48,7 +48,7 @@ impl NameKey {
     }
 }
 
-/// What a digit behind so many others adds to a key: nothing where the key has no place for it.
+/// What a digit after so many others adds to a key: nothing if the key has no place for it.
 fn digit_behind(depth: u64, digit: u8) -> u64
     requires { digit < 4 }
     ensures inside { depth < 17 → result ≡ digit * 4 ^ (16 - depth) }

@@ -56,7 +56,7 @@ impl KnownNames {
         Ok(known)
     }
 
-    /// The name of this origin behind the others. At an error memory ran out.
+    /// Adds the name of this origin at the end. At an error memory ran out.
     fn push(&mut self, origin: Origin) -> Result<(), AllocError>
         requires { IsBefore (length self.old) origin }
         ensures { OnOk result (self.new ≡ self.old ++ name_from self.old origin ∷ []) }

@@ -107,7 +107,7 @@ impl Rows {
         self.entries[place as usize].anchor
     }
 
-    /// The digits behind the anchor of the name at a place.
+    /// The digits after the anchor of the name at a place.
     fn block(&self, place: u32) -> Block
         requires { place < length self.now.names }
         ensures { result.0 ≡ block_of (name_at self.now.names place) }
@@ -127,7 +127,7 @@ impl Rows {
         self.anchor(parent)
     }
 
-    /// The digits behind the anchor of the child with this digit.
+    /// The digits after the anchor of the child with this digit.
     fn child_block(&self, parent: u32, digit: u8) -> Block
         requires inside { parent < length self.now.names }
         requires small { digit < 4 }
@@ -138,7 +138,7 @@ impl Rows {
     }
 
     /// The order of the digits of two names of one depth and one start number, in time that grows as a 32nd of the number of
-    /// digits behind the first one that differs. It takes no memory.
+    /// digits after the first one that differs. It takes no memory.
     pub fn digit_order(&self, a: u32, b: u32) -> Ordering
         requires left { a < length self.now.names }
         requires right { b < length self.now.names }
@@ -211,7 +211,7 @@ impl Rows {
         self.starts.resize(starts, OptionalSlot::none())
     }
 
-    /// The name of a start agent behind the others, in the room there is. It takes no memory.
+    /// Adds the name of a start agent at the end, in the room there is. It takes no memory.
     pub fn put_start(&mut self, number: u16) -> u32
         requires proper { number < MAX_START_AGENTS }
         requires absent { IsAbsent self.old.names (start_name number) }
@@ -232,7 +232,7 @@ impl Rows {
         place
     }
 
-    /// The name of a child behind the others, in the room there is. It takes no memory.
+    /// Adds the name of a child at the end, in the room there is. It takes no memory.
     pub fn put_child(&mut self, parent: u32, digit: u8) -> u32
         requires inside { parent < length self.old.names }
         requires small { digit < 4 }

@@ -165,9 +165,9 @@ impl NameTable {
         Ok(Some(name))
     }
 
-    /// The order of the names at two places, of which one beyond the table counts as the least name. It takes no memory,
+    /// The order of the names at two places. A place beyond the table counts as the least name. It takes no memory,
     /// and constant time for names that differ in depth, in start number or in one of the first 17 digits; for others time
-    /// that grows as a 32nd of the number of digits behind the first one that differs.
+    /// that grows as a 32nd of the number of digits after the first one that differs.
     pub fn cmp(&self, a: NameId, b: NameId) -> Ordering
         ensures { result ≡ name_cmp (name_at self.now a.place) (name_at self.now b.place) }
     {

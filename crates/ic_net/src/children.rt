@@ -26,7 +26,7 @@ fn blank_partners(kind: Kind) -> Partners
     }
 }
 
-/// The children of these kinds come, the first with this digit. Where memory runs out, the table is as it was.
+/// Adds children of these kinds, the first with this digit. If memory runs out, the table is as it was.
 pub(crate) fn put_children(
     agents: &mut BTreeMap<AgentName, NetAgent>,
     lead: &AgentName,

@@ -39,7 +39,7 @@ impl Model for Net {
 }
 
 impl Net {
-    /// The net of a start, of which no event has been fired.
+    /// The net of a start: no event has been fired in it.
     pub fn of_start(alloc: Global, start: &Start) -> Result<Net, AllocError>
         ensures net { IfOk result (λ n. IsSameNet (shown n) (net_of start.now [])) }
         ensures agents { IfOk result (λ n. length n.agents ≡ length start.now.kinds) }

@@ -43,7 +43,7 @@ impl Model for Start {
 }
 
 impl Start {
-    /// The start of these kinds, links and texts of names; an error where memory is wanting.
+    /// The start of these kinds, links and texts of names; an error if memory runs out.
     pub fn make(
         alloc: Global,
         kinds: Vec<Kind>,

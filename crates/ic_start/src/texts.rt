@@ -4,7 +4,7 @@ ghost use Rattle.ic_start.specs.Texts.{begin};
 use std::alloc::{AllocError, Global};
 use std::marker::Model;
 
-/// Texts by number, one behind the other in one piece of memory.
+/// Texts by number, one after the other in one piece of memory.
 #[derive(Drop)]
 pub struct Texts {
     bytes: Vec<u8>,

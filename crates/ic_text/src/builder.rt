@@ -33,7 +33,7 @@ pub struct Frame {
     pub phase: Phase,
 }
 
-/// What comes next in a text, outside all parentheses: where nothing has been read, the profile or an equation; behind the
+/// What comes next in a text, outside all parentheses: at first the profile or an equation; after the
 /// profile a semicolon; and so on in an equation.
 #[derive(Clone, Copy)]
 pub enum Side {

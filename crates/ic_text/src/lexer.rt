@@ -56,7 +56,7 @@ fn name_len(bytes: &[u8]) -> usize
     bytes.iter().take_while(|byte| is_name_byte(**byte)).count()
 }
 
-/// The first byte and those behind it.
+/// The first byte and those after it.
 fn first_of(bytes: &[u8]) -> Option<(u8, &[u8])>
     ensures { MatchOption result (bytes.now ≡ []) (λ x. bytes.now ≡ x.0 ∷ x.1.now) }
 {
@@ -66,7 +66,7 @@ fn first_of(bytes: &[u8]) -> Option<(u8, &[u8])>
     }
 }
 
-/// The token of an `@`, by the letters behind it.
+/// The token of an `@`, by the letters after it.
 fn at_sign(letters: &[u8]) -> Lexeme<'static>
     ensures { token_of result ≡ (if bytes_eq letters.now (codes "straight") then profile else stray) }
 {

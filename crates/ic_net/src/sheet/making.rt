@@ -11,7 +11,7 @@ use ic_name::{AgentName, Kind, Port, Profile};
 use std::alloc::{AllocError, Global};
 use std::marker::Model;
 
-/// A net that is put together from its parts, one behind the other: its agents in the order of their names, each with its
+/// A net that is put together from its parts, one after the other: its agents in the order of their names, each with its
 /// kind and the partners of its ports by number, its free names in the order of their numbers, each with its partner, and its
 /// profile.
 #[derive(Drop)]
@@ -66,7 +66,7 @@ impl NetMaker {
         self.agents.len()
     }
 
-    /// An agent comes behind all others, with the partners of its ports. At an error memory ran out, and nothing changes.
+    /// Adds an agent at the end, with the partners of its ports. At an error memory ran out, and nothing changes.
     pub fn push_agent(
         &mut self,
         name: AgentName,
@@ -83,7 +83,7 @@ impl NetMaker {
         Ok(())
     }
 
-    /// A free name comes behind all others, with its partner. At an error memory ran out, and nothing changes.
+    /// Adds a free name at the end, with its partner. At an error memory ran out, and nothing changes.
     pub fn push_free(&mut self, number: u32, partner: Port) -> Result<(), AllocError>
         requires last { IsLastNumber number self.old.frees }
         ensures agents { OnOk result (self.new.agents ≡ self.old.agents) }

@@ -14,7 +14,7 @@ use ic_start::Texts;
 use std::alloc::{AllocError, Global};
 
 /// Which line of the printed net is which agent's: how many agents there are, and in order of their names the line of each
-/// behind its name.
+/// after its name.
 pub fn print_agents(alloc: Global, net: &NetView<'_>, names: &Texts) -> Result<Vec<u8>, AllocError>
     ensures { IfOk result (λ text. text.items ≡ agents_text names.now net.now) }
 {
@@ -26,7 +26,7 @@ pub fn print_agents(alloc: Global, net: &NetView<'_>, names: &Texts) -> Result<V
     Ok(out)
 }
 
-/// Writes the line of each agent behind its name.
+/// Writes the line of each agent after its name.
 fn put_named(out: &mut Vec<u8>, sheet: &NumberedAgents<'_>, names: &Texts) -> Result<(), AllocError>
     requires { All (λ a. length a.partners ≡ arity a.kind + 1) (map shown_agent sheet.now.agents.now) }
     ensures { OnOk result (out.new.items ≡ out.old.items ++ flat_map (named_line names.now (wires_in sheet.now)) (map shown_agent sheet.now.agents.now)) }
@@ -37,7 +37,7 @@ fn put_named(out: &mut Vec<u8>, sheet: &NumberedAgents<'_>, names: &Texts) -> Re
     Ok(())
 }
 
-/// Writes an agent's line behind its name.
+/// Writes an agent's line after its name.
 fn put_named_line(
     out: &mut Vec<u8>,
     sheet: &NumberedAgents<'_>,
