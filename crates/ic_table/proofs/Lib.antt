@@ -46,5 +46,7 @@ pub mod TouchedSpots
 pub mod IdleSpots
 pub mod WholePaths
 pub mod GivenUpPaths
+pub mod GivenUpTips
 pub mod TakenPaths
+pub mod TakenTips
 pub mod LooseTakes
