@@ -6,4 +6,8 @@ mod benches;
 #[cfg(test)]
 mod shared;
 #[cfg(test)]
+mod trace;
+#[cfg(test)]
+mod turns;
+#[cfg(test)]
 mod work;

@@ -1,6 +1,7 @@
 ghost use Rattle.std.specs.Prelude.{◌≡◌};
 
 use crate::benches::{FOUR_COPIES, FOUR_COPIES_SWEPT, bench_over, net_of, shown};
+use crate::turns::{fire_some, next_number, undo_some};
 use ic_journal::{Bench, Proposal, Store};
 use ic_name::{Call, Event, EventId, Line};
 use ic_shared::{Pass, Shared, settle, share};
@@ -18,56 +19,15 @@ const TURNS: u32 = 1000;
 /// The passes that fire; the others undo.
 const FIRING: usize = 2;
 
-/// The number after this one, of a linear congruence.
-fn next_number(seed: u64) -> u64 {
-    seed.wrapping_mul(6364136223846793005)
-        .wrapping_add(1442695040888963407)
-}
-
-/// A proposal that an active pair meets, if there is one: the pair that the number picks.
-fn picked_pair(bench: &Bench<Store>, number: u64) -> Option<Proposal> {
-    let pairs = bench.active().ok()?;
-    let count = pairs.len() as u64;
-    if count == 0 {
-        return None;
-    }
-    let pair = pairs.get((number % count) as usize)?;
-    bench.propose(pair.lead, pair.other).ok()
-}
-
-/// A standing event, if there is one: the event that the number picks.
-fn picked_event(bench: &Bench<Store>, number: u64) -> Option<EventId> {
-    let events = bench.standing().ok()?;
-    let count = events.len() as u64;
-    if count == 0 {
-        return None;
-    }
-    events.get((number % count) as usize).copied()
-}
-
-/// Fires the active pair that the number picks. It may have gone by the time of the call.
-fn fire<B: Ledger, R: Wait>(rt: &R, shared: &Shared<B>, pass: &mut Pass<B>, number: u64) {
-    if let Some(proposal) = shared.look(rt, |bench| picked_pair(bench, number)) {
-        let _ = shared.fire(rt, pass, proposal);
-    }
-}
-
-/// Undoes the event that the number picks. It may have gone by the time of the call.
-fn undo<B: Ledger, R: Wait>(rt: &R, shared: &Shared<B>, pass: &mut Pass<B>, number: u64) {
-    if let Some(id) = shared.look(rt, |bench| picked_event(bench, number)) {
-        let _ = shared.undo(rt, pass, id);
-    }
-}
-
 /// Makes the turns of the pass at this place, by random numbers.
 fn make_turns<B: Ledger, R: Wait>(rt: &R, shared: &Shared<B>, pass: &mut Pass<B>, place: usize) {
     let mut number = next_number(place as u64);
     for _ in 0..TURNS {
         number = next_number(number);
         if place < FIRING {
-            fire(rt, shared, pass, number >> 33);
+            fire_some(rt, shared, pass, number >> 33);
         } else {
-            undo(rt, shared, pass, number >> 33);
+            undo_some(rt, shared, pass, number >> 33);
         }
     }
 }

@@ -1,0 +1,3 @@
+//! Tests of `ic_trace`.
+
+mod histories;
