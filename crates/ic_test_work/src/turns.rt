@@ -33,24 +33,14 @@ fn picked_event(bench: &Bench<Store>, number: u64) -> Option<EventId> {
 }
 
 /// Fires the active pair that the number picks. It may have gone by the time of the call.
-pub fn fire_some<B: Ledger, R: Wait>(
-    rt: &R,
-    shared: &Shared<B>,
-    pass: &mut Pass<B>,
-    number: u64,
-) {
+pub fn fire_some<B: Ledger, R: Wait>(rt: &R, shared: &Shared<B>, pass: &mut Pass<B>, number: u64) {
     if let Some(proposal) = shared.look(rt, |bench| picked_pair(bench, number)) {
         let _ = shared.fire(rt, pass, proposal);
     }
 }
 
 /// Undoes the event that the number picks. It may have gone by the time of the call.
-pub fn undo_some<B: Ledger, R: Wait>(
-    rt: &R,
-    shared: &Shared<B>,
-    pass: &mut Pass<B>,
-    number: u64,
-) {
+pub fn undo_some<B: Ledger, R: Wait>(rt: &R, shared: &Shared<B>, pass: &mut Pass<B>, number: u64) {
     if let Some(id) = shared.look(rt, |bench| picked_event(bench, number)) {
         let _ = shared.undo(rt, pass, id);
     }
