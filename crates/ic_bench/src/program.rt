@@ -19,8 +19,8 @@ use crate::statuses::{
 };
 use clap::Error;
 use clap::error::ErrorKind;
-use ic_command::write_reply;
-use ic_session::{Fault, Gate, MAX_READS, MAX_WORKERS, Setting, Status, run_in, run_quietly};
+use ic_command::{Input, Output, write_reply};
+use ic_session::{Fault, Gate, MAX_READS, MAX_WORKERS, Setting, Status, run_session};
 use std::alloc::Global;
 use std::convert::AsStr;
 use std::fs::Files;
@@ -29,8 +29,7 @@ use std::io::{Read, Write};
 use std::sync::Wait;
 use std::thread::Threads;
 
-/// What the program runs on besides its streams: threads, memory, files, and a gate that sees each commit of a session that
-/// explains itself.
+/// What the program runs on besides its streams: threads, memory, files, and a gate that sees each commit.
 #[derive(Drop)]
 pub struct Host<'a, T, G, F> {
     pub threads: &'a T,
@@ -142,17 +141,27 @@ fn session<R: Read, W: Write, E: Write, T: Threads + Wait + Sync, G: Gate, F: Fi
     ensures silent { (mode_of options).explains ≡ false → E.contents errors.new ≡ E.contents errors.old }
 {
     let mode = options.mode();
+    let mut input = Input::new(host.alloc, MAX_READS)?;
+    let mut output = Output::new();
+    let setting = Setting {
+        threads: host.threads,
+        alloc: host.alloc,
+        gate: host.gate,
+        mode,
+        prompts: options.prompts(ahead),
+    };
     if mode.explains {
-        let setting = Setting {
-            threads: host.threads,
-            alloc: host.alloc,
-            gate: host.gate,
-            mode,
-            prompts: options.prompts(ahead),
-        };
-        return run_in(&setting, reader, writer, errors);
+        return run_session(&setting, &mut input, reader, &mut output, writer, errors);
     }
-    run_quietly(host.threads, host.alloc, reader, writer, mode, MAX_READS)
+    let mut unheard: Vec<u8> = Vec::new(host.alloc);
+    run_session(
+        &setting,
+        &mut input,
+        reader,
+        &mut output,
+        writer,
+        &mut unheard,
+    )
 }
 
 /// Says that a file can't be read, and answers the status.

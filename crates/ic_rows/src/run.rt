@@ -2,7 +2,8 @@ use crate::compare::{Difference, different_line, first_difference};
 use crate::plain::run_plain_session;
 use crate::row::{Row, Stores};
 use anyhow::{Context, Result};
-use ic_session::{Mode, NoGate, Prompts, Setting, run_in, run_session};
+use ic_command::{Input, Output};
+use ic_session::{Fault, MAX_READS, Mode, NoGate, Prompts, Setting, Status, run_session};
 use std::alloc::Global;
 use std::fs;
 use std::rt::Files;
@@ -65,20 +66,13 @@ fn on_fast<T: Threads + Wait + Sync>(
     input: &[u8],
     wanted: &[u8],
 ) -> Option<Difference> {
-    let mut reader = input;
     let mut written = Vec::new(alloc);
-    let ended = run_session(
-        threads,
-        alloc,
-        &mut reader,
-        &mut written,
-        row.workers,
-        row.budget,
-    );
+    let mut errors = Vec::new(alloc);
+    let ended = session(threads, alloc, row, false, input, &mut written, &mut errors);
     first_difference(ended, row.status, &written, wanted)
 }
 
-/// What differs over the fast store where the session explains itself, in what it writes or in what it says.
+/// What differs over the fast store if the session explains itself, in what it writes or in what it says.
 fn on_explained<T: Threads + Wait + Sync>(
     threads: &T,
     alloc: Global,
@@ -87,9 +81,25 @@ fn on_explained<T: Threads + Wait + Sync>(
     wanted: &[u8],
     said: &[u8],
 ) -> Option<Difference> {
-    let mut reader = input;
     let mut written = Vec::new(alloc);
     let mut errors = Vec::new(alloc);
+    let ended = session(threads, alloc, row, true, input, &mut written, &mut errors);
+    match first_difference(ended, row.status, &written, wanted) {
+        None => different_line(&errors, said).map(Difference::Said),
+        found => found,
+    }
+}
+
+/// Runs the session of a row over the fast store.
+fn session<T: Threads + Wait + Sync>(
+    threads: &T,
+    alloc: Global,
+    row: &Row<'_>,
+    explains: bool,
+    input: &[u8],
+    written: &mut Vec<u8>,
+    errors: &mut Vec<u8>,
+) -> std::result::Result<Status, Fault> {
     let setting = Setting {
         threads,
         alloc,
@@ -97,18 +107,24 @@ fn on_explained<T: Threads + Wait + Sync>(
         mode: Mode {
             workers: row.workers,
             budget: row.budget,
-            explains: true,
+            explains,
             stops: false,
             echoes: false,
             retries: false,
         },
         prompts: Prompts::Silent,
     };
-    let ended = run_in(&setting, &mut reader, &mut written, &mut errors);
-    match first_difference(ended, row.status, &written, wanted) {
-        None => different_line(&errors, said).map(Difference::Said),
-        found => found,
-    }
+    let mut lines = Input::new(alloc, MAX_READS)?;
+    let mut output = Output::new();
+    let mut reader = input;
+    run_session(
+        &setting,
+        &mut lines,
+        &mut reader,
+        &mut output,
+        written,
+        errors,
+    )
 }
 
 /// What differs over the plain store.

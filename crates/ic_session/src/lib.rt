@@ -2,7 +2,6 @@
 #![tactic(auto)]
 
 mod advice;
-mod bounded;
 pub mod demand;
 mod echo;
 mod expected;
@@ -23,11 +22,10 @@ pub mod session;
 pub mod setting;
 mod taken_line;
 
-pub use bounded::{MAX_READS, run_bounded, run_in, run_on, run_quietly, run_session};
 pub use demand::Demand;
 pub use fault::Fault;
 pub use ic_desk::{Gate, MAX_BUDGET, MAX_WORKERS, NoGate};
 pub use mode::Mode;
 pub use prompts::Prompts;
-pub use session::Status;
+pub use session::{MAX_READS, Status, run_session};
 pub use setting::Setting;

@@ -6,3 +6,4 @@ mod faults;
 mod flushes;
 mod nets;
 mod repeated_lines;
+mod running;

@@ -1,5 +1,6 @@
 // Sessions over readers and writers of one byte for each call, some of which fail.
-use ic_session::{Fault, Status, run_bounded, run_session};
+use crate::session::running::{plain, run};
+use ic_session::{Fault, MAX_READS, Status};
 use std::alloc::Global;
 use std::io;
 use std::io::{ErrorKind, Read, Write};
@@ -94,7 +95,7 @@ fn ended<R: Threads + Wait + Sync>(
         taken: Vec::new(alloc),
         trouble: writing,
     };
-    let end = run_session(rt, alloc, &mut reader, &mut writer, 1, 1_048_576);
+    let end = run(rt, alloc, plain(1), MAX_READS, &mut reader, &mut writer);
     (end, writer.taken)
 }
 
@@ -156,7 +157,7 @@ fn bounded<R: Threads + Wait + Sync>(
         trouble: Trouble::Never,
     };
     let mut writer = Vec::new(alloc);
-    let end = run_bounded(rt, alloc, &mut reader, &mut writer, 1, 1_048_576, reads);
+    let end = run(rt, alloc, plain(1), reads, &mut reader, &mut writer);
     (end, writer)
 }
 

@@ -1,5 +1,6 @@
 // Sessions in which each command stands before its answer.
-use ic_session::{Fault, MAX_READS, Mode, Status, run_quietly};
+use crate::session::running::{plain, run};
+use ic_session::{Fault, MAX_READS, Mode, Status};
 use std::alloc::Global;
 use std::sync::Wait;
 use std::test::Fail;
@@ -13,16 +14,12 @@ fn session<R: Threads + Wait + Sync>(
     reads: u32,
 ) -> (Result<Status, Fault>, Vec<u8>) {
     let mode = Mode {
-        workers: 1,
-        budget: 1_048_576,
-        explains: false,
-        stops: false,
         echoes: true,
-        retries: false,
+        ..plain(1)
     };
     let mut reader = input;
     let mut writer = Vec::new(alloc);
-    let end = run_quietly(rt, alloc, &mut reader, &mut writer, mode, reads);
+    let end = run(rt, alloc, mode, reads, &mut reader, &mut writer);
     (end, writer)
 }
 

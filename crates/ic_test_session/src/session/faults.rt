@@ -1,7 +1,8 @@
+use crate::session::running::{plain, run};
 use ic_command::Input;
 use ic_session::net_input::{NetInput, read_net_text};
 use ic_session::refusal::refusal_line;
-use ic_session::{Fault, Prompts, run_session};
+use ic_session::{Fault, MAX_READS, Prompts};
 use ic_text::Refusal;
 use std::alloc::Global;
 use std::io;
@@ -35,7 +36,14 @@ impl Write for Full {
 #[test]
 fn a_fault_of_reading(rt: HostRuntime) -> Result<(), Fail> {
     let mut writer = Vec::new(rt.alloc());
-    let unread = run_session(&rt, rt.alloc(), &mut Broken, &mut writer, 1, 1_048_576);
+    let unread = run(
+        &rt,
+        rt.alloc(),
+        plain(1),
+        MAX_READS,
+        &mut Broken,
+        &mut writer,
+    );
     assert_eq!(rt; unread, Err(Fault::Read));
     assert!(rt; writer.is_empty());
     Ok(())
@@ -44,7 +52,7 @@ fn a_fault_of_reading(rt: HostRuntime) -> Result<(), Fail> {
 #[test]
 fn a_fault_of_writing(rt: HostRuntime) -> Result<(), Fail> {
     let mut reader = b"---\nnet\n".as_slice();
-    let unwritten = run_session(&rt, rt.alloc(), &mut reader, &mut Full, 1, 1_048_576);
+    let unwritten = run(&rt, rt.alloc(), plain(1), MAX_READS, &mut reader, &mut Full);
     assert_eq!(rt; unwritten, Err(Fault::Write));
     Ok(())
 }

@@ -1,5 +1,6 @@
 // Each answer is flushed before more of the input is read.
-use ic_session::{Status, run_session};
+use crate::session::running::{plain, run};
+use ic_session::{MAX_READS, Status};
 use std::cell::Cell;
 use std::io;
 use std::io::{ErrorKind, Read, Write};
@@ -64,7 +65,14 @@ fn an_answer_is_flushed_before_the_next_line_is_read(rt: HostRuntime) -> Result<
         written: 0,
         unflushed: &unflushed,
     };
-    let end = run_session(&rt, rt.alloc(), &mut reader, &mut writer, 1, 1_048_576);
+    let end = run(
+        &rt,
+        rt.alloc(),
+        plain(1),
+        MAX_READS,
+        &mut reader,
+        &mut writer,
+    );
     assert_eq!(rt; end, Ok(Status::Ended));
     assert_eq!(rt; writer.written, OUTPUT.len());
     Ok(())

@@ -1,6 +1,7 @@
 // Sessions in which each command comes twice, where one allocation is refused, whichever it is: bench/refused_growth.py
 // refuses each in turn. What one command didn't do the second does, so that all end alike.
-use ic_session::{Fault, Status, run_session};
+use crate::session::running::{plain, run};
+use ic_session::{Fault, MAX_READS, Status};
 use std::alloc::Global;
 use std::sync::Wait;
 use std::test::Fail;
@@ -25,7 +26,14 @@ fn session<R: Threads + Wait + Sync>(
     let mut reader = INPUT;
     let mut writer = Vec::new(alloc);
     let workers = if two { 2 } else { 1 };
-    let end = run_session(rt, alloc, &mut reader, &mut writer, workers, 1_048_576);
+    let end = run(
+        rt,
+        alloc,
+        plain(workers),
+        MAX_READS,
+        &mut reader,
+        &mut writer,
+    );
     (end, writer)
 }
 
