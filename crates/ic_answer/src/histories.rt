@@ -7,7 +7,7 @@ use ic_journal::{Bench, LinkStore};
 use ic_name::{Call, Line, Reply, write_pair};
 use std::alloc::{AllocError, Global};
 
-/// All calls so far, each behind its number with what was answered. An undo names the line of its event's firing.
+/// All calls so far, each after its number with what was answered. An undo names the line of its event's firing.
 pub fn tell_history<L: LinkStore>(alloc: Global, bench: &Bench<L>) -> Result<Vec<u8>, AllocError>
     ensures { IfOk result (λ text. InformsOf bench.now History text.items) }
 {
@@ -28,7 +28,7 @@ fn push_lines(alloc: Global, text: &mut Vec<u8>, lines: &[Line]) -> Result<(), A
     Ok(())
 }
 
-/// Puts a line behind its number at the end.
+/// Puts a line after its number at the end.
 fn push_numbered(
     alloc: Global,
     text: &mut Vec<u8>,

@@ -29,7 +29,7 @@ pub(crate) fn push_event(text: &mut Vec<u8>, event: &Event) -> Result<(), AllocE
     Ok(())
 }
 
-/// A line with the names of an event behind a word.
+/// A line with the names of an event after a word.
 pub(crate) fn name_line(
     alloc: Global,
     word: &[u8],
@@ -43,7 +43,7 @@ pub(crate) fn name_line(
     Ok(text)
 }
 
-/// A line with the names of an event behind a word.
+/// A line with the names of an event after a word.
 pub(crate) fn event_line(alloc: Global, word: &[u8], event: &Event) -> Result<Vec<u8>, AllocError>
     ensures { IfOk result (λ text. text.items ≡ pair_line word.now (pair event.now)) }
 {

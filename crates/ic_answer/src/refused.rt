@@ -17,11 +17,11 @@ pub enum Refused {
     Full,
     /// A history with as many lines as it may have.
     HistoryFull,
-    /// Want of memory.
+    /// No memory is left.
     Memory,
-    /// Want of memory for a `reduce`, before anything is fired.
+    /// No memory is left for a `reduce`, before anything is fired.
     MemoryBeforeReduce,
-    /// Want of memory for a `back`, before anything is undone or fired.
+    /// No memory is left for a `back`, before anything is undone or fired.
     MemoryBeforeBack,
     /// A port that no agent of the net has, or a name that isn't free in it.
     NoPort,
@@ -31,7 +31,7 @@ pub enum Refused {
     Command,
     /// A name that no mark has.
     NoMark,
-    /// A further mark where there are as many as there may be.
+    /// A further mark if there are as many as there may be.
     TooManyMarks,
 }
 

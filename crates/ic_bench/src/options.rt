@@ -42,7 +42,7 @@ impl Options {
         }
     }
 
-    /// What the session asks for by prompts, where so many lines were read ahead.
+    /// What the session asks for by prompts, when so many lines were read ahead.
     pub fn prompts(self, ahead: u64) -> Prompts {
         if self.interactive {
             Prompts::After(ahead)

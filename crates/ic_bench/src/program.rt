@@ -39,7 +39,7 @@ pub struct Host<'a, T, G, F> {
 }
 
 /// Runs the program on the words of a command line, and answers its exit status. What is said of a fault goes to
-/// `errors`; where that fails too, the status stays. The session is read from the files that the words name, or else from
+/// `errors`; if that fails too, the status stays. The session is read from the files that the words name, or else from
 /// `reader`.
 pub fn run_program<
     S: AsStr,

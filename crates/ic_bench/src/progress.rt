@@ -13,7 +13,7 @@ pub struct Progress<'a> {
 impl Gate for Progress<'_> {
     fn before_commit(&self, _worker: usize, _ticket: u64) {}
 
-    /// Says how many events there were, each so many. Where that can't be written, it is left out.
+    /// Says how many events there were, each so many. If that can't be written, it is left out.
     fn after_commit(&self, _worker: usize, ticket: u64) {
         let made = ticket.saturating_add(1);
         if made % STEP != 0 {

@@ -10,7 +10,7 @@ use std::io::Read;
 /// The name of the standard input among files.
 const INPUT: &str = "-";
 
-/// The bytes that one read asks for, at most, where files are read ahead.
+/// The bytes that one read asks for, at most, when files are read ahead.
 const CHUNK: usize = 8192;
 
 /// What is read from at a time.
@@ -98,7 +98,7 @@ impl<'a, F: Files, R: Read> Sources<'a, F, R> {
         feeds as u64
     }
 
-    /// Reads on from a file, or opens the next one, of which nothing is read yet. `None` where the standard input comes, or
+    /// Reads on from a file, or opens the next one, of which nothing is read yet. `None` if the standard input comes, or
     /// nothing more.
     fn read_file(&mut self, buf: &mut [u8]) -> io::Result<Option<usize>>
         ensures few { IfOk result (λ read. IfSome read (λ count. count ≤ length buf.new)) }

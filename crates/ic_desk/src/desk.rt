@@ -47,7 +47,7 @@ impl<L: LinkStore> Model for Desk<L> {
 }
 
 impl<L: LinkStore> Desk<L> {
-    /// A desk with a bench over the start, on which nothing is marked. An error where memory is wanting, and then the start
+    /// A desk with a bench over the start, on which nothing is marked. An error if memory runs out, and then the start
     /// is gone.
     pub fn over(alloc: Global, start: Start) -> Result<Desk<L>, AllocError>
         ensures { IfOk result (λ desk. IsOver start desk) }
@@ -125,7 +125,7 @@ impl Desk<Store> {
     }
 
     /// Reduces the net by a sweep of so many workers, 2 to 64 of them, of at most so many events, 1 to 1,048,576; the marks
-    /// stay. Where there is no memory for a sweep, the answer says so, and nothing has changed. The gate sees each commit.
+    /// stay. If there is no memory for a sweep, the answer says so, and nothing has changed. The gate sees each commit.
     ///
     /// `DeskFault::Memory` if events were fired and there is no memory to tell how many, and `DeskFault::Settle` if the
     /// workers' passes aren't what the history says.

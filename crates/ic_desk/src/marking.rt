@@ -13,8 +13,8 @@ use ic_journal::{Bench, LinkStore};
 use ic_undo::mark;
 use std::alloc::{AllocError, Global};
 
-/// Marks what stands on the bench under the name, in place of the mark that has it or as a further one. Where memory is
-/// wanting, the answer is a refusal, and no mark has changed.
+/// Marks what stands on the bench under the name, in place of the mark that has it or as a further one. If memory
+/// runs out, the answer is a refusal, and no mark has changed.
 pub(crate) fn mark_under<L: LinkStore>(
     alloc: Global,
     bench: &Bench<L>,
@@ -31,7 +31,7 @@ pub(crate) fn mark_under<L: LinkStore>(
     }
 }
 
-/// The same, but for an error where memory is wanting. The mark and the answer's text are made before a mark changes.
+/// The same, but for an error if memory runs out. The mark and the answer's text are made before a mark changes.
 fn marked<L: LinkStore>(
     alloc: Global,
     bench: &Bench<L>,
@@ -55,7 +55,7 @@ fn marked<L: LinkStore>(
     Ok(Answer::Text(text))
 }
 
-/// Puts the mark at the place, or behind all others.
+/// Puts the mark at the place, or after all others.
 fn put(marks: &mut Vec<NamedMark>, place: Option<usize>, mark: NamedMark) -> Result<(), AllocError>
     requires { IsPlaceIn marks.old.items place }
     ensures puts { OnOk result (PutsAt marks.old.items place mark marks.new.items) }

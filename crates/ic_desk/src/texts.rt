@@ -32,7 +32,7 @@ pub(crate) fn back_text(
     Ok(text)
 }
 
-/// That memory was wanting after so many undoings and firings.
+/// That memory ran out after so many undoings and firings.
 pub(crate) fn wanting_text(alloc: Global, counts: Counts) -> Result<Vec<u8>, AllocError>
     ensures { IfOk result (λ text. text.items ≡ wanting_text counts.undone counts.fired) }
 {

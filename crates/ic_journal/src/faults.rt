@@ -6,7 +6,7 @@ use ic_history::{Limit, Proposal};
 use ic_name::{EventId, numbers};
 use thiserror::Error;
 
-/// Why an event isn't fired. Where the call is no step of the machine, it hands the proposal back.
+/// Why an event isn't fired. If the call is no step of the machine, it hands the proposal back.
 #[derive(Drop)]
 pub enum FireFault {
     /// The history has as many lines as it may have.

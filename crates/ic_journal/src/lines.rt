@@ -51,7 +51,7 @@ impl<L: LinkStore> Bench<L> {
         self.history.line_is(names, number as usize, call, reply)
     }
 
-    /// The note of the line with this number; `None` where there is none, or it isn't a call to fire an active pair. It takes
+    /// The note of the line with this number; `None` if there is none, or it isn't a call to fire an active pair. It takes
     /// no memory.
     pub fn note_of(&self, number: u32) -> Option<PairNote>
         ensures read { IfSome result (λ note. line_read self.now.names note ≡ slice_get self.now.lines number) }

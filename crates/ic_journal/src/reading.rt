@@ -36,7 +36,7 @@ use ic_set::{ActivePair, Wire};
 use std::alloc::AllocError;
 
 impl<L: LinkStore> Bench<L> {
-    /// The id of the agent of this name; `None` where there is no such agent. It takes no memory.
+    /// The id of the agent of this name; `None` if there is no such agent. It takes no memory.
     pub fn agent(&self, name: &AgentName) -> Option<AgentId>
         ensures found { IfSome result (λ id. (kind : AKind) × IsIn (record { id = id; name = name.now; kind = kind }) self.now.agents) }
         ensures absent { IfNone result (IsNewName self.now.agents name.now) }
@@ -44,7 +44,7 @@ impl<L: LinkStore> Bench<L> {
         self.set.bare().roster().find(name)
     }
 
-    /// The id of the standing event of this name; `None` where no such event stands. It takes no memory.
+    /// The id of the standing event of this name; `None` if no such event stands. It takes no memory.
     pub fn event(&self, name: &EventName) -> Option<EventId>
         ensures found { IfSome result (λ id. (x : Stander) × IsIn x self.now.events × (x.id ≡ id) × (pair x.event ≡ name.now)) }
         ensures absent { IfNone result ((x : Stander) → IsIn x self.now.events → pair x.event ≢ name.now) }
@@ -52,7 +52,7 @@ impl<L: LinkStore> Bench<L> {
         self.set.bare().roster().find_event(name)
     }
 
-    /// The id of the standing event that the agent of this name leads; `None` where it leads none. It takes no memory.
+    /// The id of the standing event that the agent of this name leads; `None` if it leads none. It takes no memory.
     pub fn event_led_by(&self, lead: &AgentName) -> Option<EventId>
         ensures found { IfSome result (λ id. (x : Stander) × IsIn x self.now.events × (x.id ≡ id) × (x.event.lead ≡ lead.now)) }
         ensures absent { IfNone result ((x : Stander) → IsIn x self.now.events → x.event.lead ≢ lead.now) }
@@ -69,7 +69,7 @@ impl<L: LinkStore> Bench<L> {
         roster.led_by(entry.name)
     }
 
-    /// The active pair of this event's agents; `None` where the event isn't active. It takes no memory.
+    /// The active pair of this event's agents; `None` if the event isn't active. It takes no memory.
     pub fn pair_of(&self, event: &Event) -> Option<ActivePair>
         ensures found { IfSome result (λ pair. IsPairOf (set_of self.now) event.now pair) }
         ensures absent { IfNone result (IsActive self.now.start (standing (set_of self.now)) event.now → ⊥) }
@@ -77,7 +77,7 @@ impl<L: LinkStore> Bench<L> {
         self.set.bare().active_pair(event)
     }
 
-    /// The active pair of the agents of this event's name; `None` where no wire joins their principal ports. It takes no
+    /// The active pair of the agents of this event's name; `None` if no wire joins their principal ports. It takes no
     /// memory.
     pub fn pair_named(&self, name: &EventName) -> Option<ActivePair>
         ensures found { IfSome result (λ p. (e : AnEvent) × IsPairOf (set_of self.now) e p × (pair e ≡ name.now)) }
@@ -102,7 +102,7 @@ impl<L: LinkStore> Bench<L> {
         Some(ActivePair { lead, other })
     }
 
-    /// The active pair that this agent is of; `None` where it is of none. It takes no memory.
+    /// The active pair that this agent is of; `None` if it is of none. It takes no memory.
     pub fn pair_with(&self, agent: AgentId) -> Option<ActivePair>
         ensures found { IfSome result (λ pair. ((pair.lead ≡ agent) ⊎ (pair.other ≡ agent)) × IsActivePair (set_of self.now) pair) }
         ensures absent { IfNone result ((e : AnEvent) (pair : APair) → (pair.lead ≡ agent) ⊎ (pair.other ≡ agent) → IsPairOf (set_of self.now) e pair → ⊥) }
@@ -181,7 +181,7 @@ impl<L: LinkStore> Bench<L> {
         Some(entry.rank)
     }
 
-    /// A proposal that the agents under two ids meet. It is `NotActive` where an id holds no more or both are one. It
+    /// A proposal that the agents under two ids meet. It is `NotActive` if an id holds no more or both are one. It
     /// changes nothing and adds no line.
     pub fn propose(&self, a: AgentId, b: AgentId) -> Result<Proposal, ProposeFault>
         ensures { Proposes self.now a b result }
@@ -264,7 +264,7 @@ impl<L: LinkStore> Bench<L> {
         self.set.bare().journal()
     }
 
-    /// The active pair with the least lead; `None` where no pair is active. It takes no memory.
+    /// The active pair with the least lead; `None` if no pair is active. It takes no memory.
     pub fn least_active(&self) -> Option<ActivePair>
         ensures found { IfSome result (λ pair. IsLeastPair (set_of self.now) pair) }
         ensures absent { IfNone result ((e : AnEvent) → IsActive self.now.start (standing (set_of self.now)) e → ⊥) }
@@ -310,7 +310,7 @@ impl<L: LinkStore> Bench<L> {
     }
 }
 
-/// A proposal that two agents meet; `None` where both have one name.
+/// A proposal that two agents meet; `None` if both have one name.
 fn meeting(names: &NameTable, a: AgentEntry, b: AgentEntry) -> Result<Option<Proposal>, AllocError>
     requires left { a.name.place < length names.now }
     requires right { b.name.place < length names.now }

@@ -43,7 +43,7 @@ fn parts(input: &[u8]) -> (&[u8], &[u8]) {
     (text, commands)
 }
 
-/// A desk over the net of a text; `None` where that is refused.
+/// A desk over the net of a text; `None` if that is refused.
 fn desk_over(alloc: Global, text: &[u8]) -> Result<Option<Desk<LinkRows>>, Fault> {
     match read_net(alloc, text) {
         Ok(start) => Ok(Some(Desk::over(alloc, start)?)),

@@ -49,7 +49,7 @@ pub fn row_of(line: &str) -> Option<Row<'_>> {
     })
 }
 
-/// This number of workers, where it is one from 1 to 64.
+/// This number of workers, if it is one from 1 to 64.
 fn workers_of(number: u8) -> Option<u8>
     ensures { IfSome result (λ workers. (0 < workers) × (workers ≤ 64)) }
 {

@@ -21,7 +21,7 @@ pub(crate) enum NextListed {
     Ended,
 }
 
-/// Takes the next `count` lines, and answers the events that they list; `None` where one of them lists none, or where
+/// Takes the next `count` lines, and answers the events that they list; `None` if one of them lists none, or if
 /// they are fewer. `line` is room for a line, and `place` goes along.
 pub(crate) fn listed_events<R: Read>(
     alloc: Global,

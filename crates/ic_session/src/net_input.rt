@@ -15,7 +15,7 @@ use std::io::{Read, Write};
 pub enum NetInput {
     /// It was read, and the bar after it, if there is one.
     Whole { text: Vec<u8>, barred: bool },
-    /// It has more bytes than a net text may have. Reading stops where that is known.
+    /// It has more bytes than a net text may have. Reading stops as soon as that is known.
     TooLong,
 }
 
@@ -26,8 +26,8 @@ fn is_bar(line: &[u8]) -> bool
     matches!(line, b"---" | b"---\r")
 }
 
-/// Reads the net text of a session, and the bar after it. It asks for each line if the session does. `IoFault::Read` where the
-/// reader fails or no call of it is left, `IoFault::Memory` where there is no memory.
+/// Reads the net text of a session, and the bar after it. It asks for each line if the session does. `IoFault::Read` if the
+/// reader fails or no call of it is left, `IoFault::Memory` if there is no memory.
 pub fn read_net_text<R: Read, E: Write>(
     alloc: Global,
     input: &mut Input,

@@ -127,7 +127,7 @@ struct NetText<'a> {
     before: u64,
 }
 
-/// Names the fault of a net text, says what is wrong where the session explains itself, and answers how the session has ended
+/// Names the fault of a net text, says what is wrong if the session explains itself, and answers how the session has ended
 /// with this net.
 fn refuse<W: Write, E: Write>(
     alloc: Global,
@@ -151,7 +151,7 @@ fn refuse<W: Write, E: Write>(
     Ok(after_refusal(mode, net.barred))
 }
 
-/// Answers the lines that are left, up to a refusal where the session stops there, or to one by which another net comes.
+/// Answers the lines that are left, up to a refusal if the session stops there, or to one by which another net comes.
 fn answer_all<R: Read, W: Write, E: Write, T: Threads + Wait + Sync, G: Gate>(
     setting: &Setting<'_, T, G>,
     mut desk: Desk<Store>,

@@ -43,7 +43,7 @@ impl Place {
         self.taken
     }
 
-    /// At this line; what it is about is looked for where the session explains itself.
+    /// At this line; what it is about is looked for if the session explains itself.
     pub(crate) fn enter(&mut self, line: &[u8], mode: Mode) {
         self.taken = self.taken.saturating_add(1);
         self.line = self.taken;

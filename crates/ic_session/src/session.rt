@@ -95,7 +95,7 @@ fn run_over<R: Read, W: Write, E: Write, T: Threads + Wait + Sync, G: Gate>(
     }
 }
 
-/// Says after which line a session broke off, where it explains itself.
+/// Says after which line a session broke off, if it explains itself.
 fn tell<E: Write>(alloc: Global, errors: &mut E, place: Place, fault: Fault, mode: Mode) {
     if mode.explains {
         explain_fault(alloc, errors, place, fault);

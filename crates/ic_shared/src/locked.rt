@@ -115,7 +115,7 @@ impl<B: Ledger> Locked<B> {
     }
 }
 
-/// Where the call has a reply, enters its line in the book and gives a receipt for it. It takes no memory.
+/// If the call has a reply, enters its line in the book and gives a receipt for it. It takes no memory.
 fn note<B: Ledger>(
     book: &mut Book<B>,
     share: &mut Share<B>,
@@ -142,7 +142,7 @@ fn note<B: Ledger>(
     }
 }
 
-/// The reply that stands in the history for an answer to a firing; `None` where the call adds no line.
+/// The reply that stands in the history for an answer to a firing; `None` if the call adds no line.
 fn reply_of_firing(answer: &Result<EventId, FireFault>) -> Option<Reply>
     ensures { result ≡ fire_reply answer.now }
 {
@@ -155,7 +155,7 @@ fn reply_of_firing(answer: &Result<EventId, FireFault>) -> Option<Reply>
     }
 }
 
-/// The reply that stands in the history for an answer to the firing of an active pair; `None` where the call adds no line.
+/// The reply that stands in the history for an answer to the firing of an active pair; `None` if the call adds no line.
 fn reply_of_pair(answer: &Result<Fired, PairFault>) -> Option<Reply>
     ensures { result ≡ pair_reply answer.now }
 {
@@ -167,7 +167,7 @@ fn reply_of_pair(answer: &Result<Fired, PairFault>) -> Option<Reply>
     }
 }
 
-/// The reply that stands in the history for an answer to an undo; `None` where the call adds no line.
+/// The reply that stands in the history for an answer to an undo; `None` if the call adds no line.
 fn reply_of_undo(answer: &Result<(), UndoFault>) -> Option<Reply>
     ensures { result ≡ undo_reply answer.now }
 {

@@ -12,7 +12,7 @@ use std::sync::ledger::Ledger;
 /// Each pass has two columns.
 const MAX_COLUMNS: usize = 2 * MAX_PASSES;
 
-/// Which column of its pass the one with this number is, where those of each pass have two numbers in a row: among the columns
+/// Which column of its pass the one with this number is, when those of each pass have two numbers in a row: among the columns
 /// of any passes it has this number.
 fn column_of(number: usize) -> Column
     ensures { (ns : List Name) (passes : List PassView) (pass : PassView) → slice_get passes (number / 2) ≡ Some pass → slice_get (columns ns passes) number ≡ Some (column ns pass result) }

@@ -65,7 +65,7 @@ impl<B: Ledger> Pass<B> {
         }
     }
 
-    /// The number of the receipt at this place of a column, where it is less than the one given.
+    /// The number of the receipt at this place of a column, if it is less than the one given.
     pub(crate) fn less_at(&self, column: Column, place: usize, number: u32) -> Option<u32>
         ensures { (ns : List Name) → MatchOption result ((n : ℕ) → NumberAt (the_column ns self.now column) place n → number ≤ n) (λ n. (n < number) × NumberAt (the_column ns self.now column) place n) }
     {

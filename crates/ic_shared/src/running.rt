@@ -15,17 +15,17 @@ use std::sync::ledger::{Ledger, Share};
 pub struct Ran {
     /// How many active pairs were chosen, each of which was to be fired.
     pub calls: usize,
-    /// Whether the last one met a limit or memory was wanting, which ends a run.
+    /// Whether the last one met a limit or memory ran out, which ends a run.
     pub refused: bool,
 }
 
 impl<B: Ledger> Shared<B> {
     /// Fires active pairs in turn, at most so many, and takes the lock of the bench once for all of them. The chooser chooses
     /// each by the bench as the one before left it, and hears each answer; no other call comes in between. The pass is given
-    /// a receipt for each line that this adds. The run ends where so many were fired, where nothing is chosen, and where a
-    /// limit is met or memory is wanting, and nowhere else.
+    /// a receipt for each line that this adds. The run ends once so many were fired, if nothing is chosen, and if a
+    /// limit is met or memory runs out. Nothing else ends it.
     ///
-    /// Where there is no memory for so many receipts the chooser isn't asked.
+    /// If there is no memory for so many receipts the chooser isn't asked.
     pub fn fire_run<R: Wait, C: Chooser>(
         &self,
         rt: &R,

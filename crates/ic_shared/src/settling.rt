@@ -17,7 +17,7 @@ use ic_start::Start;
 use std::sync::ledger::{Book, Ledger, Share};
 
 /// Lends the part of each pass to `all` in turn, and reads the book then. It shows that the book has at least as many lines
-/// as they tell together, and exactly as many where every part is there. It changes nothing.
+/// as they tell together, and exactly as many if every part is there. It changes nothing.
 fn audit<B: Ledger>(book: &mut Book<B>, all: &mut Share<B>, passes: &mut [Pass<B>])
     requires some { 0 < all.old.parts }
     ensures bound { all.old.amount + added_by_all passes.old ≤ book.old.total }
@@ -46,9 +46,9 @@ fn audit<B: Ledger>(book: &mut Book<B>, all: &mut Share<B>, passes: &mut [Pass<B
 ///
 /// For an answer of `Ok` the bench has the start of the opening, its history is the opening's lines and then exactly those of
 /// the passes, each told by one receipt under its number, that of a run by the names of the bench; and the lines that were
-/// added are counted. It is `Missing` exactly where there are not as many passes as were given out. It is `Mismatch`
-/// only where all passes are there, and then what the opening and the passes say is false at its number: the history's
-/// length where the start is another, before any line is looked at; else the number of a line. The bench that comes back has
+/// added are counted. It is `Missing` exactly if there are not as many passes as were given out. It is `Mismatch`
+/// only if all passes are there, and then what the opening and the passes say is false at its number: the history's
+/// length if the start is another, before any line is looked at; else the number of a line. The bench that comes back has
 /// a line for each of the opening and for each receipt of these passes, and no other line if all passes are there.
 pub fn settle<B: Ledger>(
     opening: Opening<B>,

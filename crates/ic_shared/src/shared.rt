@@ -24,7 +24,7 @@ pub struct Shared<B: Ledger> {
 }
 
 /// Shares a bench among so many passes, from 1 to `MAX_PASSES` of them, which have no lines yet. The opening keeps the start and
-/// the history up to here. Where memory is wanting the bench comes back as it was.
+/// the history up to here. If memory runs out the bench comes back as it was.
 pub fn share<B: Ledger>(
     alloc: Global,
     bench: Bench<Store>,
@@ -124,7 +124,7 @@ impl<B: Ledger> Shared<B> {
     }
 }
 
-/// The event of a proposal, once there is room for a receipt more; `None` where memory is wanting.
+/// The event of a proposal, once there is room for a receipt more; `None` if memory runs out.
 fn event_with_room(receipts: &mut Vec<Receipt>, proposal: &Proposal) -> Option<Event>
     ensures same { receipts.new.items ≡ receipts.old.items }
     ensures event { IfSome result (λ event. event ≡ proposal.now) }

@@ -81,7 +81,7 @@ fn mismatch_of<B: Ledger>(
     }
 }
 
-/// The same after two calls of the last pass, where something was changed.
+/// The same after two calls of the last pass, after something was changed.
 fn mismatch_after<B: Ledger, R: Wait>(
     rt: &R,
     alloc: Global,

@@ -49,7 +49,7 @@ fn accepted_in(lines: &[Line], line: &Line) -> Result<Option<Letter>, AllocError
     }
 }
 
-/// The event that is to be fired in the line of this number, if there is one.
+/// The event to be fired in the line of this number, if there is one.
 fn fired_in(lines: &[Line], number: u32) -> Option<&Event>
     ensures some { IfSome result (λ event. event_in (slice_get lines.now number) ≡ Some event.now) }
     ensures none { IfNone result (event_in (slice_get lines.now number) ≡ None) }

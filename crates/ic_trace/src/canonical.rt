@@ -11,8 +11,8 @@ use std::alloc::Global;
 
 /// Moves, each lawful in its turn, that lead a list to the firings of what stands after it, in canonical order.
 ///
-/// It is `TooMany` before anything else, exactly where the list has more than `MAX_LETTERS` letters, and `NotLegal` with
-/// the number of the first letter that the start doesn't accept, exactly where there is one. `Memory` may stand in place of
+/// It is `TooMany` before anything else, exactly if the list has more than `MAX_LETTERS` letters, and `NotLegal` with
+/// the number of the first letter that the start doesn't accept, exactly if there is one. `Memory` may stand in place of
 /// each answer but `TooMany`.
 pub fn moves_to_canonical(
     alloc: Global,

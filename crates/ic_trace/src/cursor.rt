@@ -11,7 +11,7 @@ use crate::moving::Move;
 use crate::reading::Step;
 use std::alloc::{AllocError, Global};
 
-/// A list of letters with a place in it: the letters before the place, and those behind it, the nearest last.
+/// A list of letters with a place in it: the letters before the place, and those after it, the nearest last.
 #[derive(Drop)]
 pub(crate) struct Cursor {
     before: Vec<Step>,
@@ -39,7 +39,7 @@ impl Cursor {
         Ok(self.before)
     }
 
-    /// Makes a move, if it is lawful; false where it isn't, and then the list is lost.
+    /// Makes a move, if it is lawful; false if it isn't, and then the list is lost.
     pub fn make(&mut self, known: &[Known], step: Move) -> Result<bool, AllocError>
         requires { AreInside known.now (list_in self.old) }
         ensures does { IfOk result (λ yes. (s : Start) → IsProper s → AreKnown s known.now → Does s step (letters_in known.now (list_in self.old)) yes (letters_in known.now (list_in self.new))) }
@@ -79,7 +79,7 @@ impl Cursor {
         }
     }
 
-    /// Takes out the letter at a place and the one behind it; `None` where there are no two.
+    /// Takes out the letter at a place and the one after it; `None` if there are no two.
     fn take_two(&mut self, place: usize) -> Result<Option<(Step, Step)>, AllocError>
         ensures { IfOk result (λ two. HasTwo (list_in self.old) place two self.new) }
     {
@@ -93,7 +93,7 @@ impl Cursor {
         Ok(Some((first, second)))
     }
 
-    /// Goes to a place, or to the end where the list is shorter.
+    /// Goes to a place, or to the end if the list is shorter.
     fn go_to(&mut self, place: usize) -> Result<(), AllocError>
         ensures same { OnOk result (list_in self.new ≡ list_in self.old) }
         ensures there { OnOk result ((length self.new.before.items ≡ place) ⊎ ((length self.new.before.items ≤ place) × (self.new.behind.items ≡ []))) }

@@ -37,7 +37,7 @@ impl EventTable {
         }
     }
 
-    /// The number of the event that this agent leads; `None` where it leads none of them.
+    /// The number of the event that this agent leads; `None` if it leads none of them.
     pub fn number(&self, lead: &AgentName) -> Option<usize>
         requires { AreNumbered self.now }
         ensures { IsNumberOf self.now.known.items lead.now result }
@@ -77,7 +77,7 @@ impl EventTable {
     }
 }
 
-/// One more than the greatest rank of these events, and 0 where there are none.
+/// One more than the greatest rank of these events, and 0 if there are none.
 pub(crate) fn rank_above(known: &[Known], causes: &[usize]) -> u32
     requires inside { (j : ℕ) → IsIn j causes.now → j < length known.now }
     requires low { (k : AKnown) → IsIn k known.now → k.rank < length known.now }

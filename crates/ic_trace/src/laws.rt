@@ -10,7 +10,7 @@ ghost use Rattle.ic_trace.specs.declared.moving.Move.{Move};
 ghost use Rattle.ic_trace.specs.Letters.{Leaves, IsLegal};
 ghost use Rattle.ic_trace.specs.Moves.{Lead, AreEquivalent};
 
-/// Two legal lists over one start are causally equivalent exactly where their standing sets are equal (Danos and Krivine
+/// Two legal lists over one start are causally equivalent exactly if their standing sets are equal (Danos and Krivine
 /// 2004).
 pub fn consistency()
     ensures equal_sets { (s : Start) (xs ys : List Letter) (es fs : List Event) → IsProper s → Leaves s xs es → Leaves s ys fs → AreEquivalent s xs ys ↔ Alike es fs }

@@ -1,4 +1,4 @@
-/// A move of a list of letters, at the letter with this number and the one behind it, counted from 0.
+/// A move of a list of letters, at the letter with this number and the one after it, counted from 0.
 #[derive(Clone, Copy, Debug, PartialEq, Eq)]
 pub enum Move {
     /// The two change places.

@@ -74,7 +74,7 @@ impl Past {
     {
         self.set.lawful();
     }
-    /// The kind of the agent of this name; `None` where there is none, or a standing event consumed it. It takes no memory.
+    /// The kind of the agent of this name; `None` if there is none, or a standing event consumed it. It takes no memory.
     pub fn kind(&self, name: &AgentName) -> Option<Kind>
         ensures { result ≡ kind_of self.now.start self.now.events name.now }
     {
@@ -85,7 +85,7 @@ impl Past {
         self.set.kind(name)
     }
 
-    /// Fires an event, where it is active; false where it isn't. At an error nothing changes.
+    /// Fires an event, if it is active; false if it isn't. At an error nothing changes.
     pub fn fire(&mut self, event: &Event) -> Result<bool, AllocError>
         requires { length self.old.events < MAX_LINES }
         ensures fired { IfOk result (λ yes. Fires self.old event.now yes self.new) }
@@ -108,7 +108,7 @@ impl Past {
         Ok(true)
     }
 
-    /// Undoes the event of this name, where it stands and nothing depends on it; false where it doesn't. It takes no
+    /// Undoes the event of this name, if it stands and nothing depends on it; false if it doesn't. It takes no
     /// memory.
     pub fn undo(&mut self, event: &EventName) -> bool
         ensures { Undoes self.old event.now result self.new }
@@ -129,7 +129,7 @@ impl Past {
         true
     }
 
-    /// The names of the direct causes of the standing event of this name; `None` where no event of this name stands.
+    /// The names of the direct causes of the standing event of this name; `None` if no event of this name stands.
     pub fn causes(&self, event: &EventName) -> Result<Option<Vec<EventName>>, AllocError>
         ensures { IfOk result (λ causes. AreCausesNamed self.now event.now (option_map (λ names. names.items) causes)) }
     {

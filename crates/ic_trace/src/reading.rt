@@ -69,7 +69,7 @@ pub(crate) fn read(alloc: Global, start: &Start, letters: &[Letter]) -> Result<R
     read_over(alloc, &mut past, letters)
 }
 
-/// Reads a list of letters, where no event stands yet.
+/// Reads a list of letters, when no event stands yet.
 fn read_over(alloc: Global, past: &mut Past, letters: &[Letter]) -> Result<Reading, AllocError>
     requires nothing { past.old.events ≡ [] }
     requires few { length letters.now ≤ MAX_LINES }
@@ -90,7 +90,7 @@ fn read_over(alloc: Global, past: &mut Past, letters: &[Letter]) -> Result<Readi
     }))
 }
 
-/// Reads a letter; `None` where it isn't accepted.
+/// Reads a letter; `None` if it isn't accepted.
 fn read_letter(
     alloc: Global,
     past: &mut Past,
@@ -114,7 +114,7 @@ fn read_letter(
     }
 }
 
-/// Reads a firing, and notes the event where it is new.
+/// Reads a firing, and notes the event if it is new.
 fn read_firing(
     alloc: Global,
     past: &mut Past,
@@ -198,7 +198,7 @@ fn read_undo(past: &mut Past, table: &EventTable, name: &EventName) -> Option<us
     Some(number)
 }
 
-/// The event of this name that may be active; `None` where an agent of it isn't there.
+/// The event of this name that may be active; `None` if an agent of it isn't there.
 fn event_of(past: &Past, name: &EventName) -> Result<Option<Event>, AllocError>
     ensures { IfOk result (λ event. IsOnlyActive past.now name.now event) }
 {

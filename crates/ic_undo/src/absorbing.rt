@@ -17,8 +17,8 @@ use std::alloc::Global;
 /// already, or is listed twice, isn't fired again. Its work is in proportion to K log K for K listed events and as many
 /// firings.
 ///
-/// `HistoryFull` before anything else, exactly where the history would be too long with two lines for each listed event.
-/// `Deep`, `Full` or `Memory` where a firing is answered so, or where memory runs out elsewhere; else `NeverActive` where
+/// `HistoryFull` before anything else, exactly if the history would be too long with two lines for each listed event.
+/// `Deep`, `Full` or `Memory` if a firing is answered so, or if memory runs out elsewhere; else `NeverActive` if
 /// a listed event is in no sound set of what stood and what is listed, with the least such name, and with what is in its
 /// way then. At each of these what was fired is undone, the last first, and that takes no memory.
 pub fn absorb<L: LinkStore>(

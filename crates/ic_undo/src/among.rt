@@ -22,14 +22,14 @@ pub(crate) struct Differences<'a> {
     pub missing: Vec<&'a Event>,
 }
 
-/// The same as they are found, where one may stand several times: ids, and places in the mark.
+/// The same as they are found, when one may stand several times: ids, and places in the mark.
 #[derive(Drop)]
 struct Found {
     outside: Vec<EventId>,
     missing: Vec<u32>,
 }
 
-/// The differences from the mark, where each of these events has its lead among these agents.
+/// The differences from the mark, when each of these events has its lead among these agents.
 pub(crate) fn differences_among<'a, L: LinkStore>(
     alloc: Global,
     bench: &Bench<L>,

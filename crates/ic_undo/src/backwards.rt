@@ -58,7 +58,7 @@ pub(crate) fn undo_unnamed<L: LinkStore>(
     Ok(())
 }
 
-/// Undoes these events, the last one first, with the room that is reserved: many of them at once, where no others stand. It
+/// Undoes these events, the last one first, with the room that is reserved: many of them at once, if no others stand. It
 /// takes no memory.
 pub(crate) fn undo_each<L: LinkStore>(bench: &mut Bench<L>, ids: &[EventId])
     requires free { AreIdsOfFree bench.old ids.now }

@@ -25,7 +25,7 @@ pub(crate) const NOTHING: Counts = Counts {
 /// order first, and then fires the events of the mark that don't stand, in canonical order. Afterwards exactly the mark's
 /// events stand, and those that stood before keep their ids. Each undoing and each firing adds a line.
 ///
-/// `HistoryFull` exactly where a line for each of them doesn't fit into the history; nothing has changed then, the room
+/// `HistoryFull` exactly if a line for each of them doesn't fit into the history; nothing has changed then, the room
 /// included. `Memory` may stand in place of each answer, with the numbers of the events that were undone and fired
 /// before memory ran out; these are done. The undoings take no memory, so it comes before all of them or after. Each
 /// line takes at most one line of room.
@@ -82,7 +82,7 @@ pub(crate) fn go_over<L: LinkStore>(
     }
 }
 
-/// Fires these events, the first one first, and answers how many they are; where memory runs out, how many were fired.
+/// Fires these events, the first one first, and answers how many they are; if memory runs out, how many were fired.
 fn fire_each<L: LinkStore>(bench: &mut Bench<L>, events: Vec<&Event>) -> Result<u32, u32>
     requires firable { AreFirable bench.old.start (standing (set_of bench.old)) (map (λ e. e.now) events.items) }
     requires fit { length bench.old.lines + length events.items ≤ MAX_LINES }

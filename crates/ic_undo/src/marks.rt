@@ -57,7 +57,7 @@ impl Mark {
         &self.events
     }
 
-    /// The place of the event that this agent leads, in time that grows as the depth of its name; `None` where it leads none
+    /// The place of the event that this agent leads, in time that grows as the depth of its name; `None` if it leads none
     /// of them. It takes no memory.
     pub(crate) fn place_of(&self, lead: &AgentName) -> Option<u32>
         ensures found { IfSome result (λ place. (e : AnEvent) × (slice_get self.now.events place ≡ Some e) × (e.lead ≡ lead.now)) }

@@ -34,7 +34,7 @@ pub(crate) struct Crew<B: Ledger> {
 
 /// Lets the other workers run, each on a thread of its own, and the first one on the caller's, and takes them all in
 /// again: their seats into the first one's, their passes into `home`. A worker whose thread can't be started is taken
-/// in as it is; where there is no memory for the threads, that is each but the first one.
+/// in as it is; if there is no memory for the threads, that is each but the first one.
 pub(crate) fn run_crew<B: Ledger + Send + Sync, G: Gate, R: Threads + Wait + Sync>(
     rt: &R,
     alloc: Global,

@@ -45,7 +45,7 @@ pub(crate) fn claim(claims: &Claims, seat: &mut Seat, hint: AgentId) -> bool
 }
 
 impl Hand<'_> {
-    /// Takes this hint in hand, and not what was, if its word is free; where another worker holds it, the hint goes behind the
+    /// Takes this hint in hand, and not what was, if its word is free; if another worker holds it, the hint goes after the
     /// others, and nothing is in hand. It tells whether the word was free.
     fn reach(&mut self, hint: AgentId) -> bool
         requires table { self.old.seat.now.table ≡ self.old.claims.now.table }

@@ -24,7 +24,7 @@ pub(crate) struct Sources<'a> {
 
 impl Sources<'_> {
     /// A hint of the worker's own, or one that is stolen from another; it looks twice before it finds none. So many in a row were
-    /// busy, each of which went behind the others of its own: where these are all that it has, or `BUSY_BEFORE_OTHERS`, those of
+    /// busy, each of which went after the others of its own: if these are all that it has, or `BUSY_BEFORE_OTHERS`, those of
     /// other workers come first.
     pub fn find<R: Wait>(&mut self, rt: &R, busy: u32) -> Option<Hint> {
         let others_first = busy > 0 && self.own.len().min(BUSY_BEFORE_OTHERS) <= busy as usize;
@@ -80,7 +80,7 @@ pub(crate) fn agent_of(own: &mut Deque<Hint>, leads: &[AgentId], hint: Hint) -> 
     }
 }
 
-/// Takes so many agents of the worker's own hints for a run, if there are as many. Where memory is wanting, some are dropped.
+/// Takes so many agents of the worker's own hints for a run, if there are as many. If memory runs out, some are dropped.
 pub(crate) fn gather(
     own: &mut Deque<Hint>,
     leads: &[AgentId],
@@ -109,7 +109,7 @@ pub(crate) fn gather(
     }
 }
 
-/// Puts what a run left out among the worker's own hints again. Where memory is wanting, some are dropped.
+/// Puts what a run left out among the worker's own hints again. If memory runs out, some are dropped.
 pub(crate) fn put_back(own: &mut Deque<Hint>, near: &mut VecDeque<AgentId>) {
     for _left in 0..near.len() {
         if let Some(agent) = near.pop_front() {
@@ -118,8 +118,8 @@ pub(crate) fn put_back(own: &mut Deque<Hint>, near: &mut VecDeque<AgentId>) {
     }
 }
 
-/// Puts the leads of these pairs among the agents of a run, each once: before the others, or behind them. It tells whether there
-/// were any. Where memory is wanting, they are dropped.
+/// Puts the leads of these pairs among the agents of a run, each once: before the others, or after them. It tells whether there
+/// were any. If memory runs out, they are dropped.
 pub(crate) fn put_out(
     near: &mut VecDeque<AgentId>,
     pairs: [Option<ActivePair>; 4],

@@ -7,7 +7,7 @@ pub(crate) const BLOCK: usize = 63;
 /// After how many firings, each of a pair that the one before made active, a run goes on with its other hints.
 pub(crate) const IN_A_ROW: u32 = 16;
 
-/// After how many busy hints in a row, its own or stolen, a worker looks at those of others before its own. Where it has fewer
+/// After how many busy hints in a row, its own or stolen, a worker looks at those of others before its own. If it has fewer
 /// hints, it does so after as many as it has.
 pub(crate) const BUSY_BEFORE_OTHERS: usize = 4;
 

@@ -32,12 +32,12 @@ use std::thread::Threads;
 /// whose thread can't be started is left out, and `ran` counts the others.
 ///
 /// The start stays, and so does all that stood; just the events that are counted are new (Lafont 1997). The end is
-/// `Normal` exactly where no pair is active any more, and then each sound set over the start is a part of what stands,
+/// `Normal` exactly if no pair is active any more, and then each sound set over the start is a part of what stands,
 /// so that any two sweeps from one start that end so leave the same. Otherwise a pair is active still, and the end is
-/// `Budget` where as many were fired as the budget says, `Limit` where the firing of the active pair with the least
-/// lead meets a limit, and `Memory` where fewer were fired and memory was wanting.
+/// `Budget` if as many were fired as the budget says, `Limit` if the firing of the active pair with the least
+/// lead meets a limit, and `Memory` if fewer were fired and memory ran out.
 ///
-/// `SweepFault::Memory` comes only before anything is fired, and `SweepFault::Settle` where the workers' passes
+/// `SweepFault::Memory` comes only before anything is fired, and `SweepFault::Settle` if the workers' passes
 /// aren't what the history says. Each hands the bench back: the first as it was, the second with at least as many lines.
 /// The gate sees each commit; no lock is held then. It may be asked of tickets that aren't used in the end.
 pub fn sweep<G: Gate, R: Threads + Wait + Sync>(
@@ -77,7 +77,7 @@ fn most_in_a_run(workers: u32, budget: u32) -> usize
     (budget / (2 * workers)).clamp(1, MOST as u32) as usize
 }
 
-/// The sweep over a ledger of its own, where these agents are the first hints.
+/// The sweep over a ledger of its own, with these agents as the first hints.
 fn sweep_as<B: Ledger + Send + Sync, G: Gate, R: Threads + Wait + Sync>(
     rt: &R,
     alloc: Global,

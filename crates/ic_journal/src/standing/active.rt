@@ -14,7 +14,7 @@ use ic_set::ActivePair;
 use std::alloc::AllocError;
 
 impl<L: LinkStore> StandingSet<L> {
-    /// The active pair with the least lead, in constant time; `None` where no pair is active. It takes no memory.
+    /// The active pair with the least lead, in constant time; `None` if no pair is active. It takes no memory.
     pub fn least_active(&self) -> Option<ActivePair>
         ensures found { IfSome result (λ pair. IsLeastPair self.now.set pair) }
         ensures absent { IfNone result ((e : AnEvent) → IsActive self.now.set.start (standing self.now.set) e → ⊥) }

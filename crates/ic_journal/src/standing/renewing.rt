@@ -97,7 +97,7 @@ fn empty_queue<L: LinkStore>(
 }
 
 /// Makes the queue anew without the leads of what stands, where a third of its leads may be such, since as many firings passed the
-/// front over, and these aren't few beside the names, for each of which it takes room. Where memory is wanting, the queue stays
+/// front over, and these aren't few beside the names, for each of which it takes room. If memory runs out, the queue stays
 /// as it is.
 pub(crate) fn renew_where_worn<L: LinkStore>(
     alloc: Global,

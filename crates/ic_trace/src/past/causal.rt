@@ -16,7 +16,7 @@ pub fn is_causal_order(alloc: Global, start: &Start, events: &[Event]) -> Result
     fire_in_order(&mut past, events)
 }
 
-/// Fires the events in turn, where no event stands yet; false at the first that isn't active.
+/// Fires the events in turn, when no event stands yet; false at the first that isn't active.
 fn fire_in_order(past: &mut Past, events: &[Event]) -> Result<bool, AllocError>
     requires nothing { past.old.events ≡ [] }
     requires few { length events.now ≤ MAX_LINES }

@@ -60,7 +60,7 @@ pub(crate) fn fire_beside(
     Ok(())
 }
 
-/// Room for the flag of a line. Each flag is what it was, and false where it was none.
+/// Room for the flag of a line. Each flag is what it was, and false if it was none.
 fn make_room(taken: &mut Vec<bool>, line: u32) -> Result<(), AllocError>
     ensures room { OnOk result (line < length taken.new.items) }
     ensures same { (n : ℕ) → slice_index_or taken.new.items n false ≡ slice_index_or taken.old.items n false }
