@@ -1,9 +1,9 @@
 -- What is written on one net, from what its parts did.
-use Rattle.std.proofs.Common.{◌≡◌, ℕ, ◌<◌, Bool, true, false, List, [], length, refl, sym, ap, arith, ◌∙◌, subst, inl, inr, Vec, Global}
-use Rattle.std.proofs.KnownBytes.{Appends-nil, prepend_known-nil}
+use Rattle.std.proofs.Common.{◌≡◌, ℕ, ◌<◌, Bool, true, false, List, [], length, refl, sym, arith, ◌∙◌, subst, inl, inr, Vec, Global}
+use Rattle.std.proofs.KnownBytes.{Appends-nil}
 use Rattle.std.specs.Prelude.{Option, Some, None, IfSome}
 use Rattle.ic_command.specs.Faults.{AppendsFront}
-use Rattle.std.specs.Io.KnownBytes.{Appends, prepend_known}
+use Rattle.std.specs.Io.KnownBytes.{Appends}
 use Rattle.ic_theory.specs.Starts.{Start}
 use Rattle.ic_desk.specs.Desks.{initial}
 use Rattle.ic_text.specs.Grammar.{Denotes}
@@ -22,10 +22,6 @@ use Rattle.ic_session.specs.NetInput.{ReadsNet}
 use Rattle.ic_session.specs.declared.mode.Mode.{Mode}
 use Rattle.ic_session.specs.Refusals.{refusal_line}
 use Rattle.ic_session.specs.Sessions.{AnswersCommands, AnswersNet, AreBegun, Begins, IsBegun, IsLastText, IsNetText, LeadsOn, NamesFirst, WritesNet, answering, end_refused, naming, nothing, renewed, retried}
-
--- where nothing was read and not yet taken, what is left is what the reader has left
-pub fresh_left : {held : List ℕ} (known : Option (List ℕ)) → held ≡ [] → prepend_known held known ≡ known
-fresh_left known e = ap (λ bs. prepend_known bs known) e ∙ prepend_known-nil known
 
 -- a net text that is too long has no fault that goes before that
 long_first : (f : Refusal) → Precedes TooLong f
