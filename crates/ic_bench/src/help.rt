@@ -15,17 +15,17 @@ pub const LESSON: &str = "Input:
   The text of a net, a line ---, and then commands, one a line.
   A net is equations of terms: G(p,q) is a gamma, D(p,q) a delta, E an epsilon, each with its principal
   port at the place of the term. A name that occurs twice is a wire, one that occurs once a free end.
-  The agents are named 0, 1, .. in the order of the text; those that 0 and 1 become are 0.0 to 0.3.
+  The agents are named 0, 1, .. in the order of the text; the children of 0 and 1 are 0.0, 0.1 and so on.
   A # begins a comment.
 
 Commands:
   net          print the net
   active       list the active pairs
   fire A B     fire the active pair of the agents A and B
-  undo A B     undo the event of A and B, if no other rests on it
+  undo A B     undo the event of A and B, if no other depends on it
   why A B      tell the rank and the direct causes of an event
-  unwind A B   undo an event and all that rests on it
-  reduce N     fire up to N active pairs, each time the one with the least name; in any order with several workers
+  unwind A B   undo an event and all that depends on it
+  reduce N     fire up to N active pairs, each time the one with the least lead; in any order with several workers
   mark NAME    note which events stand
   back NAME    go back to the events that were noted
   absorb K     fire the events that the next K lines list, A B each, in whatever order they can be fired
@@ -33,7 +33,7 @@ Commands:
   undo-all     undo all events
 
 With --explain also:
-  agents, causes, history, marks, dependents A B, wire A P, step N, unstep N, rules, new, help, quit: help tells what they do; each refusal is explained
+  agents, causes, history, marks, dependents A B, wire A P, step N, unstep N, rules, new, help, quit; help tells what they do. Each refusal is explained.
 
 Example:
   G(x,a) = D(x,b);
@@ -50,13 +50,13 @@ Example:
   why 0 1 rank 0 causes 0
 
 Refusals:
-  1 to 9   the net text is wrong, mostly with the byte where; without the line --- all of the input is net text
+  1 to 9   the net text is wrong, mostly at a byte; without the line --- all of the input is net text
   21       one of the agents isn't there, or no wire joins their principal ports
   22, 23   names would get too long; there would be too many agents
-  24       the history is full, since what was undone doesn't leave it: begin a session anew
+  24       the history is full (undone calls stay in it): begin a new session
   25       there is no memory
   26       no agent of the net has this port, or no free name is called so
-  31, 32   no such event stands; the one that is named rests on it and has to be undone first
+  31, 32   no such event stands; the one that is named depends on it and must be undone first
   40       no command: write commands in lower case, agents as 0 or 0.2, and two different ones
   41, 42   there is no such mark; there are 256 marks
   51       the event that is named can't come to stand with what stands and what is listed

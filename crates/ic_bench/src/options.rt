@@ -133,7 +133,7 @@ fn budget_argument<'a>(alloc: Global) -> Arg<'a>
         .value_name("0..1048576")
         .value_parser(value_parser!(u32).range(0..=i64::from(MAX_BUDGET)))
         .action(ArgAction::Set)
-        .help("the most that a reduce fires [default: 1048576]")
+        .help("the most events that a reduce fires [default: 1048576]")
 }
 
 /// An option without a value.
@@ -155,7 +155,7 @@ fn explain_argument<'a>(alloc: Global) -> Arg<'a>
     flag(
         alloc,
         "explain",
-        "answers questions, too, and says on standard error what is wrong with what is refused",
+        "answers questions, too, and says on standard error why something is refused",
     )
 }
 
@@ -176,7 +176,7 @@ fn echo_argument<'a>(alloc: Global) -> Arg<'a>
     ensures rule { rule_of result ≡ echo_rule }
     ensures plain { IsPlainArg result × (result.global ≡ false) }
 {
-    flag(alloc, "echo", "each command stands before its answer")
+    flag(alloc, "echo", "writes each command before its answer")
 }
 
 /// The option that says that the session is one at a terminal.
@@ -184,7 +184,8 @@ fn interactive_argument<'a>(alloc: Global) -> Arg<'a>
     ensures rule { rule_of result ≡ interactive_rule }
     ensures plain { IsPlainArg result × (result.global ≡ false) }
 {
-    let asks = "explains, too, and asks for each line on standard error, as at a terminal";
+    let asks =
+        "explains, too, and asks for each line on standard error; after a refused net another may come";
     flag(alloc, "interactive", asks).short('i')
 }
 
@@ -196,5 +197,5 @@ fn files_argument<'a>(alloc: Global) -> Arg<'a>
     Arg::new(alloc, "files")
         .value_name("FILE")
         .action(ArgAction::Append)
-        .help("the session, file after file; - is the standard input, and so is no file")
+        .help("files of the session, one after the other; - or no file is the standard input")
 }

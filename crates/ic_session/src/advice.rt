@@ -11,25 +11,23 @@ pub(crate) fn advice(topic: Topic, number: u8) -> Option<&'static str> {
             "the two agents aren't both there with their principal ports joined; active lists the pairs that can fire",
         ),
         22 => Some(
-            "the names of the children would have more than 16383 digits; nothing below these agents can be fired",
+            "the names of the children would have more than 16383 digits; this pair can't be fired",
         ),
         23 => Some(
-            "there would be more than 262144 agents, with those that standing events have consumed; undo events first",
+            "there would be more than 262144 agents, counting those that standing events consumed; undo events first",
         ),
-        24 => Some(
-            "the history has no room for the calls, of which it holds 1048576; begin the session anew",
-        ),
+        24 => Some("the history holds at most 1048576 calls; begin a new session"),
         25 => Some("there is no memory for it; what the answer tells is all that was done"),
         26 => Some(
-            "no agent of the net has this port, or no free name is called so; net prints those that there are",
+            "no agent has this port, or no free name is called so; agents lists the agents, and net prints the free names",
         ),
         31 => Some("no event of these agents stands; journal lists those that do"),
         32 => Some(
-            "the event that the answer names rests on it; undo that one first, or unwind this one with all that rests on it",
+            "the event that the answer names depends on it; undo that one first, or unwind this one with all that depends on it",
         ),
         40 => Some(expected(topic)),
         41 => Some("no mark has this name; marks lists those that there are"),
-        42 => Some("there are 256 marks; only the name of one of them can be marked again"),
+        42 => Some("there are 256 marks; mark under the name of one of them"),
         51 => Some(
             "the event that the answer names can't come to stand with what stands and what is listed",
         ),
@@ -46,7 +44,7 @@ fn expected(topic: Topic) -> &'static str {
         Topic::Number =>
             "expected after reduce: one number from 0 to 1048576, without leading zeros",
         Topic::Mark =>
-            "expected after the first word: a name of a small letter or _, then small letters, digits and _, at most 32 bytes",
+            "expected after the first word: a name of at most 32 bytes: a small letter or _, then small letters, digits and _",
         Topic::Place => "expected after wire: an agent and a port, such as 0 2, or a free name",
         Topic::List =>
             "expected after absorb: a number from 0 to 131072, and then as many lines, each with the names of two agents",

@@ -40,7 +40,7 @@ fn wrong_command(alloc: Global, place: Place, line: &[u8]) -> Result<Option<Stri
             "line {number} lists no event; expected there: the names of two different agents, such as 0 and 0.2, or a line of a journal"
         )?)),
         Some(ListFault::Ended) => Ok(Some(format!(in alloc;
-            "the input ends before as many lines as absorb announces"
+            "the input ends before the list of absorb is complete"
         )?)),
         None => wrong_in(alloc, place.topic, line),
     }
@@ -62,9 +62,8 @@ pub(crate) fn explain_fault<E: Write>(alloc: Global, errors: &mut E, place: Plac
     let said = match fault {
         Fault::Read => "the input can't be read after this line; all lines up to it were answered",
         Fault::Write => "the answer to this line can't be written",
-        Fault::Memory => "there is no memory for this line, or to answer what it changed",
-        Fault::Settle =>
-            "what the workers say that they did for this line isn't what the history says",
+        Fault::Memory => "memory ran out for this line or for its answer",
+        Fault::Settle => "what the workers report for this line isn't what the history says",
     };
     say(errors, line_note(alloc, place.line, said, None));
 }

@@ -20,12 +20,12 @@ returns-in_err-input-clause-began g c =
 pub returns-then-mode-clause-wrote : goal.returns-then-mode-clause-wrote
 returns-then-mode-clause-wrote g c = rw c.mode-mode.ensures at
     (subst (λ (known : Option (List ℕ)). IfOk c.run_session.result (λ status. IfSome known (λ bytes. Writes c.mode-mode.result bytes status (g.W.Write.contents c.args.writer.now) (g.W.Write.contents c.run_session.new.writer))))
-        (fresh-left (g.R.Read.remaining c.args.reader.now) c.in_ok-input.ensures.fresh) c.run_session.ensures.written)
+    (fresh-left (g.R.Read.remaining c.args.reader.now) c.in_ok-input.ensures.fresh) c.run_session.ensures.written)
 
 pub returns-then-mode-clause-began : goal.returns-then-mode-clause-began
 returns-then-mode-clause-began g c = rw c.mode-mode.ensures at
     (subst (λ (known : Option (List ℕ)). OnErr c.run_session.result (IfSome known (λ bytes. (text : List ℕ) × IsBegun c.mode-mode.result bytes text × Appends (g.W.Write.contents c.args.writer.now) (g.W.Write.contents c.run_session.new.writer) text)))
-        (fresh-left (g.R.Read.remaining c.args.reader.now) c.in_ok-input.ensures.fresh) c.run_session.ensures.begun)
+    (fresh-left (g.R.Read.remaining c.args.reader.now) c.in_ok-input.ensures.fresh) c.run_session.ensures.begun)
 
 pub returns-then-mode-clause-silent : goal.returns-then-mode-clause-silent
 returns-then-mode-clause-silent g c = λ off. let bad = sym c.if-mode.true ∙ ap (λ (m : Mode). m.explains) c.mode-mode.ensures ∙ off in cc
@@ -33,9 +33,9 @@ returns-then-mode-clause-silent g c = λ off. let bad = sym c.if-mode.true ∙ a
 pub returns-clause-wrote : goal.returns-clause-wrote
 returns-clause-wrote g c = rw c.mode-mode.ensures at
     (subst (λ (known : Option (List ℕ)). IfOk c.run_session.result (λ status. IfSome known (λ bytes. Writes c.mode-mode.result bytes status (g.W.Write.contents c.args.writer.now) (g.W.Write.contents c.run_session.new.writer))))
-        (fresh-left (g.R.Read.remaining c.args.reader.now) c.in_ok-input.ensures.fresh) c.run_session.ensures.written)
+    (fresh-left (g.R.Read.remaining c.args.reader.now) c.in_ok-input.ensures.fresh) c.run_session.ensures.written)
 
 pub returns-clause-began : goal.returns-clause-began
 returns-clause-began g c = rw c.mode-mode.ensures at
     (subst (λ (known : Option (List ℕ)). OnErr c.run_session.result (IfSome known (λ bytes. (text : List ℕ) × IsBegun c.mode-mode.result bytes text × Appends (g.W.Write.contents c.args.writer.now) (g.W.Write.contents c.run_session.new.writer) text)))
-        (fresh-left (g.R.Read.remaining c.args.reader.now) c.in_ok-input.ensures.fresh) c.run_session.ensures.begun)
+    (fresh-left (g.R.Read.remaining c.args.reader.now) c.in_ok-input.ensures.fresh) c.run_session.ensures.begun)
