@@ -141,7 +141,9 @@ fn session<R: Read, W: Write, E: Write, T: Threads + Wait + Sync, G: Gate, F: Fi
     ensures silent { (mode_of options).explains ≡ false → E.contents errors.new ≡ E.contents errors.old }
 {
     let mode = options.mode();
-    let mut input = Input::new(host.alloc, MAX_READS)?;
+    let Ok(mut input) = Input::new(host.alloc, MAX_READS) else {
+        return Err(Fault::Memory);
+    };
     let mut output = Output::new();
     let setting = Setting {
         threads: host.threads,
