@@ -13,7 +13,8 @@ and makes the call again.
 
 Sessions: where no answer can be given, the program ends with status 3, and what it wrote is a front of what it writes with
 memory. Where a command is answered by `refused 25`, it is given once more, with the same allocation refused: then the first
-of both answers is the refusal, the second what is wanting of the worked answer, and all others are the worked ones. With
+of both answers is the refusal, the second what is wanting of the worked answer, and all others are the worked ones. A
+`step N` that stops early lists what it fired, and another does the rest. With
 several workers, of which no two runs take memory in one order, what was written up to the refusal is looked at alone.
 Sessions that would run for longer than half a minute have some allocations refused, from the first to the last, and what
 they wrote up to the refusal is looked at alone.
@@ -165,6 +166,25 @@ def what_is_wanting(command, refusal, whole):
     return None
 
 
+def goes_on_stepping(refuser, session, places, refused, status, written):
+    """Whether a `step N` stopped early, and the firings that it lists and those of another `step` together are the worked ones."""
+    place = max(k for k in range(len(session.commands)) if session.answer[: places[k]] == written[: places[k]])
+    asked = re.fullmatch(rb"step (\d+)\n", session.commands[place])
+    told = re.match(rb"stepped (\d+)\n", written[places[place] :])
+    if not asked or not told:
+        return False
+    done = int(told[1])
+    listed = written[places[place] + told.end() :].splitlines(keepends=True)[:done]
+    fired = session.answer[places[place] : places[place + 1]].splitlines(keepends=True)[1:]
+    if fired[:done] != listed or done >= len(fired):
+        return False
+    again = b"step %d\n" % (int(asked[1]) - done)
+    text = session.front(place + 1) + again + b"".join(session.commands[place + 1 :])
+    rest = b"stepped %d\n" % (len(fired) - done) + b"".join(fired[done:])
+    answer = session.answer[: places[place]] + told[0] + b"".join(listed) + rest + session.answer[places[place + 1] :]
+    return refuser.run(session.command, refused, text)[:2] == (status, answer)
+
+
 def is_right(refuser, session, places, refused, status, written):
     """Whether a run of a session with this allocation refused ended and wrote as it should."""
     if status == STATUS_OF_NO_MEMORY:
@@ -174,7 +194,9 @@ def is_right(refuser, session, places, refused, status, written):
     if written == session.answer:
         return True
     found = re.search(rb"^refused 25 memory.*\n", written, re.M)
-    if found is None or not session.answer.startswith(written[: found.start()]):
+    if found is None:
+        return session.workers == "1" and goes_on_stepping(refuser, session, places, refused, status, written)
+    if not session.answer.startswith(written[: found.start()]):
         return False
     if session.workers != "1":
         return True
