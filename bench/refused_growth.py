@@ -11,13 +11,13 @@ about five minutes.
 Tests: each passes whichever allocation is refused. It looks at what is left where a call is answered by want of memory,
 and makes the call again.
 
-Sessions: where no answer can be given, the program ends with status 3, and what it wrote is a front of what it writes with
-memory. Where a command is answered by `refused 25`, it is given once more, with the same allocation refused: then the first
-of both answers is the refusal, the second what is wanting of the worked answer, and all others are the worked ones. A
-`step N` that stops early lists what it fired, and another does the rest. With
-several workers, of which no two runs take memory in one order, what was written up to the refusal is looked at alone.
-Sessions that would run for longer than half a minute have some allocations refused, from the first to the last, and what
-they wrote up to the refusal is looked at alone.
+Sessions: where no answer can be given, the program ends with status 3, and what it wrote is a front of what it writes
+with memory. Where a command is answered by `refused 25`, it is given once more, with the same allocation refused: then
+the first of both answers is the refusal, the second what is wanting of the worked answer, and all others are the worked
+ones. A `step N` that stops early lists what it fired, and another does the rest. With several workers, of which no two
+runs take memory in one order, what was written up to the refusal is looked at alone. Sessions that would run for longer
+than half a minute have some allocations refused, from the first to the last, and what they wrote up to the refusal is
+looked at alone.
 """
 import os
 import pathlib
