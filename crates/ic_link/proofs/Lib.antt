@@ -3,6 +3,7 @@ pub mod SpotLinks
 pub mod Walks
 pub mod Lawful
 pub mod RowWalks
+pub mod Beyond
 pub mod RowRings
 pub mod Restored
 pub mod OnlyLink

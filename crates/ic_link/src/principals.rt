@@ -26,7 +26,7 @@ pub(crate) fn end_of(spot: Spot, far: Far) -> Spot
     }
 }
 
-/// The agents of these two spots, where both are principal ports.
+/// The agents of these two spots, if both are principal ports.
 pub fn principals_of(a: Spot, b: Spot) -> Option<Principals>
     ensures { ArePrincipals a b result }
 {
@@ -35,7 +35,7 @@ pub fn principals_of(a: Spot, b: Spot) -> Option<Principals>
     Some(Principals { one, other })
 }
 
-/// The agent of a spot, where the spot is its principal port.
+/// The agent of a spot, if the spot is its principal port.
 fn principal(spot: Spot) -> Option<AgentId>
     ensures found { IfSome result (λ agent. spot ≡ Agent agent 0) }
     ensures absent { IfNone result ((agent : AnAgentId) → spot ≢ Agent agent 0) }

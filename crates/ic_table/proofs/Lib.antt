@@ -16,6 +16,8 @@ pub mod SameRecords
 pub mod Unnamed
 pub mod OwnSlots
 pub mod RecordWalks
+pub mod WalksBeyond
+pub mod NamedLinks
 pub mod PathMakers
 pub mod SameSlots
 pub mod EndReads

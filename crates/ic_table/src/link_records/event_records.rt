@@ -1,5 +1,5 @@
 ghost use Rattle.std.specs.Prelude.{◌≡◌, ◌≢◌, ◌==◌, ℕ, ◌+◌, ◌*◌, ◌<◌, ◌≤◌, length, Some, None, IsSome, IsTrue, IsFalse, IfOk, IfSome, IfNone, OnErr, if◌then◌else◌};
-ghost use Rattle.ic_table.specs.RowSlots.{Fills, HasSpots, HasLinkOf, HasNoneOf, SameIn};
+ghost use Rattle.ic_table.specs.RowSlots.{Fills, HasSpots, HasLinkOf, HasNoneOf, HasLinkAt, HasNoneAt, SameIn};
 ghost use Rattle.ic_table.specs.EventRows.{row_at, event_row, event_rows, links_at, most_events, AreShort, IsLastOf, PutsAt};
 
 use crate::link_records::LinkRecord;
@@ -145,6 +145,19 @@ impl EventRecords {
             return None;
         }
         Some(8 * event.slot + links.len - 1)
+    }
+
+    /// The slot of the event's link at this place, if its record has one there.
+    pub fn slot_of(&self, event: EventId, place: u32) -> Option<u32>
+        ensures row { IfSome result (HasLinkAt (event_row self.now) event place) }
+        ensures small { IfSome result (λ slot. slot < 8 * most_events) }
+        ensures none { IfNone result (HasNoneAt (event_row self.now) event place) }
+    {
+        let links = self.records.get(event.slot as usize)?;
+        if place >= links.len || links.line != event.line {
+            return None;
+        }
+        Some(8 * event.slot + place)
     }
 
     /// Takes away the link in the slot, which is the last one of its event's record.

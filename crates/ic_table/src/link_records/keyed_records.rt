@@ -1,6 +1,6 @@
 ghost use Rattle.std.specs.Prelude.{◌≡◌, ◌==◌, ℕ, ◌<◌, ◌≤◌, length, Some, None, IsSome, IfOk, IfSome, IfNone, OnErr, if◌then◌else◌};
 ghost use Rattle.ic_name.specs.Spots.{is_maker};
-ghost use Rattle.ic_table.specs.RowSlots.{Fills, HasSpots, HasLinkOf, HasNoneOf, SameIn};
+ghost use Rattle.ic_table.specs.RowSlots.{Fills, HasSpots, HasLinkOf, HasNoneOf, HasLinkAt, HasNoneAt, SameIn};
 ghost use Rattle.ic_table.specs.KeyedRows.{keyed_row, keyed_rows, most_keys, HaveFewKeys};
 
 use crate::link_records::LinkRecord;
@@ -93,6 +93,29 @@ impl KeyedRecords {
         for key in 0..MOST_KEYS.min(self.rows.capacity()) {
             if let Some(row) = self.rows.get(key) {
                 if is_made_by(event, row.id) {
+                    return Some(key as u32);
+                }
+            }
+        }
+        None
+    }
+
+    /// The key of the event's link at this place, if there is one. It looks at every key.
+    pub fn find(&self, event: EventId, place: u32) -> Option<u32>
+        ensures row { IfSome result (HasLinkAt (keyed_row self.now) event place) }
+        ensures small { IfSome result (λ key. key < most_keys) }
+        ensures none { IfNone result (HasNoneAt (keyed_row self.now) event place) }
+    {
+        if self.rows.is_empty() {
+            return None;
+        }
+        let id = LinkId {
+            maker: MakerId::Event(event),
+            place,
+        };
+        for key in 0..MOST_KEYS.min(self.rows.capacity()) {
+            if let Some(row) = self.rows.get(key) {
+                if row.id == id {
                     return Some(key as u32);
                 }
             }
