@@ -2,6 +2,7 @@ ghost use Rattle.std.specs.Prelude.{◌≡◌, ◌++◌, map, IfOk, OnOk};
 ghost use Rattle.ic_cause.specs.Journals.{journal_head, journal_line, journal_text};
 
 use ic_name::{Event, write_pair};
+use itoa::Buffer;
 use std::alloc::{AllocError, Global};
 
 /// An event and its rank.
@@ -18,7 +19,7 @@ pub fn journal_text(alloc: Global, events: &[RankedEvent]) -> Result<Vec<u8>, Al
 {
     let mut text = journal_head(alloc, events.len())?;
     for ranked in events {
-        push_line(alloc, &mut text, ranked)?;
+        push_line(&mut text, ranked)?;
     }
     Ok(text)
 }
@@ -31,11 +32,13 @@ pub fn journal_head(alloc: Global, events: usize) -> Result<Vec<u8>, AllocError>
 }
 
 /// Puts the line of an event at the end. At an error memory ran out, and a front of the line may stand there.
-pub fn push_line(alloc: Global, text: &mut Vec<u8>, ranked: &RankedEvent) -> Result<(), AllocError>
+pub fn push_line(text: &mut Vec<u8>, ranked: &RankedEvent) -> Result<(), AllocError>
     ensures { OnOk result (text.new.items ≡ text.old.items ++ journal_line (record { event = ranked.now.event; rank = ranked.now.rank })) }
 {
     write_pair(ranked.event.lead(), ranked.event.other(), text)?;
-    let rank = format!(in alloc; " rank {}\n", ranked.rank)?.into_bytes();
-    text.extend_from_slice(&rank)?;
+    let mut rank = Buffer::new();
+    text.extend_from_slice(b" rank ")?;
+    text.extend_from_slice(rank.format(ranked.rank).as_bytes())?;
+    text.push(b'\n')?;
     Ok(())
 }

@@ -93,7 +93,7 @@ impl FireFault {
 }
 
 impl PairFault {
-    /// The answer where firing an active pair meets this limit.
+    /// The answer if firing an active pair meets this limit.
     pub(crate) fn of(limit: Limit) -> PairFault
         ensures { result ≡ fault_of limit }
     {

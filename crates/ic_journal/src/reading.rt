@@ -18,7 +18,7 @@ ghost use Rattle.ic_set.specs.declared.pairs.ActivePair.{ActivePair as APair};
 ghost use Rattle.ic_set.specs.Views.{standing};
 ghost use Rattle.ic_set.specs.Removal.{Stands};
 ghost use Rattle.ic_set.specs.Orders.{AreCanonical, AreInOrder, IsAny};
-ghost use Rattle.ic_set.specs.Pairs.{IsPairOf, IsActivePair, IsLeastPair, AreActivePairs};
+ghost use Rattle.ic_set.specs.Pairs.{IsPairOf, IsActivePair, IsLeastPair, AreActivePairs, AreBornPairs};
 ghost use Rattle.ic_set.specs.Wires.{IsWireAt};
 ghost use Rattle.ic_journal.specs.Views.{set_of};
 ghost use Rattle.ic_journal.specs.Proposals.{Proposes};
@@ -108,6 +108,15 @@ impl<L: LinkStore> Bench<L> {
         ensures absent { IfNone result ((e : AnEvent) (pair : APair) → (pair.lead ≡ agent) ⊎ (pair.other ≡ agent) → IsPairOf (set_of self.now) e pair → ⊥) }
     {
         self.set.pair_with(agent)
+    }
+
+    /// The active pairs that the event under this id makes: those whose event would have it as a direct cause (Danos and Krivine
+    /// 2004). There is a place for each link of an event, and no rule has more than eight. All are `None` for an id that holds no
+    /// more. It takes no memory.
+    pub fn born_pairs(&self, id: EventId) -> [Option<ActivePair>; 8]
+        ensures { AreBornPairs (set_of self.now) id result }
+    {
+        self.set.bare().born_pairs(id)
     }
 
     /// The name of an active pair's event.

@@ -26,7 +26,7 @@ pub struct StandingSet<L: LinkStore> {
     pub(crate) bare: Box<BareSet<L>>,
     pub(crate) queue: LeadQueue,
     pub(crate) front: Option<ActivePair>,
-    /// How many firings were of another pair than the front's since the queue was made.
+    /// How many firings since the queue was made were of another pair than the front's.
     pub(crate) passed_over: usize,
     pub(crate) alloc: Global,
 }

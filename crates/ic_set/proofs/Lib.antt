@@ -60,3 +60,6 @@ pub mod LastNames
 pub mod ReadNets
 pub mod WirePaths
 pub mod LooseSpots
+pub mod OverLinks
+pub mod LinkPlaces
+pub mod BornPairs

@@ -46,10 +46,10 @@ abbrev LedAbsent : SetView → Option AgentId → Option ActivePair → Type 0
 LedAbsent v agent o = IfNone o ((e : Event) (p : ActivePair) → Some p.lead ≡ agent → IsPairOf v e p → ⊥)
 
 -- what an answer says of the pair between the agents of a join
-abbrev BetweenFound : SetView → Option Principals → Option ActivePair → Type 0
+abbrev pub BetweenFound : SetView → Option Principals → Option ActivePair → Type 0
 BetweenFound v j o = IfSome o (λ p. IsActivePair v p × IsBetween j p)
 
-abbrev BetweenAbsent : SetView → Option Principals → Option ActivePair → Type 0
+abbrev pub BetweenAbsent : SetView → Option Principals → Option ActivePair → Type 0
 BetweenAbsent v j o = IfNone o ((e : Event) (p : ActivePair) → IsPairOf v e p → IsBetween j p → ⊥)
 
 -- the joins before this place were looked up, and what was found stands at their places
@@ -74,7 +74,7 @@ answered_none v joins four = record { long = sym four; found = λ i low. absurd 
     none (suc (suc (suc (suc i)))) few = absurd (omega arith)
 
 -- what is before the next place is before this one, or at it
-before_next : (i place : ℕ) → i < place + 1 → (i ≡ place) ⊎ ((i ≢ place) × (i < place))
+pub before_next : (i place : ℕ) → i < place + 1 → (i ≡ place) ⊎ ((i ≢ place) × (i < place))
 before_next i place below = by (eqb i place) refl
   where
     by : (t : Bool) → eqb i place ≡ t → (i ≡ place) ⊎ ((i ≢ place) × (i < place))
@@ -160,7 +160,7 @@ module _ (v : SetView) (set : IsStandingSet v) where
   one_between e f p q h k j of (back a b) = subst (HasBoth j) (one_pair_of f e q p k h j.one (inr a) of) (back a b)
 
   -- the pair between the agents of a join is answered
-  between_each : (j : Option Principals) (o : Option ActivePair) → BetweenFound v j o → BetweenAbsent v j o → (e : Event) (p : ActivePair) → IsPairOf v e p → IsBetween j p → Some p ≡ o
+  pub between_each : (j : Option Principals) (o : Option ActivePair) → BetweenFound v j o → BetweenAbsent v j o → (e : Event) (p : ActivePair) → IsPairOf v e p → IsBetween j p → Some p ≡ o
   between_each j None found absent e p h b = absurd (absent e p h b)
   between_each j (Some q) found absent e p h b = ap Some (by b found.1)
     where

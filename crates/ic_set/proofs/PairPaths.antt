@@ -95,20 +95,23 @@ module _ (v : SetView) (ls : List Link) (k : IsKept v ls) (e : Event) (p : Activ
   abbrev ByEvent : EventId → Type 0
   ByEvent d = (y : Stander) × IsIn y v.events × (y.id ≡ d) × IsCause v.start (standing v) e y.event
 
-  -- the makers of its links are the direct causes
-  pub pair_causes : (ids : List LinkId) (causes : List EventId) → Joins ls lead_spot ids other_spot → AreMakers ids causes → AreCausesOf v e causes
-  pair_causes ids causes j h = each_once_so {P = IsMaker ids} {Q = ByEvent} to from h
-    where
-      to : (d : EventId) → IsMaker ids d → ByEvent d
-      to d m =
-          let held = maker_held k.naming v.start (standing v) ls k.shows ids j d m in
-          let y = k.named.no_other_events d held in
-          let is : k.naming.event d ≡ y.0.event = ap k.naming.event (sym y.2) ∙ (k.named.events y.0 y.1).1 in
-          (y.0, y.1, y.2, maker_cause k.naming v.start (standing v) ls k.set.proper k.set.sound k.shows p.lead p.other ids e y.0.event lead_named other_named j (d, m.0, m.1, m.2, held, is))
+  module _ (ids : List LinkId) (j : Joins ls lead_spot ids other_spot) where
+    -- the maker of a link of that path is a direct cause
+    pub maker_causes : (d : EventId) → IsMaker ids d → ByEvent d
+    maker_causes d m =
+        let held = maker_held k.naming v.start (standing v) ls k.shows ids j d m in
+        let y = k.named.no_other_events d held in
+        let is : k.naming.event d ≡ y.0.event = ap k.naming.event (sym y.2) ∙ (k.named.events y.0 y.1).1 in
+        (y.0, y.1, y.2, maker_cause k.naming v.start (standing v) ls k.set.proper k.set.sound k.shows p.lead p.other ids e y.0.event lead_named other_named j (d, m.0, m.1, m.2, held, is))
 
-      from : (d : EventId) → ByEvent d → IsMaker ids d
-      from d y =
-          let m = cause_maker k.naming v.start (standing v) ls k.set.proper k.set.sound k.shows p.lead p.other ids e y.0.event lead_named other_named j y.3 in
-          let its = k.named.events y.0 y.1 in
-          let same : m.0 ≡ d = k.shows.apart.events m.0 y.0.id m.4 its.0 (m.5 ∙ sym its.1) ∙ y.2 in
-          (m.1, m.2, m.3 ∙ ap (λ c. maker.Event c) same)
+    -- and a direct cause made a link of it
+    pub cause_makes : (d : EventId) → ByEvent d → IsMaker ids d
+    cause_makes d y =
+        let m = cause_maker k.naming v.start (standing v) ls k.set.proper k.set.sound k.shows p.lead p.other ids e y.0.event lead_named other_named j y.3 in
+        let its = k.named.events y.0 y.1 in
+        let same : m.0 ≡ d = k.shows.apart.events m.0 y.0.id m.4 its.0 (m.5 ∙ sym its.1) ∙ y.2 in
+        (m.1, m.2, m.3 ∙ ap (λ c. maker.Event c) same)
+
+  -- so the makers of its links are the direct causes
+  pub pair_causes : (ids : List LinkId) (causes : List EventId) → Joins ls lead_spot ids other_spot → AreMakers ids causes → AreCausesOf v e causes
+  pair_causes ids causes j h = each_once_so {P = IsMaker ids} {Q = ByEvent} (maker_causes ids j) (cause_makes ids j) h

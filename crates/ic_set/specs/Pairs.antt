@@ -5,13 +5,15 @@ use Rattle.std.specs.Ordering.{is_gt}
 use Rattle.ic_name.specs.Names.{name_cmp}
 use Rattle.ic_name.specs.Events.{Event}
 use Rattle.ic_name.specs.declared.ids.AgentId.{AgentId}
+use Rattle.ic_name.specs.declared.ids.EventId.{EventId}
 use Rattle.ic_name.specs.declared.ports.Port.TheVariants.{Of}
 use Rattle.ic_path.specs.Orders.{IsIn}
 use Rattle.ic_path.specs.Rings.{HasEachOnce}
 use Rattle.ic_link.specs.declared.principals.Principals.{Principals}
 use Rattle.ic_theory.specs.Active.{IsActive}
+use Rattle.ic_theory.specs.Causes.{IsCause}
 use Rattle.ic_theory.specs.Wires.{IsWire}
-use Rattle.ic_roster.specs.Rosters.{Member}
+use Rattle.ic_roster.specs.Rosters.{Member, Stander}
 use Rattle.ic_set.specs.declared.pairs.ActivePair.{ActivePair}
 use Rattle.ic_set.specs.Views.{SetView, standing}
 
@@ -61,3 +63,8 @@ pub record AreActiveJoins (v : SetView) (joins : List (Option Principals)) (pair
 pub record Awakes (old new : SetView) (pairs : List (Option ActivePair)) : Type 0 where
   pub each : (e : Event) (p : ActivePair) → IsPairOf new e p → IsPairOf old e p ⊎ IsIn (Some p) pairs
   pub only : (p : ActivePair) → IsIn (Some p) pairs → IsActivePair new p × (IsActivePair old p → ⊥)
+
+-- the pairs are those that the event under the id makes: their events are active, and would have it as a direct cause
+pub record AreBornPairs (v : SetView) (id : EventId) (pairs : List (Option ActivePair)) : Type 0 where
+  pub each : (e : Event) (p : ActivePair) (x : Stander) → IsPairOf v e p → IsIn x v.events → x.id ≡ id → IsCause v.start (standing v) e x.event → IsIn (Some p) pairs
+  pub only : (p : ActivePair) → IsIn (Some p) pairs → (e : Event) × (x : Stander) × IsPairOf v e p × IsIn x v.events × (x.id ≡ id) × IsCause v.start (standing v) e x.event

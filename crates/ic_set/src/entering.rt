@@ -14,7 +14,7 @@ use ic_roster::Roster;
 use smallvec::SmallVec;
 use std::alloc::{AllocError, Global};
 
-/// An agent that is to be entered, by the place of its name.
+/// An agent to enter, by the place of its name.
 #[derive(Clone, Copy)]
 pub(crate) struct NewAgent {
     pub name: NameId,

@@ -13,7 +13,7 @@ use ic_name::{AgentId, AgentName, Kind, Spot};
 use ic_names::NameId;
 
 impl<L: LinkStore> BareSet<L> {
-    /// The kind of the agent of this name; `None` where there is none, or a standing event consumed it. It takes no memory.
+    /// The kind of the agent of this name; `None` if there is none, or a standing event consumed it. It takes no memory.
     pub fn kind(&self, name: &AgentName) -> Option<Kind>
         ensures { result ≡ kind_of self.now.set.start (standing self.now.set) name.now }
     {

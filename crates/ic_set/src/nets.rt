@@ -84,7 +84,7 @@ fn journal_of(alloc: Global, roster: &Roster, placed: &[Placed]) -> Result<Vec<u
             event,
             rank: standing.rank,
         };
-        push_line(alloc, &mut text, &ranked)?;
+        push_line(&mut text, &ranked)?;
     }
     Ok(text)
 }

@@ -117,8 +117,8 @@ pub(crate) fn placed_event(
     }
 }
 
-/// The canonical order of two standing events: by rank, then lead, then other. The table is asked only where ranks and keys
-/// are one. It takes no memory.
+/// The canonical order of two standing events: by rank, then lead, then other. The table is asked only if ranks and keys
+/// are the same. It takes no memory.
 pub(crate) fn canonical_order(names: &NameTable, a: &Placed, b: &Placed) -> Ordering
     ensures { result ≡ keyed_cmp (place names.now a.now) (place names.now b.now) }
 {

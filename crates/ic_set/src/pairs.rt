@@ -14,7 +14,7 @@ ghost use Rattle.ic_theory.specs.Wires.{IsWire};
 ghost use Rattle.ic_roster.specs.Rosters.{Member as AMember, Stander, event_in};
 ghost use Rattle.ic_names.specs.Queues.{AreNamed, StandOnce};
 ghost use Rattle.ic_set.specs.Meetings.{HasEntry, IsMeeting};
-ghost use Rattle.ic_set.specs.Pairs.{AreJoined, IsPairOf, IsActivePair, AreActivePairs, AreActiveJoins, IsBetween};
+ghost use Rattle.ic_set.specs.Pairs.{AreJoined, IsPairOf, IsActivePair, AreActivePairs, AreActiveJoins, AreBornPairs, IsBetween};
 ghost use Rattle.ic_set.specs.Queues.{Leads, HasLeads};
 ghost use Rattle.ic_set.specs.Views.{standing};
 
@@ -50,7 +50,7 @@ struct Meeting {
 }
 
 impl<L: LinkStore> BareSet<L> {
-    /// The agent whose principal port a wire joins to that of this agent; `None` where there is none. It takes no memory.
+    /// The agent whose principal port a wire joins to that of this agent; `None` if there is none. It takes no memory.
     pub fn partner(&self, agent: AgentId) -> Option<AgentId>
         ensures found { IfSome result (λ partner. AreJoined self.now.set agent partner) }
         ensures absent { IfNone result ((partner : AnAgentId) → AreJoined self.now.set agent partner → ⊥) }
@@ -58,7 +58,7 @@ impl<L: LinkStore> BareSet<L> {
         Some(self.meeting(agent)?.partner)
     }
 
-    /// This agent and its partner, each looked up once; `None` where it has none. It takes no memory.
+    /// This agent and its partner, each looked up once; `None` if it has none. It takes no memory.
     fn meeting(&self, agent: AgentId) -> Option<Meeting>
         ensures found { IfSome result (λ meeting. IsMeeting self.now agent meeting) }
         ensures absent { IfNone result ((partner : AnAgentId) → AreJoined self.now.set agent partner → ⊥) }
@@ -86,7 +86,7 @@ impl<L: LinkStore> BareSet<L> {
         Some(entry)
     }
 
-    /// The ids of the agents of an event, where it is active; `None` where it isn't. It takes no memory.
+    /// The ids of the agents of an event, if it is active. It takes no memory.
     pub fn active_pair(&self, event: &Event) -> Option<ActivePair>
         ensures found { IfSome result (λ pair. IsPairOf self.now.set event.now pair) }
         ensures absent { IfNone result (IsActive self.now.set.start (standing self.now.set) event.now → ⊥) }
@@ -157,7 +157,7 @@ impl<L: LinkStore> BareSet<L> {
         self.led(self.roster.named(name))
     }
 
-    /// All active pairs, by lead, where the lead of each is among these names.
+    /// All active pairs, by lead. These names include the lead of each.
     pub fn active_among(&self, leads: Vec<Lead>) -> Result<Vec<ActivePair>, AllocError>
         requires named { AreNamed self.now.names leads.items }
         requires once { StandOnce leads.items }
@@ -192,6 +192,22 @@ impl<L: LinkStore> BareSet<L> {
                 pairs[place] = self.active_join(join);
             }
         }
+    }
+
+    /// The active pairs that the event under this id makes: those whose event would have it as a direct cause. There is a place
+    /// for each link of an event, of which no rule has more than eight. All are `None` for an id that holds no more. It takes no
+    /// memory.
+    pub fn born_pairs(&self, event: EventId) -> [Option<ActivePair>; 8]
+        ensures { AreBornPairs self.now.set event result }
+    {
+        self.store.lawful();
+        let mut pairs = [None; 8];
+        for place in 0..8 {
+            if let Some(join) = self.store.joined_by(event, place as u32) {
+                pairs[place] = self.active_join(join);
+            }
+        }
+        pairs
     }
 
     /// The active pair of the two agents of a join, if they are one. It takes no memory.

@@ -110,7 +110,7 @@ impl<L: LinkStore> BareSet<L> {
         self.port_of(end)
     }
 
-    /// The partner of the name of this number; `None` where the name isn't free. At an error memory ran out.
+    /// The partner of the name of this number; `None` if the name isn't free. At an error memory ran out.
     fn partner_of_name(&self, number: u32) -> Result<Option<Port>, AllocError>
         ensures { IfOk result (λ partner. partner ≡ (net_in self.now.set).partner (port_variants.Name number)) }
     {

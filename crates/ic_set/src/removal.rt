@@ -16,7 +16,7 @@ use ic_names::NameId;
 use ic_roster::Roster;
 
 impl<L: LinkStore> BareSet<L> {
-    /// The least direct dependent of a standing event, in canonical order; `None` where nothing depends on it. It takes no
+    /// The least direct dependent of a standing event, in canonical order; `None` if nothing depends on it. It takes no
     /// memory.
     pub fn least_dependent(&self, id: EventId) -> Option<EventId>
         requires { Stands self.now.set id }

@@ -1,5 +1,6 @@
 //! Tests of `ic_journal`.
 
+mod born_pairs;
 mod both_stores;
 mod histories;
 mod ids;

@@ -12,8 +12,8 @@ use ic_names::LeadQueue;
 use ic_set::{ActivePair, BareSet};
 use std::alloc::Global;
 
-/// The front of the queue once the pair of this lead was fired, and the leads of those that became active by it were put in. Where
-/// it is the one of before, it was passed over once more. Else names at the front that lead no active pair go.
+/// The front of the queue after the pair of this lead was fired, and the leads of the pairs that it made active were put in. If
+/// the front is the same as before, it was passed over once more. Else names at the front that lead no active pair go.
 pub(crate) fn front_after<L: LinkStore>(
     alloc: Global,
     queue: &mut LeadQueue,
@@ -40,8 +40,8 @@ pub(crate) fn front_after<L: LinkStore>(
     drop_stale(queue, set)
 }
 
-/// The pair that was at the front before that of this lead was fired, where it is there still: it is another, and no lesser
-/// lead has come. It takes no memory.
+/// The pair that was at the front before the pair of this lead was fired, if it is still there: it is another pair, and no
+/// lesser lead has come. It takes no memory.
 fn still_front<L: LinkStore>(
     queue: &LeadQueue,
     set: &BareSet<L>,

@@ -96,9 +96,9 @@ fn empty_queue<L: LinkStore>(
     Ok(queue)
 }
 
-/// Makes the queue anew without the leads of what stands, where a third of its leads may be such, since as many firings passed the
-/// front over, and these aren't few beside the names, for each of which it takes room. If memory runs out, the queue stays
-/// as it is.
+/// Makes the queue anew without the leads of standing events, if these may be a third of its leads. So many firings passed the
+/// front over then, and they aren't few beside the names, because the queue takes room for each name. If memory runs out, the
+/// queue stays as it is.
 pub(crate) fn renew_where_worn<L: LinkStore>(
     alloc: Global,
     queue: &mut LeadQueue,
