@@ -1,8 +1,8 @@
 -- What firing an event by its name answers.
-use Rattle.std.proofs.Common.{◌≡◌, length, map, codes, inl, refl, sym, ap, subst, ◌∙◌}
+use Rattle.std.proofs.Common.{◌≡◌, Err, length, map, codes, inl, refl, sym, ap, subst, ◌∙◌}
 use Rattle.std.specs.declared.cmp.Ordering.TheVariants.{Less}
 use Rattle.ic_name.specs.Names.{Name, name_cmp}
-use Rattle.ic_name.specs.Events.{Event, Pair, event_of}
+use Rattle.ic_name.specs.Events.{Event, Pair, event_of, pair}
 use Rattle.ic_name.specs.declared.ids.AgentId.{AgentId}
 use Rattle.ic_name.specs.declared.kinds.Kind.{Kind}
 use Rattle.ic_name.specs.declared.limits.TheConstants.{MAX_LINES}
@@ -18,19 +18,24 @@ use Rattle.ic_theory.specs.Machine.{State, events}
 use Rattle.ic_theory.proofs.Future.{made_alike}
 use Rattle.ic_theory.proofs.Machines.{history_length}
 use Rattle.ic_roster.specs.Rosters.{Member, IsNewName}
+use Rattle.ic_set.specs.declared.pairs.ActivePair.{ActivePair}
+use Rattle.ic_set.specs.Pairs.{IsPairOf}
 use Rattle.ic_set.specs.Views.{agent_of}
 use Rattle.ic_set.proofs.Namings.{same_member}
-use Rattle.ic_journal.specs.Views.{BenchView}
+use Rattle.ic_journal.specs.Views.{BenchView, set_of}
 use Rattle.ic_journal.specs.Benches.{IsAt, IsBench}
-use Rattle.ic_journal.specs.Calls.{Steps}
+use Rattle.ic_journal.specs.Calls.{Steps, FiresPair}
+use Rattle.ic_journal.specs.declared.faults.PairFault.{PairFault}
+use Rattle.ic_journal.specs.declared.faults.PairFault.TheVariants as pair_fault
 use Rattle.ic_journal.specs.Proposals.{IsEventOf}
 use Rattle.ic_journal.proofs.MachineSteps.{events_at}
 use Rattle.ic_command.specs.declared.command.Command.TheVariants.{Fire}
 use Rattle.ic_answer.specs.declared.refused.Refused.TheVariants as refused
 use Rattle.ic_answer.specs.CommandReplies.{IsPresent, fire_unknown, fire_history_full, fired, fire_not_active, fire_deep, fire_full}
+use Rattle.ic_answer.specs.Stepping.{refusal_of}
 use Rattle.ic_answer.specs.Texts.{pair_line, refusal_text}
 use Rattle.ic_answer.specs.Turns.{Tells, TurnsByCommand}
-use Rattle.ic_answer.proofs.TurnSteps.{stepped}
+use Rattle.ic_answer.proofs.TurnSteps.{stepped, told_same, stays_for_memory}
 
 -- the agents of a bench are those of the machine
 agents_at : (v : BenchView) → IsBench v → (st : State) → IsAt v st → Alike (map agent_of v.agents) (agents v.start (events st))
@@ -114,3 +119,17 @@ fires_full old new p e is bench steps = stepped old new (Fire p) _ (call.Fire e)
 -- and one for which the history has no line
 pub tells_no_line : (v : BenchView) (p : Pair) (e : Event) → IsProposed v p e → length v.lines ≡ MAX_LINES → Tells v (Fire p) (refusal_text refused.HistoryFull)
 tells_no_line v p e is full = λ st at. fire_history_full (is st at) (history_length at.history ∙ full)
+
+-- the event of an active pair that was found by its name
+pub of_pair : (v : BenchView) (p : Pair) (e : Event) (a : ActivePair) → IsBench v → IsPairOf (set_of v) e a → pair e ≡ p → IsProposed v p e
+of_pair v p e a bench h named = λ st at. record {
+  present = record { lead = there v bench _ h.lead st at; other = there v bench _ h.other st at; ordered = h.active.present.ordered };
+  name = named;
+}
+
+-- a refused firing of an active pair
+pub refuses_pair : (old new : BenchView) (p : Pair) (e : Event) → IsProposed old p e → IsBench new → (fault : PairFault) → FiresPair old e (Err fault) new → TurnsByCommand old (Fire p) (refusal_text (refusal_of fault)) new
+refuses_pair old new p e is bench pair_fault.Deep h = fires_deep old new p e is bench h.0
+refuses_pair old new p e is bench pair_fault.Full h = fires_full old new p e is bench h.0
+refuses_pair old new p e is bench pair_fault.HistoryFull h = told_same old new (Fire p) (refusal_text refused.HistoryFull) h.1 (tells_no_line old p e is h.0)
+refuses_pair old new p e is bench pair_fault.Memory h = stays_for_memory old new (Fire p) tt h.1

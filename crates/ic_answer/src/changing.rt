@@ -11,12 +11,33 @@ ghost use Rattle.ic_answer.specs.Turns.{TurnsByCommand};
 use crate::answer::Answer;
 use crate::named::{event_line, name_line};
 use crate::refused::Refused;
+use crate::stepping::refused_for;
 use ic_journal::{Bench, FireFault, LinkStore, UndoFault};
 use ic_name::{EventId, EventName};
 use std::alloc::Global;
 
-/// Fires an event. Its answer is made before it is fired.
+/// Fires an event. Its answer is made before it is fired. Only an event that isn't active takes a proposal.
 pub(crate) fn fire<L: LinkStore>(alloc: Global, bench: &mut Bench<L>, event: &EventName) -> Answer
+    ensures turns { TurnsByCommand bench.old (Fire event.now) (answer_text result) bench.new }
+    ensures lines { IsLonger bench.old bench.new }
+{
+    bench.lawful();
+    let Some(pair) = bench.pair_named(event) else {
+        return propose(alloc, bench, event);
+    };
+    let Ok(text) = name_line(alloc, b"fired ", event) else {
+        return Answer::Refused(Refused::Memory);
+    };
+    let fired = bench.fire_pair(pair);
+    bench.lawful();
+    match fired {
+        Ok(_) => Answer::Text(text),
+        Err(fault) => Answer::Refused(refused_for(fault)),
+    }
+}
+
+/// Fires an event by a proposal. Its answer is made before it is fired.
+fn propose<L: LinkStore>(alloc: Global, bench: &mut Bench<L>, event: &EventName) -> Answer
     ensures turns { TurnsByCommand bench.old (Fire event.now) (answer_text result) bench.new }
     ensures lines { IsLonger bench.old bench.new }
 {

@@ -12,7 +12,7 @@ use ic_name::EventName;
 use ic_undo::resting_on;
 use std::alloc::{AllocError, Global};
 
-/// The events that rest on a standing event, which `unwind` would take back with it, itself among them.
+/// A standing event and all that depend on it: those that `unwind` would take back.
 pub fn tell_dependents<L: LinkStore>(
     alloc: Global,
     bench: &Bench<L>,

@@ -6,6 +6,9 @@ ghost use Rattle.ic_answer.specs.Texts.{event_line, pair_line};
 use ic_name::{Event, EventName, write_pair};
 use std::alloc::{AllocError, Global};
 
+/// The bytes of two short names with a blank and a line feed, for which a line has room at once.
+const SHORT_NAMES: usize = 24;
+
 /// Puts the names of an event at the end.
 pub(crate) fn push_name(text: &mut Vec<u8>, event: &EventName) -> Result<(), AllocError>
     ensures { OnOk result (text.new.items ≡ text.old.items ++ pair_text event.now) }
@@ -37,7 +40,8 @@ pub(crate) fn name_line(
 ) -> Result<Vec<u8>, AllocError>
     ensures { IfOk result (λ text. text.items ≡ pair_line word.now event.now) }
 {
-    let mut text = Vec::from_slice(alloc, word)?;
+    let mut text = Vec::with_capacity(alloc, word.len() + SHORT_NAMES)?;
+    text.extend_from_slice(word)?;
     push_name(&mut text, event)?;
     text.push(b'\n')?;
     Ok(text)

@@ -62,7 +62,7 @@ fn fire_listed<L: LinkStore>(
     }
 }
 
-/// The line of an active pair's event, and the head of a list of so many, for both of which there is room in the list.
+/// The line of an active pair's event, and the head of a list of so many. There is room for both in the list.
 fn ready<L: LinkStore>(
     alloc: Global,
     bench: &Bench<L>,
@@ -85,7 +85,7 @@ fn ready<L: LinkStore>(
 }
 
 /// The refusal of a firing that has this fault.
-fn refused_for(fault: PairFault) -> Refused
+pub(crate) fn refused_for(fault: PairFault) -> Refused
     ensures { result ≡ refusal_of fault }
 {
     match fault {

@@ -16,7 +16,7 @@ use ic_name::EventName;
 use ic_undo::{UndoAllFault, UnwindFault, clear, unwind};
 use std::alloc::{AllocError, Global};
 
-/// Undoes an event with all that rests on it. An error if events were undone and there is no memory to tell which.
+/// Undoes an event with all that depends on it. An error if events were undone and there is no memory to tell which.
 pub(crate) fn undo_with_dependents<L: LinkStore>(
     alloc: Global,
     bench: &mut Bench<L>,
