@@ -56,7 +56,7 @@ LESSON_FROM_FILES = """\
 net read: 2 agents, 1 active pair; help lists the commands
 fired 0 1
 refused 21 not active
-line 4: the two agents aren't both there with their principal ports joined; active lists the pairs that can fire
+line 4: one of the agents isn't there, or no wire joins their principal ports; active lists the pairs that can fire
 icbench> journal
 journal 1
 0 1 rank 0

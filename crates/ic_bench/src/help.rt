@@ -27,7 +27,7 @@ Commands:
   unwind A B   undo an event and all that depends on it
   reduce N     fire up to N active pairs, each time the one with the least lead; in any order with several workers
   mark NAME    note which events stand
-  back NAME    go back to the events that were noted
+  back NAME    go back to the events of the mark
   absorb K     fire the events that the next K lines list, A B each, in whatever order they can be fired
   journal      list the events that stand
   undo-all     undo all events
@@ -55,11 +55,11 @@ Refusals:
   22, 23   names would get too long; there would be too many agents
   24       the history is full (undone calls stay in it): begin a new session
   25       there is no memory
-  26       no agent of the net has this port, or no free name is called so
+  26       there is no such port or free name
   31, 32   no such event stands; the one that is named depends on it and must be undone first
-  40       no command: write commands in lower case, agents as 0 or 0.2, and two different ones
+  40       no command: write commands in small letters, and two different agents, as 0 or 0.2
   41, 42   there is no such mark; there are 256 marks
-  51       the event that is named can't come to stand with what stands and what is listed
+  51       the named event can't stand together with the standing and the listed events
 
 Exit status:
   0    the session ended

@@ -60,7 +60,7 @@ pub struct Asked<'a> {
     pub files: Vec<&'a str>,
 }
 
-/// Reads the words of a command line, the first of which names the program.
+/// Reads the words of a command line. The first one names the program.
 pub fn read_options<'a, S: AsStr>(alloc: Global, words: &'a [S]) -> Result<Asked<'a>, Error>
     ensures chosen { IfOk result (λ asked. Choose (map S.text words.now) asked.options) }
     ensures files { IfOk result (λ asked. map (λ file. file.now) asked.files.items ≡ files_in (map S.text words.now)) }

@@ -126,7 +126,7 @@ fn run<R: Read, W: Write, E: Write, T: Threads + Wait + Sync, G: Gate, F: Files>
     }
 }
 
-/// Runs a session over an input, of which so many lines were read ahead, and answers how it ended.
+/// Runs a session over an input, and answers how it ended. So many lines were read ahead.
 fn session<R: Read, W: Write, E: Write, T: Threads + Wait + Sync, G: Gate, F: Files>(
     host: &Host<'_, T, G, F>,
     options: Options,
@@ -178,7 +178,7 @@ fn refuse_file<E: Write>(alloc: Global, name: &str, errors: &mut E) -> u8
     BROKEN
 }
 
-/// Writes the help where the command line asks for it, and else what is wrong with that.
+/// Writes the help if the command line asks for it, and else what is wrong with the command line.
 fn explain<W: Write, E: Write>(alloc: Global, error: Error, writer: &mut W, errors: &mut E) -> u8
     ensures { Explains (kind_of error) (record { before = W.contents writer.old; after = W.contents writer.new }) (record { before = E.contents errors.old; after = E.contents errors.new }) result }
 {

@@ -98,8 +98,8 @@ impl<'a, F: Files, R: Read> Sources<'a, F, R> {
         feeds as u64
     }
 
-    /// Reads on from a file, or opens the next one, of which nothing is read yet. `None` if the standard input comes, or
-    /// nothing more.
+    /// Reads on from a file, or opens the next one and reads nothing of it yet. `None` if the standard input comes next, or
+    /// nothing.
     fn read_file(&mut self, buf: &mut [u8]) -> io::Result<Option<usize>>
         ensures few { IfOk result (λ read. IfSome read (λ count. count ≤ length buf.new)) }
         ensures whole { length buf.new ≡ length buf.old }
@@ -133,7 +133,7 @@ impl<'a, F: Files, R: Read> Sources<'a, F, R> {
         self.unread
     }
 
-    /// Reads on from what is open.
+    /// Reads on from the open file or the standard input.
     fn read_on(&mut self, buf: &mut [u8]) -> io::Result<usize>
         ensures { ReadsAtMost result buf.new }
     {

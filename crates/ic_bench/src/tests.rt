@@ -125,7 +125,7 @@ fn a_session_stops_at_a_refusal_if_it_is_told_to(rt: HostRuntime) {
     let all = b"fired 0 1\nrefused 21 not active\nundone 0 1\n".as_slice();
     let front = b"fired 0 1\nrefused 21 not active\n".as_slice();
     let said =
-        b"line 4: the two agents aren't both there with their principal ports joined; active lists the pairs that can fire\n".as_slice();
+        b"line 4: one of the agents isn't there, or no wire joins their principal ports; active lists the pairs that can fire\n".as_slice();
     let rows = [
         (["icbench", "--workers=1"], input, 0, all, b"".as_slice()),
         (["icbench", "--stop"], input, 5, front, b""),
@@ -180,7 +180,7 @@ fn a_session_that_explains_itself(rt: HostRuntime) {
     let output =
         b"agents 2\n0 G(_0,a) = _1;\n1 D(_0,b) = _1;\nfired 0 1\ndependents 0 1 events 1\n0 1\nhistory 1\n0 fire 0 1: fired\nrefused 21 not active\nmarked m 1\nmarks 1\nm 1\nrefused 40 command\nrefused 40 command\n";
     let errors =
-        b"line 7: the two agents aren't both there with their principal ports joined; active lists the pairs that can fire\nline 10: no command begins with NET; help lists all\nline 11: the two agents must be different; both are 0\n";
+        b"line 7: one of the agents isn't there, or no wire joins their principal ports; active lists the pairs that can fire\nline 10: no command begins with NET; help lists all\nline 11: the two agents must be different; both are 0\n";
     let words = ["icbench", "--explain"];
     assert!(rt; runs(&rt, rt.alloc(), &words, input, 0, output, errors));
     let question = b"---\nagents\n";

@@ -18,7 +18,7 @@ pub enum Asked {
     Absorb(u32),
 }
 
-/// What a line without its line feed asks for. An error where there is no memory for the names in it.
+/// What a line without its line feed asks for. An error if there is no memory for the names in it.
 pub fn asked_of(alloc: Global, line: &[u8]) -> Result<Asked, AllocError>
     ensures { IfOk result (λ asked. IsAsked line.now asked) }
 {

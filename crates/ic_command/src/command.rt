@@ -29,7 +29,7 @@ pub enum Command {
     Undo(EventName),
     /// The rank and the direct causes of an event.
     Why(EventName),
-    /// To undo an event with all that rests on it.
+    /// To undo an event with all that depends on it.
     Unwind(EventName),
     /// To undo all events.
     UndoAll,
@@ -111,7 +111,7 @@ fn alone(behind: &[u8], command: Command) -> Command
     }
 }
 
-/// The event that the words of a line name; `None` where they aren't the names of two agents.
+/// The event that the words of a line name; `None` if they aren't the names of two agents.
 pub(crate) fn event_in(alloc: Global, line: &[u8]) -> Result<Option<EventName>, AllocError>
     ensures { IfOk result (λ event. IsEventIn (words line.now) event) }
 {
@@ -127,7 +127,7 @@ pub(crate) fn event_in(alloc: Global, line: &[u8]) -> Result<Option<EventName>, 
     event_of(alloc, first, second)
 }
 
-/// The event that two words name; `None` where they aren't the names of two agents.
+/// The event that two words name; `None` if they aren't the names of two agents.
 pub(crate) fn event_of(
     alloc: Global,
     first: &[u8],
@@ -144,7 +144,7 @@ pub(crate) fn event_of(
     Ok(EventName::of(left, right))
 }
 
-/// The name that a word writes; `None` where it writes none that an agent may have.
+/// The name that a word writes; `None` if it writes none that an agent may have.
 pub(crate) fn name_in(alloc: Global, word: &[u8]) -> Result<Option<AgentName>, AllocError>
     ensures { IfOk result (λ name. IsNameIn word.now name) }
 {
@@ -155,7 +155,7 @@ pub(crate) fn name_in(alloc: Global, word: &[u8]) -> Result<Option<AgentName>, A
     }
 }
 
-/// The number that the words of a line write; `None` where they aren't one number that is at most so great.
+/// The number that the words of a line write; `None` if they aren't one number that is at most so great.
 pub(crate) fn number_in(alloc: Global, line: &[u8], most: u32) -> Result<Option<u32>, AllocError>
     ensures { IfOk result (λ number. AreNumberUpTo most (words line.now) number) }
 {
@@ -168,7 +168,7 @@ pub(crate) fn number_in(alloc: Global, line: &[u8], most: u32) -> Result<Option<
     number_of(alloc, word, most)
 }
 
-/// The number that a word writes, without leading zeros; `None` where it writes none that is at most so great.
+/// The number that a word writes, without leading zeros; `None` if it writes none that is at most so great.
 pub(crate) fn number_of(alloc: Global, word: &[u8], most: u32) -> Result<Option<u32>, AllocError>
     ensures { IfOk result (λ number. IsNumberIn most word.now number) }
 {

@@ -11,7 +11,7 @@ use std::alloc::{AllocError, Global};
 /// The greatest rank of seven digits.
 const MAX_RANK: u32 = 9_999_999;
 
-/// The event that a line without its line feed lists; `None` where it lists none. An error where there is no memory for
+/// The event that a line without its line feed lists; `None` if it lists none. An error if there is no memory for
 /// the names in it.
 pub fn listed_of(alloc: Global, line: &[u8]) -> Result<Option<EventName>, AllocError>
     ensures { IfOk result (λ event. IsListedIn line.now event) }
@@ -24,7 +24,7 @@ pub fn listed_of(alloc: Global, line: &[u8]) -> Result<Option<EventName>, AllocE
     }
 }
 
-/// The event that the words of a line list; `None` where they list none.
+/// The event that the words of a line list; `None` if they list none.
 fn listed_in(alloc: Global, body: &[u8]) -> Result<Option<EventName>, AllocError>
     ensures { IfOk result (λ event. ListsIn (words body.now) event) }
 {

@@ -27,7 +27,7 @@ impl Model for MarkName {
 }
 
 impl MarkName {
-    /// The name that a word writes; `None` where it has not the form of one.
+    /// The name that a word writes; `None` if it has not the form of one.
     pub fn read(alloc: Global, word: &[u8]) -> Result<Option<MarkName>, AllocError>
         ensures { IfOk result (λ name. IsMarkNameIn word.now name) }
     {

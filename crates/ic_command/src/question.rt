@@ -18,7 +18,7 @@ pub enum Question {
     Agents,
     /// All standing events with their ranks and direct causes.
     Causes,
-    /// What rests on an event.
+    /// The events that depend on an event.
     Dependents(EventName),
     /// The other end of a wire, and the events that made it.
     Wire(Place),
@@ -38,7 +38,7 @@ pub enum Question {
     Unstep(u32),
 }
 
-/// The question of a line without its line feed; `None` where it asks none. An error where there is no memory for the
+/// The question of a line without its line feed; `None` if it asks none. An error if there is no memory for the
 /// names in it.
 pub fn question_of(alloc: Global, line: &[u8]) -> Result<Option<Question>, AllocError>
     ensures { IfOk result (λ question. IsQuestionIn line.now question) }
@@ -51,7 +51,7 @@ pub fn question_of(alloc: Global, line: &[u8]) -> Result<Option<Question>, Alloc
     }
 }
 
-/// The question that the words of a line ask; `None` where they ask none.
+/// The question that the words of a line ask; `None` if they ask none.
 fn question_in(alloc: Global, body: &[u8]) -> Result<Option<Question>, AllocError>
     ensures { IfOk result (λ question. AreQuestionWords (words body.now) question) }
 {

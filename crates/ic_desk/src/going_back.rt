@@ -12,7 +12,7 @@ use ic_journal::{Bench, LinkStore};
 use ic_undo::{BackFault, Counts, back_since};
 use std::alloc::{AllocError, Global};
 
-/// Goes back to the mark of this name, from what has changed since just its events last stood. An error if events were
+/// Goes back to the mark of this name. It looks at the changes after just its events last stood. An error if events were
 /// undone or fired and there is no memory for the answer.
 pub(crate) fn go_back<L: LinkStore>(
     alloc: Global,

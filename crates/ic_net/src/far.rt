@@ -64,7 +64,7 @@ fn spot_at(agents: usize, names: usize, place: usize) -> Spot
 }
 
 impl FarTable {
-    /// Puts a link in: the far ends of its two spots become each other's, or a ring is closed where they are already.
+    /// Puts a link in. The far ends of its two spots become each other's. If they are already, a ring is closed.
     fn join(&mut self, agents: usize, names: usize, a: Spot, b: Spot)
         requires table { IsFarTable agents names self.old.ends.items }
         requires left { IsStartSpot agents names a }

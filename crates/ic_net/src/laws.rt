@@ -9,7 +9,7 @@ ghost use Rattle.ic_theory.specs.Nets.{IsSameNet};
 ghost use Rattle.ic_theory.specs.Steps.{Meets};
 ghost use Rattle.ic_theory.specs.Listed.{ListedNet, IsListing, shown, active_pairs};
 
-/// A net is listed in one way: two listings are equal exactly where the nets that they show are the same.
+/// A net is listed in one way: two listings are equal exactly if they show the same net.
 pub fn one_listing()
     ensures { (l m : ListedNet) → IsListing l → IsListing m → IsSameNet (shown l) (shown m) ↔ (l ≡ m) }
 {}

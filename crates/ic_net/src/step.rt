@@ -73,9 +73,9 @@ impl Net {
     /// auxiliary ports are wired up as the rule says. The links of the rule are taken by place, each on the partners as
     /// they then are.
     ///
-    /// `NotActive` where the two agents aren't there, of these kinds, with their principal ports as partners; else
-    /// `Deep` where the lead has the greatest depth and the rule makes children; else `Memory` where memory runs out,
-    /// or the net would come to 2^32 agents or 2^63 rings. A refused step leaves the net as it was.
+    /// `NotActive` if the two agents aren't there, of these kinds, with their principal ports as partners; else `Deep` if
+    /// the lead has the greatest depth and the rule makes children; else `Memory` if memory runs out, or the net would
+    /// come to 2^32 agents or 2^63 rings. A refused step leaves the net as it was.
     pub fn step(&mut self, alloc: Global, event: &Event) -> Result<(), StepFault>
         ensures defined { IfOk result (λ _. Meets (shown self.old) event.now × (IsDeep event.now → ⊥)) }
         ensures stepped { IfOk result (λ _. IsSameNet (shown self.new) (plain_step (shown self.old) event.now)) }

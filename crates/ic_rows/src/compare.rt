@@ -1,7 +1,7 @@
 use ic_session::{Fault, Status};
 use std::fmt;
 
-/// What differs from what is stored.
+/// How a session differs from what is stored.
 #[derive(Clone, Copy)]
 pub enum Difference {
     /// The session ended so.

@@ -1,4 +1,4 @@
-//! Runs the worked sessions of `data`, and compares what each writes with what is stored.
+//! Runs the worked sessions of `data`, and compares what each writes with the stored text.
 #![tactic(auto)]
 
 mod compare;

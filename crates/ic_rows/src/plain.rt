@@ -52,7 +52,7 @@ fn desk_over(alloc: Global, text: &[u8]) -> Result<Option<Desk<LinkRows>>, Fault
     }
 }
 
-/// The lines of an `absorb` that have come: how many are to come, the events that were listed, and whether each line
+/// The lines of an `absorb` that have come: how many are still to come, the events that were listed, and whether each line
 /// listed one.
 #[derive(Drop)]
 struct List {

@@ -8,7 +8,7 @@ pub(crate) fn advice(topic: Topic, number: u8) -> Option<&'static str> {
     match number {
         21 if topic == Topic::Number => Some("no pair is active, so there is nothing to fire"),
         21 => Some(
-            "the two agents aren't both there with their principal ports joined; active lists the pairs that can fire",
+            "one of the agents isn't there, or no wire joins their principal ports; active lists the pairs that can fire",
         ),
         22 => Some(
             "the names of the children would have more than 16383 digits; this pair can't be fired",
@@ -17,19 +17,19 @@ pub(crate) fn advice(topic: Topic, number: u8) -> Option<&'static str> {
             "there would be more than 262144 agents, counting those that standing events consumed; undo events first",
         ),
         24 => Some("the history holds at most 1048576 calls; begin a new session"),
-        25 => Some("there is no memory for it; what the answer tells is all that was done"),
+        25 => Some("memory ran out; only what the answer tells was done"),
         26 => Some(
-            "no agent has this port, or no free name is called so; agents lists the agents, and net prints the free names",
+            "there is no such port or free name; agents lists the agents, and net prints the free names",
         ),
         31 => Some("no event of these agents stands; journal lists those that do"),
         32 => Some(
             "the event that the answer names depends on it; undo that one first, or unwind this one with all that depends on it",
         ),
         40 => Some(expected(topic)),
-        41 => Some("no mark has this name; marks lists those that there are"),
-        42 => Some("there are 256 marks; mark under the name of one of them"),
+        41 => Some("no mark has this name; marks lists all marks"),
+        42 => Some("there are 256 marks already; use the name of one of them"),
         51 => Some(
-            "the event that the answer names can't come to stand with what stands and what is listed",
+            "the event that the answer names can't stand together with the standing and the listed events",
         ),
         _ => None,
     }
@@ -48,7 +48,7 @@ fn expected(topic: Topic) -> &'static str {
         Topic::Place => "expected after wire: an agent and a port, such as 0 2, or a free name",
         Topic::List =>
             "expected after absorb: a number from 0 to 131072, and then as many lines, each with the names of two agents",
-        Topic::Unknown => "no command begins so; help lists all, in small letters",
+        Topic::Unknown => "no such command; help lists all, in small letters",
         Topic::TooLong => "a line has at most 131072 bytes",
     }
 }

@@ -1,4 +1,4 @@
-//! A session: a net as text, then commands, each of which is answered; where it explains itself, questions, too.
+//! A session: a net as text, then commands, each of which is answered. If it explains itself, it answers questions, too.
 #![tactic(auto)]
 
 mod advice;

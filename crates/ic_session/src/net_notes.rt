@@ -7,7 +7,7 @@ use std::str;
 /// The bytes of a name that are shown, at most.
 const SHOWN: usize = 40;
 
-/// What is said of a net text that is refused: at which line and column, what is wrong there, and what would be right. So many
+/// The sentence for a net text that is refused: its line and column, what is wrong there, and what would be right. So many
 /// lines stand before it.
 pub(crate) fn net_note(
     alloc: Global,
@@ -54,7 +54,7 @@ fn is_of_name(byte: u8) -> bool {
     matches!(byte, b'a'..=b'z' | b'0'..=b'9' | b'_')
 }
 
-/// A hint for a line of which this much stood before what is refused, if it looks like something else than net text.
+/// A hint for a line with this much before the refused part, if it doesn't look like net text.
 fn hint_at(begun: &[u8], rest: &[u8]) -> &'static str {
     if begun.is_empty() && rest.starts_with(b"---") {
         return "; the line that ends a net text is --- alone";

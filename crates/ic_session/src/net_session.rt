@@ -127,7 +127,7 @@ struct NetText<'a> {
     before: u64,
 }
 
-/// Names the fault of a net text, says what is wrong if the session explains itself, and answers how the session has ended
+/// Names the fault of a net text. If the session explains itself, it also says what is wrong. Answers how the session has ended
 /// with this net.
 fn refuse<W: Write, E: Write>(
     alloc: Global,
@@ -202,8 +202,8 @@ fn answer_all<R: Read, W: Write, E: Write, T: Threads + Wait + Sync, G: Gate>(
     }
 }
 
-/// Meets a demand, and writes the answer to it; the desk comes back, and whether the session ends with this answer. Where
-/// the session explains itself, it says what is wrong with what is refused.
+/// Meets a demand, and writes the answer to it. Gives back the desk, and whether the session ends with this answer. If the
+/// session explains itself, it says why a demand is refused.
 fn answer<W: Write, E: Write, T: Threads + Wait + Sync, G: Gate>(
     setting: &Setting<'_, T, G>,
     desk: Desk<Store>,

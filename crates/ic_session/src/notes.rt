@@ -9,8 +9,7 @@ use ic_text::Refusal;
 use std::alloc::{AllocError, Global};
 use std::io::Write;
 
-/// Says what is wrong with a request that was answered so, if it was refused, and what would be right, with the reason that the
-/// answer tells. The line is the one that asked, unless it listed events on further lines. If memory runs out or the writer
+/// If the request was refused by this answer, says why, and what would be right, with the reason that the answer tells. The line is the one that asked, unless it listed events on further lines. If memory runs out or the writer
 /// fails, nothing is said.
 pub(crate) fn explain_answer<E: Write>(
     alloc: Global,
@@ -46,7 +45,7 @@ fn wrong_command(alloc: Global, place: Place, line: &[u8]) -> Result<Option<Stri
     }
 }
 
-/// Says what is wrong with a net text, at which line and column, and what would be right. So many lines stand before it.
+/// Says why a net text is refused, at which line and column, and what would be right. So many lines stand before it.
 pub(crate) fn explain_net<E: Write>(
     alloc: Global,
     errors: &mut E,

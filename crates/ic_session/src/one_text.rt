@@ -1,5 +1,5 @@
-//! What is written is determined: a session has one text, where none tells of want of memory, and sweeps and reductions
-//! that end normal leave one.
+//! What is written is determined: unless memory runs out, a session has one text, and sweeps and reductions that end normal
+//! leave one.
 
 pub mod answers;
 pub mod reductions;

@@ -32,14 +32,14 @@ pub enum Status {
 pub const MAX_READS: u32 = 1_073_741_824;
 
 /// Runs a session: reads a net as text and commands, and writes an answer to each command. It begins with what the input has
-/// read and not yet taken, and calls the reader as often as the input has calls left. A `reduce` fires at most the budget,
+/// read and not yet taken, and calls the reader at most as often as the input has calls left. A `reduce` fires at most the budget,
 /// whatever it asks for. With two workers or more, of 64 at most, it is a sweep by so many, and the gate sees each commit.
 ///
 /// A session that explains itself answers questions, too. To `errors` it writes a sentence for each refusal and fault, with the
 /// number of its line: what is wrong, and what would be right. If `errors` fails, that is left out.
 ///
 /// `Fault::Read` comes only if the input has no call of the reader left: all were made, or the reader failed. `Fault::Write`
-/// comes only if the output has failed: the writer took no byte of what was to be written, or answered an error.
+/// comes only if the output has failed: the writer took no byte of an answer, or answered an error.
 /// `Fault::Memory` comes only if memory runs out. `Fault::Settle` comes only with two workers or more, if those of a sweep say
 /// that they did what the history doesn't say. What was written by then is a first part of what a session may write.
 pub fn run_session<R: Read, W: Write, E: Write, T: Threads + Wait + Sync, G: Gate>(

@@ -18,7 +18,7 @@ pub trait Chooser {
     /// What hearing an answer may change.
     ghost hears: { Self → AResult AFired APairFault → Self → Type 0 };
 
-    /// Chooses what is fired next; `None` ends the run.
+    /// Chooses the pair that is fired next; `None` ends the run.
     fn choose(&mut self, bench: &Bench<Store>) -> Option<ActivePair>
         requires { holds self.old }
         ensures kept { holds self.new }

@@ -4,7 +4,7 @@ ghost use Rattle.ic_shared.specs.Faults.{settle_number};
 use ic_journal::{Bench, Store};
 use ic_name::numbers;
 
-/// The bench whose history is what all passes say, and how many lines were added since it was shared.
+/// The bench, whose history is what all passes say, and how many lines were added while it was shared.
 #[derive(Drop)]
 pub struct Settled {
     pub bench: Bench<Store>,

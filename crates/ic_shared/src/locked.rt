@@ -14,7 +14,7 @@ use ic_journal::{ActivePair, Bench, FireFault, Fired, PairFault, Proposal, Store
 use ic_name::{Call, Event, EventId, Reply};
 use std::sync::ledger::{Book, Ledger, Share};
 
-/// A bench, and the account of the lines of its history: those that stood there before, and those that callers added.
+/// A bench, and the account of the lines of its history: the lines before it was shared, and those that callers added.
 #[derive(Drop)]
 pub(crate) struct Locked<B: Ledger> {
     pub bench: Bench<Store>,
@@ -23,7 +23,7 @@ pub(crate) struct Locked<B: Ledger> {
 }
 
 impl<B: Ledger> Locked<B> {
-    /// Fires the event on the bench, and gives a receipt for the line, of which the event once more is the call.
+    /// Fires the event on the bench, and gives a receipt for the line. The receipt tells the call by the event once more.
     pub fn fire(
         &mut self,
         share: &mut Share<B>,

@@ -53,8 +53,8 @@ fn behind<B: Ledger>(passes: &[Pass<B>], cursors: &[usize; MAX_COLUMNS], number:
     None
 }
 
-/// Goes through the lines from `base` on, each of which is to have the next receipt of a column: often of the one that has
-/// the line before, which is looked at first. The error is a number at which what the passes say is false.
+/// Goes through the lines from `base` on. Each must have the next receipt of a column, often of the one that has the line
+/// before, which is looked at first. The error is a number at which what the passes say is false.
 pub(crate) fn merge<B: Ledger>(
     bench: &Bench<Store>,
     base: u32,

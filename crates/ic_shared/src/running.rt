@@ -13,7 +13,7 @@ use std::sync::ledger::{Ledger, Share};
 /// What a run of firings came to.
 #[derive(Clone, Copy, Debug, PartialEq, Eq)]
 pub struct Ran {
-    /// How many active pairs were chosen, each of which was to be fired.
+    /// How many active pairs were chosen, for one firing each.
     pub calls: usize,
     /// Whether the last one met a limit or memory ran out, which ends a run.
     pub refused: bool,

@@ -89,8 +89,8 @@ impl<B: Ledger> Shared<B> {
         self.locked.lock(rt).fire(share, receipts, proposal, event)
     }
 
-    /// Undoes the firing of an event, whoever fired it, as `Bench::undo` does, and gives the pass a receipt for the line
-    /// that this adds (Danos and Krivine 2004).
+    /// Undoes the firing of an event as `Bench::undo` does, also if another pass fired it, and gives the pass a receipt for the
+    /// line that this adds (Danos and Krivine 2004).
     ///
     /// `Memory` may come before the bench is asked, too; the pass is then as before.
     pub fn undo<R: Wait>(&self, rt: &R, pass: &mut Pass<B>, id: EventId) -> Result<(), UndoFault>

@@ -26,7 +26,7 @@ fn link(maker: MakerId, place: u32, a: u32, b: u32) -> Link
     }
 }
 
-/// Puts in a link. An error comes where it finds no room, or memory is wanting.
+/// Puts in a link. An error comes if it finds no room, or memory runs out.
 fn put<L: LinkStore>(store: &mut L, link: Link) -> Result<(), AllocError>
     requires { (m : ALink) → IsIn m (L.links store.old) → m.id ≢ link.id }
     ensures { OnOk result (Alike (link ∷ L.links store.old) (L.links store.new)) }

@@ -19,7 +19,7 @@ pub enum TextFault {
 }
 
 impl TextFault {
-    /// The number of the fault: 25 where there was no memory, else that of what is wrong with the text, from 1 to 9.
+    /// The number of the fault: 25 if there was no memory, else that of the fault of the text, from 1 to 9.
     pub fn number(self) -> u8
         ensures { result ≡ text_number self }
     {

@@ -8,8 +8,8 @@ ghost use Rattle.ic_text.specs.Views.{token_of, Takes, left};
 use crate::grammar::bytes::{is_letter, is_name_byte};
 use ic_name::Kind;
 
-/// A token of a text. An `@` that begins no profile, a digit that no name runs over, and a byte that may not stand where
-/// it does count too.
+/// A token of a text. An `@` that begins no profile, a digit that no name runs over, and a byte in a wrong place count
+/// too.
 #[derive(Clone, Copy)]
 pub enum Lexeme<'a> {
     Symbol(Kind),

@@ -1,4 +1,4 @@
-//! Texts of nets: what a text denotes, and what is wrong with it.
+//! Texts of nets: the start that a text denotes, its first fault, and the canonical text of a net.
 #![tactic(auto)]
 
 mod builder;

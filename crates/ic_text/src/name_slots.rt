@@ -57,7 +57,7 @@ pub fn look_up(
     others.get(name).copied()
 }
 
-/// Keeps the number of a new name in its slot, if that holds none, and else among the others. It is an error only where
+/// Keeps the number of a new name in its slot, if that holds none, and else among the others. It is an error only if
 /// memory runs out for these; then nothing changes.
 pub fn keep<'a>(
     slots: &mut SlotIndex,

@@ -19,7 +19,7 @@ pub fn printable()
     ensures { (text : List ℕ) (s : Start) (es : List Event) (l : ListedNet) → Denotes text s → IsFired s es → IsListing l → IsSameNet (shown l) (net_of s es) → IsPrintable s.names l }
 {}
 
-/// The text printed for a net denotes a start, where the net's wires and rings are few enough to be numbered.
+/// The text printed for a net denotes a start, if the net's wires and rings are few enough to be numbered.
 pub fn denotes()
     ensures { (names : List (List ℕ)) (l : ListedNet) → IsPrintable names l → 3 * length l.agents + l.rings < 2 ^ 64 → (s : Start) × Denotes (net_text names l) s }
 {}

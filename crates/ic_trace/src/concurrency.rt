@@ -6,7 +6,7 @@ ghost use Rattle.ic_trace.specs.Known.{AreKnown, event_at, events_in};
 
 use crate::known::Known;
 
-/// Whether the events of these numbers are concurrent: two events of which neither is a direct cause of the other.
+/// Whether the events of these numbers are concurrent: neither is a direct cause of the other.
 pub(crate) fn are_concurrent(known: &[Known], a: usize, b: usize) -> bool
     requires left { a < length known.now }
     requires right { b < length known.now }

@@ -8,7 +8,7 @@ use thiserror::Error;
 #[derive(Clone, Copy, Debug, PartialEq, Eq, Error)]
 pub enum TraceFault {
     /// The list has more letters than it may have.
-    #[error("the list has more than 2,000 letters; expected at most so many")]
+    #[error("the list has more than 2,000 letters")]
     TooMany,
     /// The letter with this number is the first that the start doesn't accept.
     #[error("letter {0} is not accepted")]

@@ -3,6 +3,6 @@
 pub enum Move {
     /// The two change places.
     Swap(usize),
-    /// The two, of which one is the inverse of the other, go.
+    /// The two go. One is the inverse of the other.
     Cancel(usize),
 }

@@ -46,7 +46,7 @@ impl Step {
     }
 }
 
-/// A legal list of letters, and what is known of its events.
+/// A legal list of letters, and its events with what they were given.
 #[derive(Drop)]
 pub(crate) struct Trace {
     pub known: Vec<Known>,

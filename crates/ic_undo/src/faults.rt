@@ -51,8 +51,8 @@ pub enum BackFault {
 /// Why listed events aren't absorbed. What stood before stands then, under the ids that it had.
 #[derive(Drop)]
 pub enum AbsorbFault {
-    /// The least listed event that is in no sound set of what stood and what is listed. The second part says what was in its
-    /// way when no listed event could be fired any more, before what was fired is undone.
+    /// The least listed event that is in no sound set of the events that stood and those listed. The second part says what was
+    /// in its way when no listed event could be fired any more, before the fired ones are undone.
     NeverActive(EventName, Obstacle),
     /// A listed event was active whose children's names would have too many digits.
     Deep,

@@ -50,8 +50,8 @@ pub fn back<L: LinkStore>(
     go_over(bench, mark, &gone, missing)
 }
 
-/// Undoes these events, which are those that stand and aren't in the mark, the last one first, then fires these, which are
-/// those that are in the mark and don't stand. Its answers are those of `back`.
+/// Undoes `gone`, the events that stand and aren't in the mark, the last one first. Then it fires `missing`, the events of the
+/// mark that don't stand. Its answers are those of `back`.
 pub(crate) fn go_over<L: LinkStore>(
     bench: &mut Bench<L>,
     mark: &Mark,

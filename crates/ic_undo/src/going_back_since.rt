@@ -13,7 +13,7 @@ use ic_journal::{Bench, LinkStore};
 use std::alloc::Global;
 
 /// Goes back to a mark as `back` does, when just its events stood after so many lines of the history: it looks only at
-/// what changed since. If more lines came since than there are events, it looks at the events.
+/// what has changed after them. If more lines came since than there are events, it looks at the events.
 pub fn back_since<L: LinkStore>(
     alloc: Global,
     bench: &mut Bench<L>,

@@ -1,4 +1,4 @@
-//! Undoing more than one event at once: an event with all that rests on it, and all events; marks, and going back to
+//! Undoing more than one event at once: an event with all that depends on it, and all events; marks, and going back to
 //! them.
 #![tactic(auto)]
 

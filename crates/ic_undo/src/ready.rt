@@ -13,7 +13,7 @@ use ic_name::EventName;
 use std::alloc::{AllocError, Global};
 use std::collections::{BTreeMap, BTreeSet};
 
-/// The names among these of which no event stands.
+/// The names among these whose events don't stand.
 pub(crate) fn missing_names<L: LinkStore>(
     alloc: Global,
     bench: &Bench<L>,

@@ -22,7 +22,7 @@ pub(crate) enum Hindrance {
     Memory,
 }
 
-/// The events that were fired, in that order, and the listed names of which no event stands then.
+/// The events that were fired, in that order, and the listed names whose events don't stand then.
 #[derive(Drop)]
 pub(crate) struct Turns {
     pub ids: Vec<EventId>,

@@ -14,7 +14,7 @@ pub(crate) struct Floor<'a, B: Ledger, G: Gate> {
     pub gate: &'a G,
     /// The hints of all workers, each of whom steals from the others.
     pub hints: &'a [Stealer<Hint>],
-    /// The leads that the sweep began with, of which hints tell blocks.
+    /// The leads that the sweep began with. Hints tell blocks of them.
     pub leads: &'a [AgentId],
     /// How many events a worker fires under one lock, at most.
     pub most: usize,

@@ -65,7 +65,7 @@ impl Hand<'_> {
         free
     }
 
-    /// Leaves the word of what is in hand, if anything is.
+    /// Leaves the claim word of the hint in hand, if there is one.
     pub fn let_go(&mut self)
         requires table { self.old.seat.now.table ≡ self.old.claims.now.table }
         requires grips { Grips self.old.in_hand self.old.seat.now.view.held }
@@ -112,9 +112,9 @@ impl Chooser for Hand<'_> {
         None
     }
 
-    /// Takes the leads of the pairs that became active as hints: as the next ones, since what they need lies in the cache, but for
-    /// one firing in so many, lest a run follow one part of the net alone. The word of what was fired is left before the next one
-    /// is claimed.
+    /// Takes the leads of the pairs that became active as hints. They come next, because what they need lies in the cache, but after
+    /// one firing in so many they come last, so that a run doesn't follow one part of the net alone. The word of the fired pair is
+    /// left before the next one is claimed.
     fn hear(&mut self, answer: &Result<Fired, PairFault>) {
         if let InHand::Hint(_) = self.in_hand {
             self.in_hand = InHand::Fired;

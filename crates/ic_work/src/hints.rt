@@ -14,7 +14,7 @@ pub(crate) enum Hint {
     Leads { from: usize, to: usize },
 }
 
-/// Where a worker looks for hints: among its own, and among those of all, of which its own have this place.
+/// The hints that a worker looks through: its own, and those of all. Its own have this place among all.
 #[derive(Drop)]
 pub(crate) struct Sources<'a> {
     pub own: &'a mut Deque<Hint>,
@@ -24,8 +24,8 @@ pub(crate) struct Sources<'a> {
 
 impl Sources<'_> {
     /// A hint of the worker's own, or one that is stolen from another; it looks twice before it finds none. So many in a row were
-    /// busy, each of which went after the others of its own: if these are all that it has, or `BUSY_BEFORE_OTHERS`, those of
-    /// other workers come first.
+    /// busy, and each went to the end of its own hints. If these are all that it has, or `BUSY_BEFORE_OTHERS`, those of other
+    /// workers come first.
     pub fn find<R: Wait>(&mut self, rt: &R, busy: u32) -> Option<Hint> {
         let others_first = busy > 0 && self.own.len().min(BUSY_BEFORE_OTHERS) <= busy as usize;
         for _ in 0..2u32 {

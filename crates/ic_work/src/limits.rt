@@ -11,6 +11,6 @@ pub(crate) const IN_A_ROW: u32 = 16;
 /// hints, it does so after as many as it has.
 pub(crate) const BUSY_BEFORE_OTHERS: usize = 4;
 
-/// How many busy hints in a row a worker passes by; at the next one it goes home. They stay among its own, where others find
-/// them.
+/// How many busy hints in a row a worker passes by; at the next one it goes home. They stay among its own, and others find
+/// them there.
 pub(crate) const MAX_BUSY: u32 = 16;

@@ -86,8 +86,8 @@ fn deal(hints: &mut [Deque<Hint>], leads: usize) -> Result<(), AllocError>
     Ok(())
 }
 
-/// Puts the places from one to before another out as hints, in blocks, of which there are some even where the places are few. Each
-/// has an odd number of leads, so that the first ones of blocks differ in their claim words as other leads do, however evenly
+/// Puts the places from one to before another out as hints, in blocks, and in several even if the places are few. Each has an
+/// odd number of leads, so that the first ones of blocks differ in their claim words as other leads do, however evenly
 /// a net has its pairs. The first block goes last, so that the lead at the front of the queue stays there for long.
 fn put_blocks(own: &mut Deque<Hint>, from: usize, to: usize) -> Result<(), AllocError> {
     let half = (to.saturating_sub(from) / MIN_BLOCKS / 2).min(BLOCK / 2);

@@ -24,7 +24,7 @@ use std::sync::Wait;
 use std::sync::ledger::{Blank, Ledger};
 use std::thread::Threads;
 
-/// Fires active pairs on a bench by so many workers, 1 to `MAX_WORKERS` of them, of which the first one is the caller; at
+/// Fires active pairs on a bench by so many workers, 1 to `MAX_WORKERS` of them. The first one is the caller. They fire at
 /// most as many events as the budget says, which is at most `MAX_BUDGET`. What the workers leave of the budget is fired
 /// in the order of one worker.
 ///

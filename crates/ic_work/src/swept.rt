@@ -21,7 +21,7 @@ pub struct Swept {
 /// Why there is no sweep. The bench comes back.
 #[derive(Drop)]
 pub enum SweepFault {
-    /// Memory was wanting before anything was fired; the bench is as it was.
+    /// Memory ran out before any firing; the bench is as it was.
     Memory(Bench<Store>),
     /// What the workers say that they did isn't what the history says.
     Settle(SettleFault),

@@ -15,8 +15,8 @@ use std::collections::VecDeque;
 use std::sync::Wait;
 use std::sync::ledger::Ledger;
 
-/// A worker of a sweep, with what is its own: the number that the gate knows it by, hints of what may be active, a seat at the
-/// claims, and a pass for its calls on the bench.
+/// A worker of a sweep. It has the number that the gate knows it by, hints of pairs that may be active, a seat at the claims,
+/// and a pass for its calls on the bench.
 #[derive(Drop)]
 pub(crate) struct Worker<B: Ledger> {
     pub number: usize,

@@ -10,9 +10,9 @@ ghost use Rattle.ic_session.specs.Reductions.{EndsNormally};
 ghost use Rattle.ic_session.specs.States.{IsReached};
 ghost use Rattle.ic_session.specs.Wants.{Wants};
 
-/// A reduction that ends normal has one text, whatever the number of workers and the most that it might fire, where the
-/// same events stood before; and whatever stood before, one net and one journal are told after it, byte for byte, where
-/// neither answer tells of memory that ran out.
+/// If the same events stood before, a reduction that ends normal has one text, whatever the number of workers and the most that
+/// it might fire. Whatever stood before, one net and one journal are told after it, byte for byte, unless an answer tells that
+/// memory ran out.
 pub fn one_reduction()
     ensures text { (s : Start) (st tt next after : State) (workers others most many : ℕ) (x y : List ℕ) → IsProper s → IsReached s st.bench → IsReached s tt.bench
         → Alike (events st.bench) (events tt.bench) → EndsNormally s workers most st x next → EndsNormally s others many tt y after → x ≡ y }

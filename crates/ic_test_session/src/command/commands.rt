@@ -38,7 +38,7 @@ fn asked_by(command: Command) -> Kind {
     }
 }
 
-/// The command of a line; `None` where it asks for something else, or there is no memory.
+/// The command of a line; `None` if it asks for something else, or there is no memory.
 fn command_in(alloc: Global, line: &[u8]) -> Option<Command> {
     match asked_of(alloc, line) {
         Ok(Asked::Alone(Request::Bench(command))) => Some(command),
@@ -46,7 +46,7 @@ fn command_in(alloc: Global, line: &[u8]) -> Option<Command> {
     }
 }
 
-/// What a line asks for; `None` where memory is wanting.
+/// What a line asks for; `None` if memory runs out.
 fn asked_in(alloc: Global, line: &[u8]) -> Option<Kind> {
     let command = command_in(alloc, line)?;
     Some(asked_by(command))

@@ -50,7 +50,7 @@ fn reduces<T: Threads + Wait + Sync>(
     Some(answer.bytes() == b"reduced 4 normal\n".as_slice())
 }
 
-/// How many commits the gate saw in that reduction, and whether tickets were drawn ahead; `None` where it is answered
+/// How many commits the gate saw in that reduction, and whether tickets were drawn ahead; `None` if it is answered
 /// otherwise.
 fn commits<T: Threads + Wait + Sync>(
     threads: &T,

@@ -8,7 +8,7 @@ use ic_text::read_net;
 use std::alloc::{AllocError, Global};
 use std::test::Fail;
 
-/// The answers that say that memory was wanting and nothing was done.
+/// The answers that say that memory ran out and nothing was done.
 const NOTHING_DONE: [&[u8]; 3] = [
     b"refused 25 memory\n",
     b"refused 25 memory after 0\n",
@@ -52,7 +52,7 @@ fn request_at_last(alloc: Global, line: &[u8]) -> Option<Request> {
     }
 }
 
-/// The answer to a line; `None` where there is no memory to tell what was done.
+/// The answer to a line; `None` if there is no memory to tell what was done.
 fn answer<L: LinkStore>(alloc: Global, desk: &mut Desk<L>, line: &[u8]) -> Option<Answer> {
     let asked = request_at_last(alloc, line)?;
     desk.carry_out(alloc, asked, &NoGate).ok()
@@ -100,7 +100,7 @@ fn shows_what_follows<L: LinkStore>(
     shows_the_same(alloc, desk, &mut other, lines)
 }
 
-/// Whether the desk, which answered the line so for want of memory, is as before where the answer says so, and whether it
+/// Whether the desk, which answered the line so because memory ran out, is as before where the answer says so, and whether it
 /// then answers the line as it should. Where something was done, it answers it somehow.
 fn answers_again<L: LinkStore>(
     alloc: Global,

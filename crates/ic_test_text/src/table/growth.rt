@@ -23,7 +23,7 @@ impl Seen {
     }
 }
 
-/// Puts in a link between two names, where more link ends are then. Where memory is wanting, the table answers as before,
+/// Puts in a link between two names, where more link ends are then. Where memory runs out, the table answers as before,
 /// and takes it the next time.
 fn put_at_last(table: &mut PortTable, line: u32, a: u32, b: u32) -> bool {
     let row = (line, 0, a, b);

@@ -32,7 +32,7 @@ pub(crate) fn link(row: Row) -> Link
     }
 }
 
-/// Puts in a link as the only one of its event. It is `false` where it finds no room, or memory is wanting.
+/// Puts in a link as the only one of its event. It is `false` if it finds no room, or memory runs out.
 pub(crate) fn put(table: &mut PortTable, row: Row) -> bool {
     let added = link(row);
     table.take_of(event(row.0));
@@ -42,7 +42,7 @@ pub(crate) fn put(table: &mut PortTable, row: Row) -> bool {
     table.add(added).is_ok()
 }
 
-/// Puts in these links. It is `false` where one can't be put in.
+/// Puts in these links. It is `false` if one can't be put in.
 fn put_all(table: &mut PortTable, rows: &[Row]) -> bool {
     for row in rows {
         if !put(table, *row) {

@@ -29,7 +29,7 @@ impl Both {
         }
     }
 
-    /// Puts a link with a fresh id into both stores. An error comes where it finds no room, or memory is wanting.
+    /// Puts a link with a fresh id into both stores. An error comes if it finds no room, or memory runs out.
     pub(crate) fn put(&mut self, link: Link) -> Result<(), AllocError>
         requires { AreSame self.old.table.links self.old.rows self.old.ids.items }
         ensures { OnOk result (AreSame self.new.table.links self.new.rows self.new.ids.items) }

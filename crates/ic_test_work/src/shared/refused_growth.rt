@@ -92,7 +92,7 @@ fn one_pass<R: Wait>(rt: &R, alloc: Global) -> Option<bool> {
     settles::<Brand, R>(rt, alloc, bench, Blank::new(2))
 }
 
-/// The bench after a sweep by one worker or by two; `None` where its receipts don't settle.
+/// The bench after a sweep by one worker or by two; `None` if its receipts don't settle.
 fn swept<R: Threads + Wait + Sync>(
     rt: &R,
     alloc: Global,

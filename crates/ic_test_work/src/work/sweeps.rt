@@ -187,7 +187,7 @@ fn ends_like<R: Threads + Wait + Sync>(
     }
 }
 
-/// Whether several workers end as one does; `None` where one worker comes to no end soon.
+/// Whether several workers end as one does; `None` if one worker comes to no end soon.
 fn end_alike<R: Threads + Wait + Sync>(rt: &R, alloc: Global, text: &[u8]) -> Option<bool> {
     let Some(one) = outcome_of(rt, alloc, text, 1, 100) else {
         return Some(false);

@@ -3,21 +3,21 @@ ghost use Rattle.ic_text.specs.Faults.{code, offset as offset_of};
 
 use thiserror::Error;
 
-/// What is wrong with a text, and at which byte.
+/// Why a text is refused, and at which byte.
 ///
 /// `TooLong` is answered before all others. Of the next six the one at the least byte is answered, and of those
-/// at one byte the first in this order. The last two are answered only where none of the others stands.
+/// at one byte the first in this order. The last two are answered only if none of the others applies.
 #[derive(Clone, Copy, Debug, PartialEq, Eq, Error)]
 pub enum Refusal {
     /// The text has more than `MAX_TEXT` bytes.
-    #[error("too long: the text has more than 1,048,576 bytes; expected at most so many")]
+    #[error("too long: the text has more than 1,048,576 bytes")]
     TooLong,
     /// A byte that no token has, or in a comment one that may not stand there.
     #[error("bad byte: the byte at {0} begins no token; expected a name, `G`, `D`, `E`, one of `(`, `)`, `,`, `=` and `;`, `@straight`, a blank, or `#` and a comment of printable ASCII")]
     BadByte(usize),
-    /// A token with which the text so far begins no text of the grammar, or the end of the text where more
-    /// has to come.
-    #[error("syntax: what stands at byte {0}, or the end of the text there, cannot come next; expected `@straight;` or nothing in first place, and then equations `TERM = TERM;`, each term a name, `E`, `G(TERM,TERM)` or `D(TERM,TERM)`")]
+    /// A token with which the text so far begins no text of the grammar, or the end of the text before its last
+    /// token.
+    #[error("syntax: a wrong token at byte {0}, or the text ends there; expected `@straight;` or nothing in first place, and then equations `TERM = TERM;`, each term a name, `E`, `G(TERM,TERM)` or `D(TERM,TERM)`")]
     Syntax(usize),
     /// A name of more than `MAX_NAME` bytes.
     #[error("name too long: the name at byte {0} has more than 32 bytes; expected at most 32")]
@@ -35,7 +35,7 @@ pub enum Refusal {
     #[error("reserved: the name at byte {0} begins with `_` and occurs once; expected it twice, or another name")]
     ReservedFree(usize),
     /// More than `MAX_FREE_NAMES` names occur once.
-    #[error("too many free names: more than 1,024 names occur once; expected at most so many")]
+    #[error("too many free names: more than 1,024 names occur once")]
     TooManyFree,
 }
 

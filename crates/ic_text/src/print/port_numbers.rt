@@ -1,7 +1,7 @@
 ghost use Rattle.std.specs.Prelude.{◌≡◌, ◌<◌};
 ghost use Rattle.ic_text.specs.Numbers.{bare, port_number, GivesPort};
 
-/// The numbers of the wires at an agent's ports, where they have any.
+/// The numbers of the wires at an agent's ports, if they have any.
 #[derive(Clone, Copy)]
 pub(crate) struct PortNumbers {
     ports: [Option<u64>; 3],
