@@ -8,7 +8,7 @@
 The parts of a crate are its proof, its tests (which prove the crate's own functions once more) and its edits, each of
 which is a check of the crate. What `rt ci` prints is written to standard output first. Its processes are looked at four
 times a second, so that each may lose a quarter of a second at its end; the sum in the last line is exact. A part that takes
-more than its budget in `budgets.tsv`, in processor seconds, is named at the end.
+a fifth more than its budget in `budgets.tsv`, in processor seconds, is named at the end.
 """
 
 import collections
@@ -28,6 +28,8 @@ BUDGETS = ROOT / "bench/budgets.tsv"
 TICKS = os.sysconf("SC_CLK_TCK")
 PAUSE = 0.25
 MOST = 20
+# How many times its budget a part may take: processors differ, and the same sources took up to a sixth more on another one.
+TOLERANCE = 1.2
 PARTS = ("proof", "tests", "edits")
 # What an edit's check shows where no edit is applied: the last look over the crate.
 NO_EDIT = "(none)"
@@ -161,7 +163,7 @@ def print_over_budget(sums):
         budget = budgets.get((crate, part))
         if budget is None:
             print(f"no budget: {crate} {part}, {used:.0f} s")
-        elif used > budget:
+        elif used > TOLERANCE * budget:
             print(f"over budget: {crate} {part}, {used:.0f} s of {budget} s")
 
 
