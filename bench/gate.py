@@ -7,8 +7,8 @@
 
 The parts of a crate are its proof, its tests (which prove the crate's own functions once more) and its edits, each of
 which is a check of the crate. What `rt ci` prints is written to standard output first. Its processes are looked at four
-times a second, so that each may lose a quarter of a second at its end; the sum in the last line is exact. A part is named
-at the end if it takes a fifth more of its budget in `budgets.tsv` than the middle part does, so that a slow machine names none.
+times a second, so that each may lose a quarter of a second at its end; the sum in the last line is exact. A part that takes
+more than its budget in `budgets.tsv`, in processor seconds, is named at the end.
 """
 
 import collections
@@ -17,7 +17,6 @@ import os
 import pathlib
 import resource
 import shutil
-import statistics
 import subprocess
 import sys
 import tempfile
@@ -29,8 +28,6 @@ BUDGETS = ROOT / "bench/budgets.tsv"
 TICKS = os.sysconf("SC_CLK_TCK")
 PAUSE = 0.25
 MOST = 20
-# How many times its budget a part may take, times what the middle part takes of its own: processors and their load differ.
-TOLERANCE = 1.2
 PARTS = ("proof", "tests", "edits")
 # What an edit's check shows where no edit is applied: the last look over the crate.
 NO_EDIT = "(none)"
@@ -156,18 +153,16 @@ def read_budgets():
 
 
 def print_over_budget(sums):
-    """Names the parts that took more of their budget than the middle part did and a fifth, and those that have none."""
+    """Names the parts that took more than their budget, and those that have none."""
     budgets, parts = read_budgets(), collections.Counter()
     for (crate, part, _), used in sums.items():
         parts[crate, part] += used
-    shares = [used / budgets[it] for it, used in parts.items() if budgets.get(it)]
-    middle = max(1, statistics.median(shares)) if shares else 1
     for (crate, part), used in sorted(parts.items()):
         budget = budgets.get((crate, part))
         if budget is None:
             print(f"no budget: {crate} {part}, {used:.0f} s")
-        elif used > TOLERANCE * middle * budget:
-            print(f"over budget: {crate} {part}, {used:.0f} s of {budget} s; the middle part took {middle:.2f} of its budget")
+        elif used > budget:
+            print(f"over budget: {crate} {part}, {used:.0f} s of {budget} s")
 
 
 def measure_gate():
