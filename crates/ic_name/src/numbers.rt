@@ -1,4 +1,4 @@
-// The numbers of refusals: one table for all calls and for sessions. The faults of a net text have 1 to 9, by `ic_grammar`.
+// The numbers of refusals: one table for all calls and for sessions. The faults of a net text have 1 to 9, by `ic_text::grammar`.
 
 /// A text names no agent.
 pub const BAD_NAME: u8 = 11;
