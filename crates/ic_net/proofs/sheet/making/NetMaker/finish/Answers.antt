@@ -7,4 +7,4 @@ use Rattle.ic_net.proofs.sheet.making.NetMaker.finish.Goals as goal
 pub invariant_of-result : goal.invariant_of-result
 invariant_of-result c =
     let made = parts_are_net c.args.self c.args.rings c.lawful.ensures.in_order c.lawful.ensures.numbered c.requires.few_agents c.requires.few_frees c.requires.few_rings c.requires.reached in
-    subst (λ (p : NetParts). IsNet (listed_parts p c.args.rings)) (sym c.self.view_is) made
+    (subst (λ (p : NetParts). IsNet (listed_parts p c.args.rings)) (sym c.self.view_is) made, c.self.invariant.2)
