@@ -2,7 +2,7 @@ ghost use Rattle.std.specs.Prelude.{◌≡◌, ◌<◌, ◌^◌, ◌++◌, ◌�
 ghost use Rattle.std.specs.List.Sorted.{IsStrictlySortedBy};
 ghost use Rattle.std.specs.Ordering.{nat_cmp};
 ghost use Rattle.ic_name.specs.Names.{name_cmp};
-ghost use Rattle.ic_theory.specs.Listed.{shown};
+ghost use Rattle.ic_theory.specs.Listed.{shown, IsListing};
 ghost use Rattle.ic_names.specs.Tables.{name_at};
 ghost use Rattle.ic_net.specs.Placed.{listed_at, free_at, IsAgentInside, IsPortInside};
 ghost use Rattle.ic_net.specs.Sheets.{IsReached};
@@ -115,7 +115,8 @@ impl<'a> NetMaker<'a> {
         requires few_frees { length self.frees < 2 ^ 32 }
         requires few_rings { rings < 2 ^ 63 }
         requires reached { IsReached (shown (listed_parts self rings)) }
-        ensures { result ≡ listed_parts self.entry rings }
+        ensures sheet { result ≡ listed_parts self.entry rings }
+        ensures listing { IsListing result }
     {
         self.lawful();
         let NetMaker {
