@@ -12,7 +12,5 @@ pub fn tell_agents<L: LinkStore>(alloc: Global, bench: &Bench<L>) -> Result<Vec<
 {
     bench.lawful();
     let sheet = bench.sheet()?;
-    let net = sheet.view(alloc)?;
-    net.lawful();
-    print_agents(alloc, &net, bench.start().names())
+    print_agents(alloc, &sheet, bench.start().names())
 }

@@ -8,7 +8,7 @@ ghost use Rattle.ic_answer.specs.Turns.{Tells};
 
 use ic_journal::{ActivePair, Bench, LinkStore};
 use ic_name::write_pair;
-use ic_text::print_view;
+use ic_text::print_sheet;
 use std::alloc::{AllocError, Global};
 
 /// The printed net.
@@ -17,9 +17,7 @@ pub(crate) fn net<L: LinkStore>(alloc: Global, bench: &Bench<L>) -> Result<Vec<u
 {
     bench.lawful();
     let sheet = bench.sheet()?;
-    let net = sheet.view(alloc)?;
-    net.lawful();
-    print_view(alloc, &net, bench.start().names())
+    print_sheet(alloc, &sheet, bench.start().names())
 }
 
 /// How many active pairs there are, and their names, in order of leads.

@@ -8,7 +8,7 @@ ghost use Rattle.ic_names.specs.Tables.{name_at};
 ghost use Rattle.ic_path.specs.Orders.{Alike, IsIn, Pick};
 ghost use Rattle.ic_theory.specs.Active.{IsActive};
 ghost use Rattle.ic_theory.specs.Firings.{AreAfterCauses, then_fired};
-ghost use Rattle.ic_theory.specs.Listed.{shown};
+ghost use Rattle.ic_theory.specs.Listed.{shown, IsListing};
 ghost use Rattle.ic_theory.specs.Nets.{IsSameNet, net_of};
 ghost use Rattle.ic_theory.specs.Steps.{AreDefined, steps};
 ghost use Rattle.ic_theory.specs.Wires.{IsWire};
@@ -305,8 +305,9 @@ impl<L: LinkStore> Bench<L> {
     }
 
     /// The net of what stands, with its agents in the order of their names, to be read once.
-    pub fn sheet(&self) -> Result<NetSheet, AllocError>
-        ensures { IfOk result (λ sheet. IsSameNet (shown sheet) (net_of self.now.start (standing (set_of self.now)))) }
+    pub fn sheet(&self) -> Result<NetSheet<'_>, AllocError>
+        ensures net { IfOk result (λ sheet. IsSameNet (shown sheet) (net_of self.now.start (standing (set_of self.now)))) }
+        ensures listing { IfOk result IsListing }
     {
         self.set.bare().sheet()
     }

@@ -15,7 +15,7 @@ use Rattle.ic_name.proofs.NameOrder.{name_cmp_total, name_tied}
 use Rattle.ic_name.specs.declared.ports.Port.{Port}
 use Rattle.ic_theory.specs.Listed.{NetAgent as Listed, ListedNet, IsListing}
 use Rattle.ic_net.specs.Sheets.{listed_agent}
-use Rattle.ic_net.specs.declared.sheet.agents.NetAgent.{NetAgent}
+use Rattle.ic_net.specs.declared.agents.NetAgent.{NetAgent}
 use Rattle.ic_net.proofs.InOrder.{keys_listed}
 use Rattle.ic_net.proofs.SortedTables.{same_tables}
 

@@ -8,7 +8,7 @@ use Rattle.std.specs.declared.cmp.Ordering.TheVariants.{Less}
 use Rattle.ic_name.specs.Names.{Name}
 use Rattle.ic_theory.specs.Listed.{NetAgent as Listed}
 use Rattle.ic_net.specs.Sheets.{listed_agent}
-use Rattle.ic_net.specs.declared.sheet.agents.NetAgent.{NetAgent}
+use Rattle.ic_net.specs.declared.agents.NetAgent.{NetAgent}
 
 -- the names of agents that are listed
 pub keys_listed : (es : List (Name × NetAgent)) → map (λ (a : Listed). a.name) (map listed_agent es) ≡ keys_of es
@@ -31,8 +31,3 @@ module _ {X K : Type 0} (cmp : K → K → Ordering) (key : X → K) where
   unfolding IsStrictlySortedBy
   last_in_order [] x s l = (tt, tt)
   last_in_order (y ∷ ys) x s l = (below_all (key y) ys x s.0 l.0, last_in_order ys x s.1 l.1)
-
--- what is listed of agents and one more
-pub listed_last : (es : List (Name × NetAgent)) (e : Name × NetAgent) → map listed_agent (es ++ e ∷ []) ≡ map listed_agent es ++ listed_agent e ∷ []
-listed_last [] e = refl
-listed_last (x ∷ xs) e = ap (λ ys. listed_agent x ∷ ys) (listed_last xs e)

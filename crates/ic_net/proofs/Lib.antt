@@ -17,3 +17,4 @@ pub mod ReachedNets
 pub mod WholeTables
 pub mod InOrder
 pub mod Makings
+pub mod PlacedNames

@@ -14,7 +14,7 @@ use Rattle.ic_name.proofs.SameFacts.{same_name_true, same_name_self}
 use Rattle.ic_name.proofs.NameOrder.{name_tied, name_tied_itself}
 use Rattle.ic_name.specs.declared.ports.Port.{Port}
 use Rattle.ic_theory.specs.Listed.{NetAgent as Listed, agent_among, partner_at, free_among}
-use Rattle.ic_net.specs.declared.sheet.agents.NetAgent.{NetAgent}
+use Rattle.ic_net.specs.declared.agents.NetAgent.{NetAgent}
 use Rattle.ic_net.specs.Sheets.{listed_agent}
 use Rattle.ic_net.specs.Tables.{partner_in}
 

@@ -11,7 +11,7 @@ use Rattle.ic_name.proofs.NameOrder.{name_cmp_total, name_tied}
 use Rattle.ic_name.specs.declared.kinds.Kind.{Kind}
 use Rattle.ic_theory.specs.Born.{named}
 use Rattle.ic_theory.specs.Nets.{kind_among}
-use Rattle.ic_net.specs.declared.sheet.agents.NetAgent.{NetAgent}
+use Rattle.ic_net.specs.declared.agents.NetAgent.{NetAgent}
 use Rattle.ic_net.specs.Sheets.{partner_list}
 use Rattle.ic_net.specs.Tables.{agent_in, IsBlank}
 use Rattle.ic_net.proofs.Lookups.{same_by_cmp}

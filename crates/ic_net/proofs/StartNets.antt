@@ -32,7 +32,7 @@ use Rattle.ic_start.specs.Starts.{IsStartSpot, AreStartLinks, port_at, join_of}
 use Rattle.ic_start.proofs.StartSpots.{one_port}
 use Rattle.ic_net.proofs.InOrder.{keys_listed}
 use Rattle.ic_net.specs.FarTables.{HasFarEnds, agent_partner, name_partner}
-use Rattle.ic_net.specs.declared.sheet.agents.NetAgent.{NetAgent}
+use Rattle.ic_net.specs.declared.agents.NetAgent.{NetAgent}
 use Rattle.ic_name.specs.declared.limits.TheConstants.{MAX_START_AGENTS}
 use Rattle.ic_net.specs.Sheets.{listed_agent, IsNet, IsReached}
 use Rattle.ic_net.specs.Nets.{at_ports, listed_from, frees_upto}

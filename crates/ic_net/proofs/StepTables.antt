@@ -21,7 +21,7 @@ use Rattle.ic_theory.specs.Rules.{born_kinds, born_ends}
 use Rattle.ic_theory.specs.Nets.{Net, IsSameNet, kind_among, has_port}
 use Rattle.ic_theory.specs.Steps.{Wiring, Meets, without_pair, take_links, plain_step}
 use Rattle.ic_theory.specs.Listed.{NetAgent as Listed, ListedNet, shown}
-use Rattle.ic_net.specs.declared.sheet.agents.NetAgent.{NetAgent}
+use Rattle.ic_net.specs.declared.agents.NetAgent.{NetAgent}
 use Rattle.ic_net.specs.declared.rewiring.Rewiring.{Rewiring}
 use Rattle.ic_net.specs.Sheets.{listed_agent, partner_list, IsNet, IsReached}
 use Rattle.ic_net.specs.Rewirings.{after_writes, wiring}

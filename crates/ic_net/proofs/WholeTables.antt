@@ -1,10 +1,9 @@
 -- Tables whose agents have the ports of their kinds are whole.
-use Rattle.std.proofs.Common.{◌≡◌, ℕ, ◌+◌, ◌<◌, ◌≤◌, Bool, true, false, List, [], ◌∷◌, map, length, refl, sym, ap, arith, ◌∙◌, leb, get_or, Some, None, inl, inr}
+use Rattle.std.proofs.Common.{◌≡◌, ℕ, ◌+◌, ◌<◌, ◌≤◌, Bool, true, false, List, [], ◌∷◌, map, length, refl, sym, ap, arith, ◌∙◌, leb, Some, None, inl, inr}
 use Rattle.std.specs.Prelude.{if◌then◌else◌, slice_get, is_some, option_map, All, ◌⊎◌}
 use Rattle.std.proofs.lemmas.Bool.{cases_lt, le-leb, lt-leb}
 use Rattle.std.proofs.lemmas.Option.{slice_get-get_or, slice_get_past}
-use Rattle.std.proofs.lemmas.List.{length-map, get_or-map}
-use Rattle.std.proofs.lemmas.List.Elements.{All-cons, All-nil, All-get_or}
+use Rattle.std.proofs.lemmas.List.Elements.{All-cons, All-nil}
 use Rattle.std.proofs.lemmas.Map.Keys.{sorted_head, sorted_tail}
 use Rattle.std.specs.List.{AllByRecursion}
 use Rattle.std.specs.List.Sorted.{IsStrictlySortedBy}
@@ -17,8 +16,6 @@ use Rattle.ic_name.proofs.SameFacts.{same_name_true, same_name_self}
 use Rattle.ic_name.specs.declared.ports.Port.{Port}
 use Rattle.ic_theory.specs.Nets.{has_port}
 use Rattle.ic_theory.specs.Listed.{NetAgent as Listed, agent_among, partner_at}
-use Rattle.ic_net.specs.Views.{shown_agent}
-use Rattle.ic_net.specs.declared.sheet.parts.AgentView.{AgentView}
 
 pub apart : (a b : Name) → (a ≡ b → ⊥) → same_name a b ≡ false
 apart a b n = go (same_name a b) refl
@@ -75,11 +72,3 @@ whole_by (a ∷ as') s h =
         → is_some (partner_at i (agent_among x as')) ≡ has_port (option_map (λ (c : Listed). c.kind) (agent_among x as')) i
     behind below x i true e k = let none : agent_among x as' ≡ None = ap (λ n. agent_among n as') (same_name_true x a.name e) ∙ not_above a.name as' below in rw none refl
     behind below x i false e k = rw e at k
-
--- an agent that is lent has as many partners as its kind has ports, so at most three
-pub few_partners : (as' : List AgentView) (i : ℕ) (a : AgentView) → i < length as' → a ≡ get_or as' i a → All (λ (n : Listed). length n.partners ≤ 3) (map shown_agent as') → length a.partners.now ≤ 3
-few_partners as' i a within is all =
-    let inside : i < length (map shown_agent as') = rw (length-map as' shown_agent) within in
-    let here = All-get_or (λ (n : Listed). length n.partners ≤ 3) (map shown_agent as') i (shown_agent a) inside all in
-    let e : get_or (map shown_agent as') i (shown_agent a) ≡ shown_agent a = get_or-map shown_agent as' i a (shown_agent a) within ∙ ap shown_agent (sym is) in
-    rw e at here

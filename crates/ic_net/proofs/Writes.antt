@@ -10,7 +10,7 @@ use Rattle.ic_name.specs.Same.{same_name, same_port}
 use Rattle.ic_name.proofs.SameFacts.{same_name_true, same_name_self}
 use Rattle.ic_name.specs.declared.ports.Port.{Port}
 use Rattle.ic_name.specs.declared.ports.Port.TheVariants as port
-use Rattle.ic_net.specs.declared.sheet.agents.NetAgent.{NetAgent}
+use Rattle.ic_net.specs.declared.agents.NetAgent.{NetAgent}
 use Rattle.ic_net.specs.Sheets.{partner_list}
 use Rattle.ic_net.specs.Rewirings.{after_writes}
 use Rattle.ic_net.specs.Tables.{agent_in, kind_in, partner_in, found_at, settle, settled}

@@ -5,5 +5,5 @@ pub mod Rewirings
 pub mod Tables
 pub mod Replays
 pub mod Sheets
-pub mod Views
+pub mod Placed
 pub mod Makings

@@ -8,8 +8,9 @@ use Rattle.ic_name.specs.declared.rules.Profile.{Profile}
 use Rattle.ic_name.specs.declared.ports.Port.{Port}
 use Rattle.ic_theory.specs.Listed.{NetAgent as Listed, ListedNet}
 
--- the agents in order of names, the partner of each free name in order of numbers, the profile
+-- the names of the table, the agents in order of names, the partner of each free name in order of numbers, the profile
 pub record NetParts : Type 0 where
+  pub names : List Name
   pub agents : List Listed
   pub frees : List (ℕ × Port)
   pub profile : Profile

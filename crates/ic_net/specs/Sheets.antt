@@ -9,9 +9,9 @@ use Rattle.ic_theory.specs.Starts.{Start, IsProper}
 use Rattle.ic_theory.specs.Firings.{IsFired}
 use Rattle.ic_theory.specs.Nets.{Net, IsSameNet, net_of}
 use Rattle.ic_theory.specs.Listed.{NetAgent as Listed, ListedNet, IsListing, port_cmp, ends_from, shown}
-use Rattle.ic_net.specs.declared.sheet.agents.Partners.{Partners}
-use Rattle.ic_net.specs.declared.sheet.agents.Partners.TheVariants.{One, Three}
-use Rattle.ic_net.specs.declared.sheet.agents.NetAgent.{NetAgent}
+use Rattle.ic_net.specs.declared.agents.Partners.{Partners}
+use Rattle.ic_net.specs.declared.agents.Partners.TheVariants.{One, Three}
+use Rattle.ic_net.specs.declared.agents.NetAgent.{NetAgent}
 
 -- the partners by number
 abbrev pub partner_list : Partners → List Port

@@ -8,8 +8,8 @@ ghost use Rattle.ic_theory.specs.Nets.{kind_among};
 ghost use Rattle.ic_net.specs.Sheets.{partner_list};
 ghost use Rattle.ic_net.specs.Tables.{agent_in, IsBlank};
 
+use crate::agents::{NetAgent, Partners};
 use crate::rewiring::child_of;
-use crate::sheet::{NetAgent, Partners};
 use ic_name::{AgentName, Kind, Port};
 use std::alloc::AllocError;
 use std::collections::BTreeMap;

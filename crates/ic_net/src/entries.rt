@@ -7,7 +7,7 @@ ghost use Rattle.ic_name.specs.declared.ports.Port.{Port as APort};
 ghost use Rattle.ic_net.specs.Sheets.{partner_list};
 ghost use Rattle.ic_net.specs.Tables.{kind_in, found_at, settle, settled};
 
-use crate::sheet::{NetAgent, Partners};
+use crate::agents::{NetAgent, Partners};
 use ic_name::{AgentName, Port};
 use std::collections::BTreeMap;
 

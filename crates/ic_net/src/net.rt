@@ -2,15 +2,19 @@ ghost use Rattle.std.specs.Prelude.{◌≡◌, ◌↔◌, ◌≤◌, ◌<◌, �
 ghost use Rattle.ic_theory.specs.Nets.{net_of, IsSameNet};
 ghost use Rattle.ic_theory.specs.Listed.{IsListing, shown, wires_of, active_pairs};
 ghost use Rattle.ic_net.specs.Sheets.{IsReached};
+ghost use Rattle.ic_net.specs.Placed.{HasNames};
 
+use crate::agents::NetAgent;
 use crate::far::far_table;
+use crate::naming::{named_agents, named_frees};
 use crate::pairs::active_of;
+use crate::placing::{enter_agents, enter_frees, place_agents, place_frees};
 use crate::same::{same_agents, same_frees};
-use crate::sheet::{NetAgent, NetLists, NetSheet, NetView};
+use crate::sheet::{NetSheet, SheetLists};
 use crate::tables::{agents_of, frees_of, name_ends};
-use crate::views::{agent_views, free_views};
 use crate::wires::{agent_wires, name_wires};
 use ic_name::{AgentName, Kind, Port, Profile};
+use ic_names::NameTable;
 use ic_start::Start;
 use std::alloc::{AllocError, Global};
 use std::collections::BTreeMap;
@@ -62,21 +66,21 @@ impl Net {
     }
 
     /// The net of a sheet, whose agents and free names are found from then on.
-    pub fn of_sheet(alloc: Global, sheet: NetSheet) -> Result<Net, AllocError>
-        ensures { IfOk result (λ net. net ≡ sheet) }
+    pub fn of_sheet(alloc: Global, sheet: &NetSheet<'_>) -> Result<Net, AllocError>
+        ensures { IfOk result (λ net. net ≡ sheet.now) }
     {
-        sheet.lawful();
-        let NetLists {
+        let SheetLists {
+            names,
             agents,
             frees,
-            rings,
-            profile,
-        } = sheet.into_lists();
+        } = sheet.lists();
+        let agents = named_agents(alloc, names, agents)?;
+        let frees = named_frees(alloc, names, frees)?;
         Ok(Net {
             agents: BTreeMap::from_iter(alloc, agents)?,
             frees: BTreeMap::from_iter(alloc, frees)?,
-            rings,
-            profile,
+            rings: sheet.rings(),
+            profile: sheet.profile(),
         })
     }
 
@@ -135,13 +139,28 @@ impl Net {
         active_of(alloc, &self.agents)
     }
 
-    /// The net, lent to be read.
-    pub fn view(&self, alloc: Global) -> Result<NetView<'_>, AllocError>
-        ensures { IfOk result (λ view. view ≡ self.now) }
+    /// A table with the names of the net's agents. At an error memory ran out, or there is no place for all of them.
+    pub fn names(&self, alloc: Global) -> Result<NameTable, AllocError>
+        ensures { IfOk result (λ names. HasNames names self.now) }
     {
-        let agents = agent_views(alloc, &self.agents)?;
-        let frees = free_views(alloc, &self.frees)?;
-        Ok(NetView::of(agents, frees, self.rings, self.profile))
+        let mut names = NameTable::new(alloc);
+        enter_agents(&mut names, &self.agents)?;
+        enter_frees(&mut names, &self.frees)?;
+        Ok(names)
+    }
+
+    /// The net as a list, by the places of its names in a table that has them all. At an error memory ran out.
+    pub fn sheet<'a>(&self, alloc: Global, names: &'a NameTable) -> Result<NetSheet<'a>, AllocError>
+        requires { HasNames names.now self.now }
+        ensures { IfOk result (λ sheet. sheet ≡ self.now) }
+    {
+        Ok(NetSheet {
+            names,
+            agents: place_agents(alloc, names, &self.agents)?,
+            frees: place_frees(alloc, names, &self.frees)?,
+            rings: self.rings,
+            profile: self.profile,
+        })
     }
 
     /// Whether two nets are the same, name by name and port by port. It takes no memory.

@@ -4,7 +4,7 @@ ghost use Rattle.ic_theory.specs.Listed.{led_pair};
 ghost use Rattle.ic_net.specs.Sheets.{partner_list, listed_agent};
 ghost use Rattle.ic_net.specs.Nets.{pair_led_by};
 
-use crate::sheet::NetAgent;
+use crate::agents::NetAgent;
 use ic_name::{AgentName, Port};
 use std::alloc::{AllocError, Global};
 use std::collections::BTreeMap;

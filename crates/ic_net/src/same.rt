@@ -1,7 +1,7 @@
 ghost use Rattle.std.specs.Prelude.{◌≡◌, ◌↔◌, IsTrue, map};
 ghost use Rattle.ic_net.specs.Sheets.{listed_agent};
 
-use crate::sheet::NetAgent;
+use crate::agents::NetAgent;
 use ic_name::{AgentName, Port};
 use std::collections::BTreeMap;
 

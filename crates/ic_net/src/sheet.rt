@@ -1,127 +1,87 @@
 //! Nets as lists: the agents in the order of their names, each with the partners of its ports, and the free names, each
-//! with its partner.
-ghost use Rattle.std.specs.Prelude.{◌≡◌, ◌<◌, ◌^◌, length, map, IfOk};
-ghost use Rattle.ic_theory.specs.Listed.{IsListing, shown};
-ghost use Rattle.ic_net.specs.Sheets.{IsReached, listed_agent};
-ghost use Rattle.ic_net.specs.Views.{shown_agent, shown_free};
+//! with its partner. All names of agents are places in a table.
+ghost use Rattle.std.specs.Prelude.{◌≡◌, map};
+ghost use Rattle.ic_theory.specs.Listed.{wires_of};
+ghost use Rattle.ic_net.specs.Sheets.{IsNet};
+ghost use Rattle.ic_net.specs.Placed.{listed_at, free_at, AreInside};
 
-pub mod agents;
 pub mod making;
-pub mod parts;
-pub mod view;
-pub mod wires;
+pub mod placed;
+mod wires;
 
-pub use agents::{NetAgent, Partners};
-use ic_name::{AgentName, Port, Profile};
+use crate::sheet::wires::{agent_wires, name_wires};
+use ic_name::Profile;
+use ic_names::NameTable;
 pub use making::NetMaker;
-pub use parts::{AgentView, FreeView};
-use std::alloc::{AllocError, Global};
+pub use placed::{PlacedAgent, PlacedPartners, PlacedPort};
 use std::marker::Model;
-pub use view::NetView;
 
 /// A net that lies as it is listed: its agents in the order of their names, each with the partners of its ports, and its
-/// free names in the order of their numbers, each with its partner.
+/// free names in the order of their numbers, each with its partner. No name is copied: each stands at its place in the
+/// table.
 #[derive(Drop)]
-pub struct NetSheet {
-    pub(crate) agents: Vec<(AgentName, NetAgent)>,
-    pub(crate) frees: Vec<(u32, Port)>,
+pub struct NetSheet<'a> {
+    pub(crate) names: &'a NameTable,
+    pub(crate) agents: Vec<PlacedAgent>,
+    pub(crate) frees: Vec<(u32, PlacedPort)>,
     pub(crate) rings: u64,
     pub(crate) profile: Profile,
 }
 
-impl Model for NetSheet {
-    ghost use Rattle.std.specs.Prelude.{map};
+impl<'a> Model for NetSheet<'a> {
     ghost use Rattle.ic_theory.specs.Listed.{ListedNet};
 
     ghost Value = { ListedNet };
 
-    ghost use Rattle.ic_net.specs.Sheets.{listed_agent, IsNet};
+    ghost use Rattle.ic_net.specs.Sheets.{IsNet};
+    ghost use Rattle.ic_net.specs.Placed.{listed_by, AreInside};
 
-    ghost view = { λ s. record { agents = map listed_agent s.agents.items; frees = s.frees.items; rings = s.rings; profile = s.profile } };
+    ghost view = { λ s. listed_by s.names.now s.agents.items s.frees.items s.rings s.profile };
 
-    ghost invariant = { λ s. IsNet (record { agents = map listed_agent s.agents.items; frees = s.frees.items; rings = s.rings; profile = s.profile }) };
+    ghost invariant = { λ s. IsNet (listed_by s.names.now s.agents.items s.frees.items s.rings s.profile) × AreInside s.names.now s.agents.items s.frees.items };
 }
 
-/// What a net is listed by: its agents and its free names, each in order, the number of its rings, and its profile.
-#[derive(Drop)]
-pub struct NetLists {
-    pub agents: Vec<(AgentName, NetAgent)>,
-    pub frees: Vec<(u32, Port)>,
-    pub rings: u64,
-    pub profile: Profile,
+/// What a net is listed by: a table of names, its agents, and its free names with their partners.
+#[derive(Clone, Copy)]
+pub struct SheetLists<'a> {
+    pub names: &'a NameTable,
+    pub agents: &'a [PlacedAgent],
+    pub frees: &'a [(u32, PlacedPort)],
 }
 
-impl NetSheet {
-    /// The invariant of every net.
-    pub fn lawful(&self)
-        ensures listing { IsListing self.now }
-        ensures few_agents { length self.now.agents < 2 ^ 32 }
-        ensures few_frees { length self.now.frees < 2 ^ 32 }
-        ensures few_rings { self.now.rings < 2 ^ 63 }
-        ensures reached { IsReached (shown self.now) }
+impl<'a> NetSheet<'a> {
+    /// What it is listed by.
+    pub fn lists(&self) -> SheetLists<'_>
+        ensures net { IsNet self.now }
+        ensures agents { map (listed_at result.names.now) result.agents.now ≡ self.now.agents }
+        ensures frees { map (free_at result.names.now) result.frees.now ≡ self.now.frees }
+        ensures inside { AreInside result.names.now result.agents.now result.frees.now }
     {
-        let _ = &self.rings;
-    }
-
-    /// The net, lent to be read.
-    pub fn view(&self, alloc: Global) -> Result<NetView<'_>, AllocError>
-        ensures { IfOk result (λ view. view ≡ self.now) }
-    {
-        let agents = agent_views(alloc, &self.agents)?;
-        let frees = free_views(alloc, &self.frees)?;
-        Ok(NetView::of(agents, frees, self.rings, self.profile))
-    }
-
-    /// What it is listed by. It takes no memory.
-    pub fn into_lists(self) -> NetLists
-        ensures agents { map listed_agent result.agents.items ≡ self.agents }
-        ensures frees { result.frees.items ≡ self.frees }
-        ensures rings { result.rings ≡ self.rings }
-        ensures profile { result.profile ≡ self.profile }
-    {
-        let NetSheet {
-            agents,
-            frees,
-            rings,
-            profile,
-        } = self;
-        NetLists {
-            agents,
-            frees,
-            rings,
-            profile,
+        SheetLists {
+            names: self.names,
+            agents: &self.agents,
+            frees: &self.frees,
         }
     }
-}
 
-/// These agents, to be read.
-fn agent_views(
-    alloc: Global,
-    agents: &[(AgentName, NetAgent)],
-) -> Result<Vec<AgentView<'_>>, AllocError>
-    ensures { IfOk result (λ views. map shown_agent views.items ≡ map listed_agent agents.now) }
-{
-    let mut views = Vec::with_capacity(alloc, agents.len())?;
-    for (name, agent) in agents {
-        views.push(AgentView {
-            name,
-            kind: agent.kind,
-            partners: agent.partners.as_slice(),
-        })?;
+    /// The number of wires; each joins two loose ports. It takes no memory.
+    pub fn wires(&self) -> u64
+        ensures { result ≡ wires_of self.now }
+    {
+        agent_wires(self.names, &self.agents) + name_wires(&self.frees)
     }
-    Ok(views)
-}
 
-/// These free names, to be read.
-fn free_views(alloc: Global, frees: &[(u32, Port)]) -> Result<Vec<FreeView<'_>>, AllocError>
-    ensures { IfOk result (λ views. map shown_free views.items ≡ frees.now) }
-{
-    let mut views = Vec::with_capacity(alloc, frees.len())?;
-    for (number, partner) in frees {
-        views.push(FreeView {
-            number: *number,
-            partner,
-        })?;
+    /// The number of rings.
+    pub fn rings(&self) -> u64
+        ensures { result ≡ self.now.rings }
+    {
+        self.rings
     }
-    Ok(views)
+
+    /// Which ports an annihilation of two gammas joins.
+    pub fn profile(&self) -> Profile
+        ensures { result ≡ self.now.profile }
+    {
+        self.profile
+    }
 }

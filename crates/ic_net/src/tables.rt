@@ -11,8 +11,8 @@ ghost use Rattle.ic_net.specs.FarTables.{IsFarTable, agent_partner, name_partner
 ghost use Rattle.ic_net.specs.Sheets.{partner_list, listed_agent};
 ghost use Rattle.ic_net.specs.Nets.{at_ports, listed_from, frees_upto};
 
+use crate::agents::{NetAgent, Partners};
 use crate::far::end_of;
-use crate::sheet::{NetAgent, Partners};
 use ic_name::{AgentId, AgentName, Kind, Port, Spot};
 use ic_start::StartLinks;
 use std::alloc::{AllocError, Global};

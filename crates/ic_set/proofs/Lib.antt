@@ -52,6 +52,7 @@ pub mod LookedUp
 pub mod QueuedLeads
 pub mod KeyedOrders
 pub mod PlacedOrders
+mod PlacedAgents
 pub mod Buckets
 pub mod OrderedIds
 pub mod RankedEvents

@@ -2,7 +2,7 @@ ghost use Rattle.std.specs.Prelude.{◌≡◌, All, List, [], map, IfOk};
 ghost use Rattle.ic_name.specs.Events.{Event as AnEvent};
 ghost use Rattle.ic_path.specs.Orders.{Alike};
 ghost use Rattle.ic_theory.specs.Firings.{AreAfterCauses, then_fired};
-ghost use Rattle.ic_theory.specs.Listed.{shown};
+ghost use Rattle.ic_theory.specs.Listed.{shown, IsListing};
 ghost use Rattle.ic_theory.specs.Nets.{IsSameNet, net_of};
 ghost use Rattle.ic_theory.specs.Steps.{AreDefined, steps};
 ghost use Rattle.ic_cause.specs.Journals.{Ranked, IsJournal, journal_text};
@@ -29,12 +29,13 @@ const TOO_MANY_RINGS: u64 = 1 << 63;
 impl<L: LinkStore> BareSet<L> {
     /// The net of the set, with its agents in the order of their names, to be read once. At an error memory ran out, or the
     /// net would have more agents or rings than can be counted.
-    pub fn sheet(&self) -> Result<NetSheet, AllocError>
-        ensures { IfOk result (λ sheet. IsSameNet (shown sheet) (net_of self.now.set.start (standing self.now.set))) }
+    pub fn sheet(&self) -> Result<NetSheet<'_>, AllocError>
+        ensures net { IfOk result (λ sheet. IsSameNet (shown sheet) (net_of self.now.set.start (standing self.now.set))) }
+        ensures listing { IfOk result IsListing }
     {
         self.lawful();
         self.start.lawful();
-        let mut maker = NetMaker::new(self.alloc, self.start.profile());
+        let mut maker = NetMaker::new(self.alloc, self.roster.names(), self.start.profile());
         self.put_agents(&mut maker)?;
         self.put_frees(&mut maker)?;
         let rings = self.store.rings();
@@ -52,7 +53,7 @@ impl<L: LinkStore> BareSet<L> {
         ensures every_order { IfOk result (λ net. (order : List AnEvent) → Alike (standing self.now.set) (then_fired [] order) → AreAfterCauses self.now.set.start (then_fired [] order) (then_fired [] order) → IsSameNet (shown net) (steps (net_of self.now.set.start []) order)) }
     {
         self.lawful();
-        let net = Net::of_sheet(self.alloc, self.sheet()?)?;
+        let net = Net::of_sheet(self.alloc, &self.sheet()?)?;
         Ok(net)
     }
 

@@ -1,12 +1,11 @@
-ghost use Rattle.std.specs.Prelude.{◌≡◌, ◌≤◌, ◌<◌, [], length, Some, IfOk, OnOk};
+ghost use Rattle.std.specs.Prelude.{◌≡◌, ◌≤◌, ◌<◌, [], length, map, option_map, All, Some, IfOk, IfSome, OnOk};
 ghost use Rattle.ic_name.specs.Kinds.{arity};
 ghost use Rattle.ic_name.specs.Names.{Name as AName};
 ghost use Rattle.ic_name.specs.declared.kinds.Kind.{Kind as AKind};
 ghost use Rattle.ic_name.specs.declared.ports.Port.{Port as APort};
 ghost use Rattle.ic_name.specs.declared.ports.Port.TheVariants as port_variants;
-ghost use Rattle.ic_names.specs.Tables.{name_at};
 ghost use Rattle.ic_net.specs.Makings.{IsLastName};
-ghost use Rattle.ic_net.specs.Sheets.{partner_list};
+ghost use Rattle.ic_net.specs.Placed.{port_at, placed_list, IsPortInside};
 ghost use Rattle.ic_theory.specs.Wires.{IsWire};
 ghost use Rattle.ic_set.specs.Reading.{net_in, IsPortAt, IsLiving, ArePartners, AreNetAgents, AreNetFrees, IsPut};
 ghost use Rattle.ic_set.specs.Views.{standing};
@@ -14,16 +13,17 @@ ghost use Rattle.ic_set.specs.Wires.{IsLooseSpot};
 
 use crate::bare::BareSet;
 use ic_link::{Far, LinkStore};
-use ic_name::{AgentId, AgentName, Kind, Port, Spot};
-use ic_names::NameId;
-use ic_net::{NetMaker, Partners};
+use ic_name::{AgentId, Kind, Port, Spot};
+use ic_net::{NetMaker, PlacedPartners, PlacedPort};
 use std::alloc::AllocError;
 
 impl<L: LinkStore> BareSet<L> {
-    /// The agents of the net come, with the partners of their ports. At an error memory ran out.
-    pub(crate) fn put_agents(&self, maker: &mut NetMaker) -> Result<(), AllocError>
-        requires { maker.old.agents ≡ [] }
+    /// The agents of the net come, with the partners of their ports, by the places of their names. At an error memory ran out.
+    pub(crate) fn put_agents(&self, maker: &mut NetMaker<'_>) -> Result<(), AllocError>
+        requires names { maker.old.names ≡ self.now.names }
+        requires none { maker.old.agents ≡ [] }
         ensures agents { OnOk result (AreNetAgents self.now.set maker.new.agents) }
+        ensures names { OnOk result (maker.new.names ≡ maker.old.names) }
         ensures frees { OnOk result (maker.new.frees ≡ maker.old.frees) }
         ensures profile { OnOk result (maker.new.profile ≡ maker.old.profile) }
     {
@@ -35,8 +35,9 @@ impl<L: LinkStore> BareSet<L> {
     }
 
     /// The free names of the net come, each with its partner. At an error memory ran out.
-    pub(crate) fn put_frees(&self, maker: &mut NetMaker) -> Result<(), AllocError>
-        requires { maker.old.frees ≡ [] }
+    pub(crate) fn put_frees(&self, maker: &mut NetMaker<'_>) -> Result<(), AllocError>
+        requires names { maker.old.names ≡ self.now.names }
+        requires none { maker.old.frees ≡ [] }
         ensures agents { OnOk result (maker.new.agents ≡ maker.old.agents) }
         ensures frees { OnOk result (AreNetFrees self.now.set maker.new.frees) }
         ensures few { OnOk result (length maker.new.frees ≤ length self.now.set.start.names) }
@@ -46,7 +47,7 @@ impl<L: LinkStore> BareSet<L> {
         self.start.lawful();
         for number in 0..self.start.names().len() {
             let number = number as u32;
-            if let Some(partner) = self.partner_of_name(number)? {
+            if let Some(partner) = self.partner_of_name(number) {
                 maker.push_free(number, partner)?;
             }
         }
@@ -55,9 +56,11 @@ impl<L: LinkStore> BareSet<L> {
 
     /// The agent under this id comes, with the partners of its ports, if there is one that isn't consumed. At an error memory
     /// ran out.
-    fn put_agent(&self, agent: AgentId, maker: &mut NetMaker) -> Result<(), AllocError>
-        requires { (n : AName) (k : AKind) → IsLiving self.now.set agent n k → IsLastName n maker.old.agents }
+    fn put_agent(&self, agent: AgentId, maker: &mut NetMaker<'_>) -> Result<(), AllocError>
+        requires names { maker.old.names ≡ self.now.names }
+        requires last { (n : AName) (k : AKind) → IsLiving self.now.set agent n k → IsLastName n maker.old.agents }
         ensures agents { OnOk result (IsPut self.now.set agent maker.old.agents maker.new.agents) }
+        ensures names { OnOk result (maker.new.names ≡ maker.old.names) }
         ensures frees { OnOk result (maker.new.frees ≡ maker.old.frees) }
         ensures profile { OnOk result (maker.new.profile ≡ maker.old.profile) }
     {
@@ -68,41 +71,43 @@ impl<L: LinkStore> BareSet<L> {
         if self.is_consumed(agent, entry.name) {
             return Ok(());
         }
-        let name = self.name_of(entry.name)?;
-        let partners = self.partners(agent, entry.kind)?;
-        maker.push_agent(name, entry.kind, partners)
+        let partners = self.partners(agent, entry.kind);
+        maker.push_agent(entry.name, entry.kind, partners)
     }
 
-    /// The partners of the ports of an agent that isn't consumed. At an error memory ran out.
-    fn partners(&self, agent: AgentId, kind: Kind) -> Result<Partners, AllocError>
+    /// The partners of the ports of an agent that isn't consumed. It takes no memory.
+    fn partners(&self, agent: AgentId, kind: Kind) -> PlacedPartners
         requires { (n : AName) × IsLiving self.now.set agent n kind }
-        ensures { IfOk result (λ ps. (n : AName) → IsLiving self.now.set agent n kind → ArePartners self.now.set n (partner_list ps)) }
+        ensures partners { (n : AName) → IsLiving self.now.set agent n kind → ArePartners self.now.set n (map (port_at self.now.names) (placed_list result)) }
+        ensures inside { All (IsPortInside self.now.names) (placed_list result) }
     {
         self.lawful();
-        let first = self.partner_at(agent, 0)?;
+        let first = self.partner_at(agent, 0);
         match kind {
-            Kind::Eps => Ok(Partners::One([first])),
+            Kind::Eps => PlacedPartners::One([first]),
             Kind::Gamma | Kind::Delta => {
-                let second = self.partner_at(agent, 1)?;
-                let third = self.partner_at(agent, 2)?;
-                Ok(Partners::Three([first, second, third]))
+                let second = self.partner_at(agent, 1);
+                let third = self.partner_at(agent, 2);
+                PlacedPartners::Three([first, second, third])
             }
         }
     }
 
-    /// The partner of a port of an agent that isn't consumed. At an error memory ran out.
-    fn partner_at(&self, agent: AgentId, port: u8) -> Result<Port, AllocError>
+    /// The partner of a port of an agent that isn't consumed. It takes no memory.
+    fn partner_at(&self, agent: AgentId, port: u8) -> PlacedPort
         requires { (n : AName) × (k : AKind) × IsLiving self.now.set agent n k × (port ≤ arity k) }
-        ensures { IfOk result (λ q. (n : AName) (k : AKind) → IsLiving self.now.set agent n k → port ≤ arity k → (net_in self.now.set).partner (port_variants.Of n port) ≡ Some q) }
+        ensures partner { (n : AName) (k : AKind) → IsLiving self.now.set agent n k → port ≤ arity k → (net_in self.now.set).partner (port_variants.Of n port) ≡ Some (port_at self.now.names result) }
+        ensures inside { IsPortInside self.now.names result }
     {
         self.lawful();
         self.far_port(Spot::Agent(agent, port))
     }
 
-    /// The port at the other end of the wire at the spot of a port of the net. At an error memory ran out.
-    pub(crate) fn far_port(&self, spot: Spot) -> Result<Port, AllocError>
+    /// The port at the other end of the wire at the spot of a port of the net. It takes no memory.
+    pub(crate) fn far_port(&self, spot: Spot) -> PlacedPort
         requires { (p : APort) × IsLooseSpot self.now.set spot p }
-        ensures { IfOk result (λ far. (p : APort) → IsLooseSpot self.now.set spot p → IsWire self.now.set.start (standing self.now.set) p far) }
+        ensures wire { (p : APort) → IsLooseSpot self.now.set spot p → IsWire self.now.set.start (standing self.now.set) p (port_at self.now.names result) }
+        ensures inside { IsPortInside self.now.names result }
     {
         let Far::End(end) = self.store.far(spot) else {
             unreachable!()
@@ -110,40 +115,45 @@ impl<L: LinkStore> BareSet<L> {
         self.port_of(end)
     }
 
-    /// The partner of the name of this number; `None` if the name isn't free. At an error memory ran out.
-    fn partner_of_name(&self, number: u32) -> Result<Option<Port>, AllocError>
-        ensures { IfOk result (λ partner. partner ≡ (net_in self.now.set).partner (port_variants.Name number)) }
+    /// The partner of the name of this number; `None` if the name isn't free. It takes no memory.
+    fn partner_of_name(&self, number: u32) -> Option<PlacedPort>
+        ensures partner { option_map (port_at self.now.names) result ≡ (net_in self.now.set).partner (port_variants.Name number) }
+        ensures inside { IfSome result (IsPortInside self.now.names) }
     {
         let Far::End(spot) = self.store.far(Spot::Name(number)) else {
-            return Ok(None);
+            return None;
         };
-        Ok(Some(self.port_of(spot)?))
+        Some(self.port_of(spot))
     }
 
-    /// The port that the spot stands for. At an error memory ran out.
-    fn port_of(&self, spot: Spot) -> Result<Port, AllocError>
+    /// The port that the spot stands for. It takes no memory.
+    fn port_of(&self, spot: Spot) -> PlacedPort
         requires { (p : APort) × IsPortAt self.now.set spot p }
-        ensures { IfOk result (λ p. IsPortAt self.now.set spot p) }
+        ensures port { IsPortAt self.now.set spot (port_at self.now.names result) }
+        ensures inside { IsPortInside self.now.names result }
     {
         match spot {
-            Spot::Name(number) => Ok(Port::Name(number)),
+            Spot::Name(number) => PlacedPort::Name(number),
             Spot::Agent(agent, port) => {
                 let Some(entry) = self.roster.agent(agent) else {
                     unreachable!()
                 };
-                Ok(Port::Of(self.name_of(entry.name)?, port))
+                PlacedPort::Of(entry.name, port)
             }
         }
     }
 
-    /// The name at this place. At an error memory ran out.
-    fn name_of(&self, name: NameId) -> Result<AgentName, AllocError>
-        requires { name.place < length self.now.names }
-        ensures { IfOk result (λ n. n ≡ name_at self.now.names name.place) }
+    /// A port by its agent's name, or by its number if it is a free name. At an error memory ran out.
+    pub(crate) fn named_port(&self, port: PlacedPort) -> Result<Port, AllocError>
+        requires { IsPortInside self.now.names port }
+        ensures { IfOk result (λ p. p ≡ port_at self.now.names port) }
     {
-        match self.roster.names().name(name)? {
-            Some(name) => Ok(name),
-            None => unreachable!(),
+        match port {
+            PlacedPort::Name(number) => Ok(Port::Name(number)),
+            PlacedPort::Of(name, number) => match self.roster.names().name(name)? {
+                Some(name) => Ok(Port::Of(name, number)),
+                None => unreachable!(),
+            },
         }
     }
 }

@@ -78,7 +78,7 @@ impl<L: LinkStore> BareSet<L> {
         ensures { IfOk result (λ w. (p : APort) → IsLooseSpot self.now.set spot p → IsWireAt self.now.set p w.far w.makers.items) }
     {
         Ok(Wire {
-            far: self.far_port(spot)?,
+            far: self.named_port(self.far_port(spot))?,
             makers: self.wire_makers(spot)?,
         })
     }

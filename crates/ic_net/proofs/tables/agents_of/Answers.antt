@@ -2,7 +2,7 @@ use Rattle.std.proofs.Common.{◌≡◌, ◌∙◌, ap, refl, length}
 use Rattle.std.specs.BTreeMap.{insert_entry}
 use Rattle.ic_name.specs.Names.{name_cmp, start_name}
 use Rattle.ic_net.specs.FarTables.{agent_partner}
-use Rattle.ic_net.specs.declared.sheet.agents.NetAgent.{NetAgent}
+use Rattle.ic_net.specs.declared.agents.NetAgent.{NetAgent}
 use Rattle.ic_net.proofs.Listings.{agents_more}
 use Rattle.ic_net.proofs.tables.agents_of.Goals as goal
 

@@ -1,6 +1,6 @@
 use Rattle.std.proofs.Common.{◌∙◌, ap, sym}
 use Rattle.std.specs.Prelude.{option_map}
-use Rattle.ic_net.specs.declared.sheet.agents.NetAgent.{NetAgent}
+use Rattle.ic_net.specs.declared.agents.NetAgent.{NetAgent}
 use Rattle.ic_net.proofs.Lookups.{found_kind}
 use Rattle.ic_net.proofs.net.Net.kind.Goals as goal
 

@@ -10,17 +10,15 @@ use Rattle.ic_net.proofs.net.Net.of_sheet.Goals as goal
 -- the tables list what the sheet lists
 pub returns : goal.returns
 returns c =
-    let sheet = c.args.sheet in
+    let sheet = c.args.sheet.now in
     let h = c.in_ok-from_iter.ensures.ran in
     let k = c.in_ok-from_iter-2.ensures.ran in
     let agents = subst (λ es. IsFromIterResult name_cmp es c.in_ok-from_iter.field-0) (All-taken h.0 h.1 ((h.3.2 tt).0, (h.3.0, h.3.1, (h.3.2 tt).1)) ∙ h.2.0) h.4 in
     let frees = subst (λ es. IsFromIterResult nat_cmp es c.in_ok-from_iter-2.field-0) (All-taken k.0 k.1 ((k.3.2 tt).0, (k.3.0, k.3.1, (k.3.2 tt).1)) ∙ k.2.0) k.4 in
-    let first = collected_agents sheet _ c.in_ok-from_iter.field-0 c.lawful.ensures.listing c.into_lists-agents.ensures.agents agents in
-    let second = collected_frees sheet _ c.in_ok-from_iter-2.field-0 c.lawful.ensures.listing c.into_lists-agents.ensures.frees frees in
-    λ i. record { agents = first i; frees = second i; rings = c.into_lists-agents.ensures.rings i; profile = c.into_lists-agents.ensures.profile i }
+    let first = collected_agents sheet _ c.in_ok-from_iter.field-0 c.lists.ensures.net.listing (c.in_ok-agents.ensures ∙ c.lists.ensures.agents) agents in
+    let second = collected_frees sheet _ c.in_ok-from_iter-2.field-0 c.lists.ensures.net.listing (c.in_ok-frees.ensures ∙ c.lists.ensures.frees) frees in
+    λ i. record { agents = first i; frees = second i; rings = c.rings.ensures i; profile = c.profile.ensures i }
 
 -- so they are those of a net
 pub invariant_of-result : goal.invariant_of-result
-invariant_of-result c =
-    let net : IsNet c.args.sheet = record { listing = c.lawful.ensures.listing; few_agents = c.lawful.ensures.few_agents; few_frees = c.lawful.ensures.few_frees; few_rings = c.lawful.ensures.few_rings; reached = c.lawful.ensures.reached } in
-    subst IsNet (sym (returns c)) net
+invariant_of-result c = subst IsNet (sym (returns c)) c.lists.ensures.net

@@ -1,6 +1,5 @@
 use Rattle.ic_name.specs.declared.ports.Port.TheVariants as port
 use Rattle.ic_set.proofs.LooseSpots.{loose_at}
-use Rattle.ic_set.proofs.ReadNets.{if_ok}
 use Rattle.ic_set.proofs.WirePaths.{joined_partner}
 use Rattle.ic_set.proofs.bare.BareSet.partner_at.Goals as goal
 
@@ -9,7 +8,7 @@ far_port-requires g c =
     let (n, k, living, few) = c.requires in
     (port.Of n c.args.port, loose_at c.args.self.now.set c.lawful.ensures.set (record { id = c.args.agent; name = n; kind = k }) c.args.port living.0 few living.1)
 
-pub returns : goal.returns
-returns g c = if_ok c.far_port.result c.far_port.ensures (λ q joined n k living few. (
+pub returns-clause-partner : goal.returns-clause-partner
+returns-clause-partner g c = λ n k living few. (
     let spot = loose_at c.args.self.now.set c.lawful.ensures.set (record { id = c.args.agent; name = n; kind = k }) c.args.port living.0 few living.1 in
-    joined_partner c.args.self.now.set c.lawful.ensures.set (port.Of n c.args.port) q (joined (port.Of n c.args.port) spot)))
+    joined_partner c.args.self.now.set c.lawful.ensures.set (port.Of n c.args.port) _ (c.far_port.ensures.wire (port.Of n c.args.port) spot))

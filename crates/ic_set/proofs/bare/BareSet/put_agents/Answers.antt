@@ -12,18 +12,21 @@ abbrev none : AgentId
 none = record { slot = 0; serial = 0 }
 
 pub put_agent-requires : goal.put_agent-requires
-put_agent-requires g c =
-    last_at c.args.self.now.set c.lawful.ensures.set c.deref-agent-items.result.now _ c.loop-agent.agent-index none c.loop-agent.maker.agents c.deref-agent-items.ensures.value
-    (subst (λ (w : NamedView). AreByName w.set.agents c.in_ok-in_order.field-0.items) c.self.view_is c.in_ok-in_order.ensures) c.loop-agent-test.true c.loop-agent.invariant.agents.from
+put_agent-requires g c = record {
+  names = c.loop-agent.invariant.names ∙ c.requires.names;
+  last = last_at c.args.self.now.set c.lawful.ensures.set c.deref-agent-items.result.now _ c.loop-agent.agent-index none c.loop-agent.maker.agents c.deref-agent-items.ensures.value
+      (subst (λ (w : NamedView). AreByName w.set.agents c.in_ok-in_order.field-0.items) c.self.view_is c.in_ok-in_order.ensures) c.loop-agent-test.true c.loop-agent.invariant.agents.from;
+}
 
 pub loop-agent-init : goal.loop-agent-init
-loop-agent-init g c = record { agents = rw c.requires (none_come c.args.self.now.set); frees = refl; profile = refl }
+loop-agent-init g c = record { agents = rw c.requires.none (none_come c.args.self.now.set); names = refl; frees = refl; profile = refl }
 
 pub loop-agent-preserved : goal.loop-agent-preserved
 loop-agent-preserved g c =
     let i = c.loop-agent.invariant in
     record {
       agents = rw (take_more c.deref-agent-items.result.now c.loop-agent.agent-index none c.loop-agent-test.true) (one_more c.args.self.now.set c.lawful.ensures.set _ _ _ _ (last_at c.args.self.now.set c.lawful.ensures.set c.deref-agent-items.result.now _ c.loop-agent.agent-index none c.loop-agent.maker.agents c.deref-agent-items.ensures.value (subst (λ (w : NamedView). AreByName w.set.agents c.in_ok-in_order.field-0.items) c.self.view_is c.in_ok-in_order.ensures) c.loop-agent-test.true i.agents.from) i.agents c.in_ok-put_agent.ensures.agents);
+      names = c.in_ok-put_agent.ensures.names ∙ i.names;
       frees = c.in_ok-put_agent.ensures.frees ∙ i.frees;
       profile = c.in_ok-put_agent.ensures.profile ∙ i.profile;
     }

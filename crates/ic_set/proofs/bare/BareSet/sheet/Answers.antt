@@ -13,8 +13,8 @@ finish-requires-clause-reached g c =
     (net_read c.args.self.now _ c.self.view_is _ c.self.invariant c.put_frees.new.maker c.rings-rings.result _ c.in_ok-put_frees.ensures.agents c.in_ok-put_agents.ensures.agents
     c.in_ok-put_frees.ensures.frees c.rings-rings.ensures (c.in_ok-put_frees.ensures.profile ∙ c.in_ok-put_agents.ensures.profile ∙ c.new-maker.ensures.profile ∙ c.profile.ensures))
 
-pub returns : goal.returns
-returns g c =
-    subst (λ (n : ListedNet). IsSameNet (shown n) (net_in c.args.self.now.set)) (sym c.finish.ensures)
+pub returns-clause-net : goal.returns-clause-net
+returns-clause-net g c =
+    subst (λ (n : ListedNet). IsSameNet (shown n) (net_in c.args.self.now.set)) (sym c.finish.ensures.sheet)
     (net_read c.args.self.now _ c.self.view_is _ c.self.invariant c.put_frees.new.maker c.rings-rings.result _ c.in_ok-put_frees.ensures.agents c.in_ok-put_agents.ensures.agents
     c.in_ok-put_frees.ensures.frees c.rings-rings.ensures (c.in_ok-put_frees.ensures.profile ∙ c.in_ok-put_agents.ensures.profile ∙ c.new-maker.ensures.profile ∙ c.profile.ensures))
