@@ -15,8 +15,9 @@ use Rattle.ic_name.specs.declared.ports.Port.{Port}
 use Rattle.ic_name.specs.declared.ports.Port.TheVariants as port
 use Rattle.ic_text.specs.Lines.{lent_texts, with_free_wire}
 use Rattle.ic_text.specs.NetText.{free_wire, free_wires, name_text}
-use Rattle.ic_net.specs.Views.{shown_free}
-use Rattle.ic_net.specs.declared.sheet.parts.FreeView.{FreeView}
+use Rattle.ic_name.specs.Names.{Name}
+use Rattle.ic_net.specs.Placed.{free_at}
+use Rattle.ic_net.specs.declared.sheet.placed.PlacedPort.{PlacedPort}
 
 -- the map of texts that are lent orders them as the definition does
 pub lent_insert : (es : List (Bor (List ℕ) × Bor (List ℕ))) (k v : Bor (List ℕ)) → map lent_texts (insert_entry (λ x y. slice_cmp nat_cmp x.now y.now) es k v) ≡ insert_entry (slice_cmp nat_cmp) (map lent_texts es) k.now v.now
@@ -53,7 +54,9 @@ pub free_wires_more : (names : List (List ℕ)) (fs : List (ℕ × Port)) (f : �
 free_wires_more names fs f = ap (fold _ []) (filter_map-append (free_wire names) fs (f ∷ [])) ∙ fold-append _ [] (filter_map (free_wire names) fs) (filter_map (free_wire names) (f ∷ []))
 
 -- a turn of the loop over loose names
-pub free_turn : (names : List (List ℕ)) (fs : List FreeView) (i : ℕ) (f : FreeView) (es es' : List (List ℕ × List ℕ)) → i < length fs → f ≡ get_or fs i f → es ≡ free_wires names (map shown_free (take i fs)) → es' ≡ with_free_wire names es (shown_free f) → es' ≡ free_wires names (map shown_free (take (i + 1) fs))
-free_turn names fs i f es es' within is so_far entered =
-    let more : map shown_free (take (i + 1) fs) ≡ map shown_free (take i fs) ++ shown_free f ∷ [] = map_more shown_free fs i f within ∙ ap (λ g. map shown_free (take i fs) ++ shown_free g ∷ []) (sym is) in
-    entered ∙ ap (λ x. with_free_wire names x (shown_free f)) so_far ∙ sym (ap (free_wires names) more ∙ free_wires_more names (map shown_free (take i fs)) (shown_free f))
+pub free_turn : (ns : List Name) (names : List (List ℕ)) (fs : List (ℕ × PlacedPort)) (i : ℕ) (d : ℕ × PlacedPort) (es es' : List (List ℕ × List ℕ)) → i < length fs
+    → es ≡ free_wires names (map (free_at ns) (take i fs)) → es' ≡ with_free_wire names es (free_at ns (get_or fs i d)) → es' ≡ free_wires names (map (free_at ns) (take (i + 1) fs))
+free_turn ns names fs i d es es' within so_far entered =
+    let shown = free_at ns in
+    let f = get_or fs i d in
+    entered ∙ ap (λ x. with_free_wire names x (shown f)) so_far ∙ sym (ap (free_wires names) (map_more shown fs i d within) ∙ free_wires_more names (map shown (take i fs)) (shown f))

@@ -89,3 +89,4 @@ pub mod CountedWires
 pub mod Tallies
 pub mod Trips
 pub use Rattle.ic_net.proofs.OneListing
+pub mod NameLines

@@ -18,8 +18,8 @@ use Rattle.ic_name.specs.declared.ports.Port.TheVariants.{Of}
 use Rattle.ic_name.specs.declared.ports.Port.TheVariants as port
 use Rattle.ic_name.proofs.SameFacts.{same_port_true, same_port_self}
 use Rattle.ic_theory.specs.Listed.{NetAgent, agent_among, partner_at}
-use Rattle.ic_net.specs.Views.{shown_agent}
-use Rattle.ic_net.specs.declared.sheet.parts.AgentView.{AgentView}
+use Rattle.ic_net.specs.Placed.{listed_at, placed_list, port_at}
+use Rattle.ic_net.specs.declared.sheet.placed.PlacedAgent.{PlacedAgent}
 use Rattle.ic_text.specs.NetText.{add, wire_of, partner_of, shown_ports, line_wires}
 use Rattle.ic_text.specs.Numbers.{bare, port_number, AreWired, IsNumbering, Enters, GivesNumber, number_at, port_wire, port_wires, wire_place}
 use Rattle.ic_text.specs.declared.print.numbers.WireNumbers.{WireNumbers}
@@ -187,13 +187,15 @@ enters_three as' a m n o p kind one two three =
       three_ports k (inl h) = rw h refl
       three_ports k (inr h) = rw h refl
 
--- each agent lent has as many partners as its kind has ports
-pub whole_view : (as' : List AgentView) (i : ℕ) (a : AgentView) → i < length as' → a ≡ get_or as' i a → All (λ (n : NetAgent). length n.partners ≡ arity n.kind + 1) (map shown_agent as') → length a.partners.now ≡ arity a.kind + 1
-whole_view as' i a within is all =
-    let inside : i < length (map shown_agent as') = rw (length-map as' shown_agent) within in
-    let here = All-get_or (λ (n : NetAgent). length n.partners ≡ arity n.kind + 1) (map shown_agent as') i (shown_agent a) inside all in
-    let e : get_or (map shown_agent as') i (shown_agent a) ≡ shown_agent a = get_or-map shown_agent as' i a (shown_agent a) within ∙ ap shown_agent (sym is) in
-    rw e at here
+-- each agent has as many partners as its kind has ports
+pub whole_placed : (ns : List Name) (as' : List PlacedAgent) (i : ℕ) (d : PlacedAgent) → i < length as' → All (λ (n : NetAgent). length n.partners ≡ arity n.kind + 1) (map (listed_at ns) as')
+    → length (placed_list (get_or as' i d).partners) ≡ arity (get_or as' i d).kind + 1
+whole_placed ns as' i d within all =
+    let a = get_or as' i d in
+    let inside : i < length (map (listed_at ns) as') = rw (length-map as' (listed_at ns)) within in
+    let here = All-get_or (λ (n : NetAgent). length n.partners ≡ arity n.kind + 1) (map (listed_at ns) as') i (listed_at ns a) inside all in
+    let whole = subst (λ (n : NetAgent). length n.partners ≡ arity n.kind + 1) (get_or-map (listed_at ns) as' i d (listed_at ns a) within) here in
+    sym (length-map (placed_list a.partners) (port_at ns)) ∙ whole
 
 -- where no agent has numbers, no port has one
 pub bare_rows : (rows : List PortNumbers) (n k i : ℕ) → rows ≡ replicate n bare → port_number (get_or rows k bare) i ≡ None

@@ -14,6 +14,7 @@ pub mod AgentsText
 pub mod Lines
 pub mod NetText
 pub mod Numbers
+pub mod Lists
 pub mod NumberedWires
 pub mod Printable
 pub mod Printed

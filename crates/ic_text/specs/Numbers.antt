@@ -1,5 +1,5 @@
 -- What the printer's numbers say.
-use Rattle.std.specs.Prelude.{◌≡◌, ◌≢◌, ℕ, ◌+◌, ◌<◌, List, [], ◌∷◌, length, map, All, Option, Some, None, if◌then◌else◌, ◌==◌, ◌&&◌, position, slice_get, slice_index_or}
+use Rattle.std.specs.Prelude.{◌≡◌, ◌≢◌, ℕ, zero, suc, ◌+◌, ◌<◌, List, [], ◌∷◌, length, map, All, Option, Some, None, if◌then◌else◌, ◌==◌, ◌&&◌, position, slice_get, slice_index_or}
 use Rattle.std.specs.List.{filter_map, fold}
 use Rattle.std.specs.List.Sorted.{IsStrictlySortedBy}
 use Rattle.ic_name.specs.Names.{Name, name_cmp}
@@ -8,9 +8,7 @@ use Rattle.ic_name.specs.Same.{same_port}
 use Rattle.ic_name.specs.declared.ports.Port.{Port}
 use Rattle.ic_name.specs.declared.ports.Port.TheVariants.{Of}
 use Rattle.ic_theory.specs.Listed.{NetAgent, agent_among, partner_at}
-use Rattle.ic_net.specs.Views.{shown_agent}
 use Rattle.ic_text.specs.NetText.{wire_of, partner_of, add}
-use Rattle.ic_text.specs.declared.print.placed.PlacedAgent.{PlacedAgent}
 use Rattle.ic_text.specs.declared.print.port_numbers.PortNumbers.{PortNumbers}
 use Rattle.ic_text.specs.declared.print.numbers.WireNumbers.{WireNumbers}
 
@@ -20,17 +18,18 @@ pub record AreWired (as' : List NetAgent) : Type 0 where
   pub whole : All (λ a. length a.partners ≡ arity a.kind + 1) as'
   pub both_ways : (m n : Name) (i j : ℕ) → partner_at i (agent_among m as') ≡ Some (Of n j) → (Of n j ≢ Of m i) × (partner_at j (agent_among n as') ≡ Some (Of m i))
 
--- the agent is at its place among these
-abbrev pub IsPlaced : List NetAgent → PlacedAgent → Type 0
-IsPlaced as' p = slice_get as' p.place ≡ Some (shown_agent p.view)
-
 -- no numbers
 abbrev pub bare : PortNumbers
-bare = record { ports = None ∷ None ∷ None ∷ [] }
+bare = record { ports = 0 ∷ 0 ∷ 0 ∷ [] }
+
+-- the number that one more than it is kept for; 0 is kept for none
+abbrev pub number_kept : ℕ → Option ℕ
+number_kept zero = None
+number_kept (suc n) = Some n
 
 -- the number at an agent's port, if it has one
 abbrev pub port_number : PortNumbers → ℕ → Option ℕ
-port_number numbers i = slice_index_or numbers.ports i None
+port_number numbers i = number_kept (slice_index_or numbers.ports i 0)
 
 -- the number at a port of the agent at a place, if it has one
 abbrev pub number_at : WireNumbers → ℕ → ℕ → Option ℕ

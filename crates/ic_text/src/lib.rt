@@ -17,5 +17,5 @@ mod seen;
 pub use counts::counted_wires;
 pub use fault::TextFault;
 pub use grammar::Refusal;
-pub use print::{print_agents, print_net, print_view};
+pub use print::{print_agents, print_net, print_sheet};
 pub use read::read_net;

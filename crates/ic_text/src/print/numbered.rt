@@ -1,59 +1,71 @@
-ghost use Rattle.std.specs.Prelude.{map};
+ghost use Rattle.ic_text.specs.Lists.{agents_of};
 ghost use Rattle.ic_text.specs.NetText.{numbered_wires};
 ghost use Rattle.ic_text.specs.Numbers.{IsNumbering};
-ghost use Rattle.ic_net.specs.Views.{shown_agent};
 
+use crate::print::agent_lines::AgentLine;
 use crate::print::numbers::{WireNumbers, number_wires};
-use crate::print::placed::PlacedAgent;
-use ic_net::AgentView;
+use ic_name::AgentName;
+use ic_net::{PlacedAgent, SheetLists};
 use std::alloc::{AllocError, Global};
 
 /// The agents of a net, and the numbers of the wires that their lines show by one.
 #[derive(Drop)]
 pub(crate) struct NumberedAgents<'a> {
-    agents: &'a [AgentView<'a>],
+    lists: SheetLists<'a>,
     numbers: WireNumbers,
-    ghost numbering: { IsNumbering (map shown_agent agents.now) numbers (numbered_wires (map shown_agent agents.now)) },
+    ghost numbering: { IsNumbering (agents_of lists) numbers (numbered_wires (agents_of lists)) },
 }
 
 impl<'a> NumberedAgents<'a> {
-    ghost use Rattle.std.specs.Prelude.{◌≡◌, ◌<◌, ◌≤◌, ◌*◌, ◌^◌, length, unwrap_or, IfOk};
-    ghost use Rattle.ic_text.specs.Numbers.{port_wire, wire_place, AreWired, IsPlaced};
+    ghost use Rattle.std.specs.Prelude.{◌≡◌, ◌<◌, ◌≤◌, ◌*◌, length, unwrap_or, IfOk};
+    ghost use Rattle.ic_names.specs.Tables.{name_at};
+    ghost use Rattle.ic_text.specs.Lists.{agent_on, partners_on, AreNetLists, IsOnLine};
+    ghost use Rattle.ic_text.specs.Numbers.{port_wire, wire_place};
     ghost use Rattle.ic_text.specs.NumberedWires.{wires_in};
 
     /// The agents with the numbers of their wires.
     pub(crate) fn new(
         alloc: Global,
-        agents: &'a [AgentView<'a>],
+        lists: SheetLists<'a>,
     ) -> Result<NumberedAgents<'a>, AllocError>
-        requires wired { AreWired (map shown_agent agents.now) }
-        requires few { 3 * length agents.now < 2 ^ 64 }
-        ensures { IfOk result (λ n. n.agents.now ≡ agents.now) }
+        requires { AreNetLists lists }
+        ensures { IfOk result (λ n. n.lists ≡ lists.entry) }
     {
-        let numbers = number_wires(alloc, agents)?;
-        Ok(NumberedAgents { agents, numbers })
+        let numbers = number_wires(alloc, &lists)?;
+        Ok(NumberedAgents { lists, numbers })
     }
 
     /// The agents.
-    pub(crate) fn agents(&self) -> &'a [AgentView<'a>]
-        ensures { result.now ≡ self.now.agents.now }
+    pub(crate) fn agents(&self) -> &'a [PlacedAgent]
+        ensures { result.now ≡ self.now.lists.agents.now }
     {
-        self.agents
+        self.lists.agents
+    }
+
+    /// The name of an agent. At an error memory ran out.
+    pub(crate) fn name(&self, agent: &PlacedAgent) -> Result<AgentName, AllocError>
+        requires { agent.now.name.place < length self.now.lists.names.now }
+        ensures { IfOk result (λ name. name ≡ name_at self.now.lists.names.now agent.now.name.place) }
+    {
+        match self.lists.names.name(agent.name)? {
+            Some(name) => Ok(name),
+            None => unreachable!(),
+        }
     }
 
     /// The number of the wire at an agent's port, or 0 for one that has none.
-    pub(crate) fn number(&self, agent: &PlacedAgent<'_>, port: u8) -> u64
-        requires placed { IsPlaced (map shown_agent self.now.agents.now) agent.now }
-        requires port { port < length agent.now.view.partners.now }
-        ensures { result ≡ unwrap_or (wire_place (wires_in self.now) (port_wire (shown_agent agent.now.view) port)) 0 }
+    pub(crate) fn number(&self, agent: &AgentLine<'_>, port: u8) -> u64
+        requires placed { IsOnLine self.now.lists agent.now }
+        requires port { port < length (partners_on agent.now) }
+        ensures { result ≡ unwrap_or (wire_place (wires_in self.now) (port_wire (agent_on self.now.lists agent.now) port)) 0 }
     {
-        self.numbers.get(agent.place, port).unwrap_or(0)
+        self.numbers.get(agent.line, port).unwrap_or(0)
     }
 
     /// How many wires have numbers: at most three for each agent.
     pub(crate) fn count(&self) -> u64
         ensures value { result ≡ length (wires_in self.now) }
-        ensures few { result ≤ 3 * length self.now.agents.now }
+        ensures few { result ≤ 3 * length self.now.lists.agents.now }
     {
         self.numbers.count()
     }

@@ -1,14 +1,14 @@
-ghost use Rattle.std.specs.Prelude.{◌≡◌, ◌+◌, ◌<◌, ◌≤◌, ◌*◌, ◌^◌, None, ℕ, map, length, IfOk, slice_get};
+ghost use Rattle.std.specs.Prelude.{◌≡◌, ◌+◌, ◌<◌, ◌≤◌, ◌^◌, None, ℕ, length, IfOk};
 ghost use Rattle.ic_name.specs.Kinds.{arity};
 ghost use Rattle.ic_text.specs.NetText.{line_wires, numbered_wires};
-ghost use Rattle.ic_text.specs.Numbers.{number_at, AreWired, Enters, GivesNumber, IsNumbering, IsPlaced, port_wires};
-ghost use Rattle.ic_net.specs.Views.{shown_agent};
+ghost use Rattle.ic_text.specs.Lists.{agents_of, agent_on, partners_on, AreNetLists, AreLines, IsOnLine};
+ghost use Rattle.ic_text.specs.Numbers.{number_at, Enters, GivesNumber, IsNumbering, port_wires};
 
-use crate::print::placed::{PlacedAgent, place_of};
+use crate::print::agent_lines::{AgentLine, LinesByName};
 use crate::print::port_numbers::PortNumbers;
 use crate::print::ports::partner;
-use ic_name::{Kind, Port};
-use ic_net::AgentView;
+use ic_name::Kind;
+use ic_net::{PlacedPort, SheetLists};
 use std::alloc::{AllocError, Global};
 
 /// Numbers of wires between agents, each kept at both ports that the wire joins.
@@ -48,6 +48,7 @@ impl WireNumbers {
     fn give(&mut self, place: usize, port: u8)
         requires place { place < length self.old.ports.items }
         requires port { port < 3 }
+        requires room { self.old.count + 1 < 2 ^ 64 }
         ensures given { GivesNumber place port self.old.count self.old self.new }
         ensures places { length self.new.ports.items ≡ length self.old.ports.items }
         ensures count { self.new.count ≡ self.old.count }
@@ -56,62 +57,65 @@ impl WireNumbers {
     }
 
     /// Gives the wire at an agent's port the next number, unless it has one or a free name is at its other end.
-    fn enter_port(&mut self, agents: &[AgentView<'_>], agent: &PlacedAgent<'_>, port: u8)
-        requires wired { AreWired (map shown_agent agents.now) }
-        requires places { length self.old.ports.items ≡ length agents.now }
-        requires placed { IsPlaced (map shown_agent agents.now) agent.now }
-        requires port { port < length agent.now.view.partners.now }
+    fn enter_port(
+        &mut self,
+        lists: &SheetLists<'_>,
+        lines: &LinesByName,
+        agent: &AgentLine<'_>,
+        port: u8,
+    )
+        requires net { AreNetLists lists.now }
+        requires lines { AreLines lists.now.agents.now lines.now }
+        requires places { length self.old.ports.items ≡ length lists.now.agents.now }
+        requires placed { IsOnLine lists.now agent.now }
+        requires port { port < length (partners_on agent.now) }
         requires room { self.old.count + 1 < 2 ^ 64 }
-        ensures entered { Enters (map shown_agent agents.now) self.old self.new (port_wires (shown_agent agent.now.view) port) }
-        ensures places { length self.new.ports.items ≡ length agents.now }
+        ensures entered { Enters (agents_of lists.now) self.old self.new (port_wires (agent_on lists.now agent.now) port) }
+        ensures places { length self.new.ports.items ≡ length lists.now.agents.now }
         ensures one { self.new.count ≤ self.old.count + 1 }
     {
-        let Port::Of(name, number) = partner(&agent.view, port) else {
+        let PlacedPort::Of(name, number) = partner(agent.agent, port) else {
             return;
         };
-        if self.get(agent.place, port).is_some() {
+        if self.get(agent.line, port).is_some() {
             return;
         }
-        self.give(agent.place, port);
-        self.give(place_of(agents, name), *number);
+        self.give(agent.line, port);
+        self.give(lines.line_of(lists, name), number);
         self.count += 1;
     }
 
     /// Gives the wires in an agent's line numbers, in the order in which the line shows them.
-    fn enter_line(&mut self, agents: &[AgentView<'_>], agent: &PlacedAgent<'_>)
-        requires wired { AreWired (map shown_agent agents.now) }
-        requires places { length self.old.ports.items ≡ length agents.now }
-        requires placed { IsPlaced (map shown_agent agents.now) agent.now }
-        requires whole { length agent.now.view.partners.now ≡ arity agent.now.view.kind + 1 }
+    fn enter_line(&mut self, lists: &SheetLists<'_>, lines: &LinesByName, agent: &AgentLine<'_>)
+        requires net { AreNetLists lists.now }
+        requires lines { AreLines lists.now.agents.now lines.now }
+        requires places { length self.old.ports.items ≡ length lists.now.agents.now }
+        requires placed { IsOnLine lists.now agent.now }
+        requires whole { length (partners_on agent.now) ≡ arity agent.now.agent.now.kind + 1 }
         requires room { self.old.count + 3 < 2 ^ 64 }
-        ensures entered { Enters (map shown_agent agents.now) self.old self.new (line_wires (shown_agent agent.now.view)) }
-        ensures places { length self.new.ports.items ≡ length agents.now }
+        ensures entered { Enters (agents_of lists.now) self.old self.new (line_wires (agent_on lists.now agent.now)) }
+        ensures places { length self.new.ports.items ≡ length lists.now.agents.now }
     {
-        match agent.view.kind {
-            Kind::Eps => self.enter_port(agents, agent, 0),
+        match agent.agent.kind {
+            Kind::Eps => self.enter_port(lists, lines, agent, 0),
             Kind::Gamma | Kind::Delta => {
-                self.enter_port(agents, agent, 1);
-                self.enter_port(agents, agent, 2);
-                self.enter_port(agents, agent, 0);
+                self.enter_port(lists, lines, agent, 1);
+                self.enter_port(lists, lines, agent, 2);
+                self.enter_port(lists, lines, agent, 0);
             }
         }
     }
 }
 
 /// The numbers of the wires that the agents' lines show by one, in order of first appearance.
-///
-/// The other end of each wire is looked for once, by its agent's name.
-pub(crate) fn number_wires(
-    alloc: Global,
-    agents: &[AgentView<'_>],
-) -> Result<WireNumbers, AllocError>
-    requires wired { AreWired (map shown_agent agents.now) }
-    requires few { 3 * length agents.now < 2 ^ 64 }
-    ensures { IfOk result (λ n. IsNumbering (map shown_agent agents.now) n (numbered_wires (map shown_agent agents.now))) }
+pub(crate) fn number_wires(alloc: Global, lists: &SheetLists<'_>) -> Result<WireNumbers, AllocError>
+    requires { AreNetLists lists.now }
+    ensures { IfOk result (λ n. IsNumbering (agents_of lists.now) n (numbered_wires (agents_of lists.now))) }
 {
-    let mut numbers = WireNumbers::none(alloc, agents.len())?;
-    for (place, view) in agents.iter().enumerate() {
-        numbers.enter_line(agents, &PlacedAgent { place, view: *view });
+    let lines = LinesByName::of(alloc, lists)?;
+    let mut numbers = WireNumbers::none(alloc, lists.agents.len())?;
+    for (line, agent) in lists.agents.iter().enumerate() {
+        numbers.enter_line(lists, &lines, &AgentLine { line, agent });
     }
     Ok(numbers)
 }

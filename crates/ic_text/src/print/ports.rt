@@ -1,14 +1,15 @@
-ghost use Rattle.std.specs.Prelude.{◌≡◌, ◌<◌, length};
+ghost use Rattle.std.specs.Prelude.{◌≡◌, ◌<◌, length, List, All};
+ghost use Rattle.ic_name.specs.Names.{Name};
+ghost use Rattle.ic_net.specs.Placed.{placed_list, listed_at, port_at, IsPortInside};
 ghost use Rattle.ic_text.specs.NetText.{partner_of};
-ghost use Rattle.ic_net.specs.Views.{shown_agent};
 
-use ic_name::Port;
-use ic_net::AgentView;
+use ic_net::{PlacedAgent, PlacedPort};
 
 /// The partner of an agent's port.
-pub(crate) fn partner<'a>(agent: &AgentView<'a>, port: u8) -> &'a Port
-    requires { port < length agent.now.partners.now }
-    ensures { result.now ≡ partner_of (shown_agent agent.now) port }
+pub(crate) fn partner(agent: &PlacedAgent, port: u8) -> PlacedPort
+    requires { port < length (placed_list agent.now.partners) }
+    ensures port { (ns : List Name) → port_at ns result ≡ partner_of (listed_at ns agent.now) port }
+    ensures inside { (ns : List Name) → All (IsPortInside ns) (placed_list agent.now.partners) → IsPortInside ns result }
 {
-    &agent.partners[usize::from(port)]
+    agent.partners.as_slice()[usize::from(port)]
 }

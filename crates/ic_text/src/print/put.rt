@@ -2,15 +2,15 @@ ghost use Rattle.std.specs.Prelude.{◌≡◌, ◌++◌, ◌+◌, ◌<◌, ◌^�
 ghost use Rattle.std.specs.List.{flat_map};
 ghost use Rattle.ic_name.specs.Kinds.{arity};
 ghost use Rattle.ic_text.specs.Lines.{ring_line};
-ghost use Rattle.ic_text.specs.NetText.{agent_line, arguments, header, letter, name_text, numbered, port_label, profile_line, ring_lines};
-ghost use Rattle.ic_text.specs.Numbers.{IsPlaced};
+ghost use Rattle.ic_text.specs.Lists.{agents_of, agent_on, partners_on, IsOnLine};
+ghost use Rattle.ic_text.specs.NetText.{agent_line, header, name_text, numbered, port_label, profile_line, ring_lines};
 ghost use Rattle.ic_text.specs.NumberedWires.{wires_in};
-ghost use Rattle.ic_net.specs.Views.{shown_agent};
 
+use crate::print::agent_lines::AgentLine;
 use crate::print::numbered::NumberedAgents;
-use crate::print::placed::PlacedAgent;
 use crate::print::ports::partner;
-use ic_name::{Kind, Port, Profile};
+use ic_name::{Kind, Profile};
+use ic_net::PlacedPort;
 use ic_start::Texts;
 use itoa::Buffer;
 use std::alloc::AllocError;
@@ -35,7 +35,7 @@ fn put_decimal(out: &mut Vec<u8>, n: u64) -> Result<(), AllocError>
 fn put_numbered(out: &mut Vec<u8>, number: u64) -> Result<(), AllocError>
     ensures { OnOk result (out.new.items ≡ out.old.items ++ numbered number) }
 {
-    out.extend_from_slice(b"_")?;
+    out.push(b'_')?;
     put_decimal(out, number)
 }
 
@@ -44,49 +44,16 @@ fn put_port(
     out: &mut Vec<u8>,
     sheet: &NumberedAgents<'_>,
     names: &Texts,
-    agent: &PlacedAgent<'_>,
+    agent: &AgentLine<'_>,
     port: u8,
 ) -> Result<(), AllocError>
-    requires placed { IsPlaced (map shown_agent sheet.now.agents.now) agent.now }
-    requires port { port < length agent.now.view.partners.now }
-    ensures { OnOk result (out.new.items ≡ out.old.items ++ port_label names.now (wires_in sheet.now) (shown_agent agent.now.view) port) }
+    requires placed { IsOnLine sheet.now.lists agent.now }
+    requires port { port < length (partners_on agent.now) }
+    ensures { OnOk result (out.new.items ≡ out.old.items ++ port_label names.now (wires_in sheet.now) (agent_on sheet.now.lists agent.now) port) }
 {
-    match partner(&agent.view, port) {
-        Port::Name(number) => out.extend_from_slice(text_of(names, *number)),
-        Port::Of(..) => put_numbered(out, sheet.number(agent, port)),
-    }
-}
-
-fn put_letter(out: &mut Vec<u8>, kind: Kind) -> Result<(), AllocError>
-    ensures { OnOk result (out.new.items ≡ out.old.items ++ letter kind) }
-{
-    match kind {
-        Kind::Gamma => out.extend_from_slice(b"G"),
-        Kind::Delta => out.extend_from_slice(b"D"),
-        Kind::Eps => out.extend_from_slice(b"E"),
-    }
-}
-
-/// Writes the parentheses of a gamma or delta, with its auxiliary ports.
-fn put_arguments(
-    out: &mut Vec<u8>,
-    sheet: &NumberedAgents<'_>,
-    names: &Texts,
-    agent: &PlacedAgent<'_>,
-) -> Result<(), AllocError>
-    requires placed { IsPlaced (map shown_agent sheet.now.agents.now) agent.now }
-    requires whole { length agent.now.view.partners.now ≡ arity agent.now.view.kind + 1 }
-    ensures { OnOk result (out.new.items ≡ out.old.items ++ arguments names.now (wires_in sheet.now) (shown_agent agent.now.view) agent.now.view.kind) }
-{
-    match agent.view.kind {
-        Kind::Eps => Ok(()),
-        Kind::Gamma | Kind::Delta => {
-            out.extend_from_slice(b"(")?;
-            put_port(out, sheet, names, agent, 1)?;
-            out.extend_from_slice(b",")?;
-            put_port(out, sheet, names, agent, 2)?;
-            out.extend_from_slice(b")")
-        }
+    match partner(agent.agent, port) {
+        PlacedPort::Name(number) => out.extend_from_slice(text_of(names, number)),
+        PlacedPort::Of(..) => put_numbered(out, sheet.number(agent, port)),
     }
 }
 
@@ -95,17 +62,42 @@ pub(crate) fn put_line(
     out: &mut Vec<u8>,
     sheet: &NumberedAgents<'_>,
     names: &Texts,
-    agent: &PlacedAgent<'_>,
+    agent: &AgentLine<'_>,
 ) -> Result<(), AllocError>
-    requires placed { IsPlaced (map shown_agent sheet.now.agents.now) agent.now }
-    requires whole { length agent.now.view.partners.now ≡ arity agent.now.view.kind + 1 }
-    ensures { OnOk result (out.new.items ≡ out.old.items ++ agent_line names.now (wires_in sheet.now) (shown_agent agent.now.view)) }
+    requires placed { IsOnLine sheet.now.lists agent.now }
+    requires whole { length (partners_on agent.now) ≡ arity agent.now.agent.now.kind + 1 }
+    ensures { OnOk result (out.new.items ≡ out.old.items ++ agent_line names.now (wires_in sheet.now) (agent_on sheet.now.lists agent.now)) }
 {
-    put_letter(out, agent.view.kind)?;
-    put_arguments(out, sheet, names, agent)?;
-    out.extend_from_slice(b" = ")?;
+    match agent.agent.kind {
+        Kind::Eps => out.extend_from_slice(b"E = ")?,
+        Kind::Gamma => {
+            out.extend_from_slice(b"G(")?;
+            put_arguments(out, sheet, names, agent)?;
+        }
+        Kind::Delta => {
+            out.extend_from_slice(b"D(")?;
+            put_arguments(out, sheet, names, agent)?;
+        }
+    }
     put_port(out, sheet, names, agent, 0)?;
     out.extend_from_slice(b";\n")
+}
+
+/// Writes the auxiliary ports of a gamma or delta, and what comes between them and its principal port.
+fn put_arguments(
+    out: &mut Vec<u8>,
+    sheet: &NumberedAgents<'_>,
+    names: &Texts,
+    agent: &AgentLine<'_>,
+) -> Result<(), AllocError>
+    requires placed { IsOnLine sheet.now.lists agent.now }
+    requires whole { length (partners_on agent.now) ≡ 3 }
+    ensures { OnOk result (out.new.items ≡ out.old.items ++ port_label names.now (wires_in sheet.now) (agent_on sheet.now.lists agent.now) 1 ++ codes "," ++ port_label names.now (wires_in sheet.now) (agent_on sheet.now.lists agent.now) 2 ++ codes ") = ") }
+{
+    put_port(out, sheet, names, agent, 1)?;
+    out.push(b',')?;
+    put_port(out, sheet, names, agent, 2)?;
+    out.extend_from_slice(b") = ")
 }
 
 /// Writes the lines of the agents.
@@ -114,11 +106,11 @@ pub(crate) fn put_agents(
     sheet: &NumberedAgents<'_>,
     names: &Texts,
 ) -> Result<(), AllocError>
-    requires { All (λ a. length a.partners ≡ arity a.kind + 1) (map shown_agent sheet.now.agents.now) }
-    ensures { OnOk result (out.new.items ≡ out.old.items ++ flat_map (agent_line names.now (wires_in sheet.now)) (map shown_agent sheet.now.agents.now)) }
+    requires { All (λ a. length a.partners ≡ arity a.kind + 1) (agents_of sheet.now.lists) }
+    ensures { OnOk result (out.new.items ≡ out.old.items ++ flat_map (agent_line names.now (wires_in sheet.now)) (agents_of sheet.now.lists)) }
 {
-    for (place, view) in sheet.agents().iter().enumerate() {
-        put_line(out, sheet, names, &PlacedAgent { place, view: *view })?;
+    for (line, agent) in sheet.agents().iter().enumerate() {
+        put_line(out, sheet, names, &AgentLine { line, agent })?;
     }
     Ok(())
 }

@@ -3,7 +3,8 @@ use Rattle.ic_text.specs.Lines.{lent_texts}
 use Rattle.ic_text.proofs.FreeWires.{free_turn}
 use Rattle.ic_text.proofs.print.free.free_wires_of.Goals as goal
 
-pub loop-free-preserved : goal.loop-free-preserved
-loop-free-preserved c =
-    free_turn c.args.names.now c.args.frees.now c.loop-free.free-index c.free-item.result (map lent_texts c.loop-free.wires.entries) (map lent_texts c.enter_free_wire.new.wires.entries)
-    c.loop-free-test.true c.free-item.is c.loop-free.invariant c.in_ok-enter_free_wire.ensures
+pub loop-number-preserved : goal.loop-number-preserved
+loop-number-preserved c =
+    λ ns.
+    free_turn ns c.args.names.now c.args.frees.now c.loop-number.number-index _ (map lent_texts c.loop-number.wires.entries) (map lent_texts c.enter_free_wire.new.wires.entries)
+    c.loop-number-test.true (c.loop-number.invariant ns) (c.in_ok-enter_free_wire.ensures ns)

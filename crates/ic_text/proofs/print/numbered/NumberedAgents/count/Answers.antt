@@ -1,12 +1,13 @@
-use Rattle.std.proofs.Common.{map, arith}
+use Rattle.std.proofs.Common.{arith}
 use Rattle.std.proofs.lemmas.List.{length-map}
-use Rattle.ic_net.specs.Views.{shown_agent}
+use Rattle.ic_net.specs.Placed.{listed_at}
+use Rattle.ic_text.specs.Lists.{agents_of}
 use Rattle.ic_text.proofs.WireCounts.{few_numbers}
 use Rattle.ic_text.proofs.print.numbered.NumberedAgents.count.Goals as goal
 
 pub returns-clause-few : goal.returns-clause-few
 returns-clause-few c =
-    let views = c.args.self.now.agents.now in
-    let few = few_numbers (map shown_agent views) in
-    let many = length-map views shown_agent in
+    let lists = c.args.self.now.lists in
+    let few = few_numbers (agents_of lists) in
+    let many = length-map lists.agents.now (listed_at lists.names.now) in
     omega (arith, c.args.self.now.numbering.count, c.count.ensures)
