@@ -208,7 +208,8 @@ impl Rows {
         if starts <= self.starts.len() {
             return Ok(());
         }
-        self.starts.resize(starts, OptionalSlot::none())
+        let room = starts.max(2 * self.starts.len());
+        self.starts.resize(room, OptionalSlot::none())
     }
 
     /// Adds the name of a start agent at the end, in the room there is. It takes no memory.

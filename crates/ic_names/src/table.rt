@@ -61,6 +61,13 @@ impl NameTable {
         self.rows.len()
     }
 
+    /// Makes room for so many names more. The table grows without it, too. At an error nothing changes.
+    pub fn reserve(&mut self, names: usize) -> Result<(), AllocError>
+        ensures { self.new ≡ self.old }
+    {
+        self.rows.reserve(names)
+    }
+
     /// The number of digits of the name at a place, in constant time. It takes no memory.
     pub fn depth(&self, id: NameId) -> usize
         requires { id.place < length self.now }

@@ -68,6 +68,13 @@ impl AgentRecords {
         let _ = &self.records;
     }
 
+    /// Makes room for the records of so many agents more. At an error nothing changes.
+    pub fn reserve(&mut self, count: usize) -> Result<(), AllocError>
+        ensures { self.new ≡ self.old }
+    {
+        self.records.reserve(count)
+    }
+
     /// The number of agents.
     pub fn len(&self) -> usize
         ensures { result ≡ length self.now }

@@ -18,6 +18,14 @@ pub struct AgentEntry {
 }
 
 impl Roster {
+    /// Makes room for so many agents more and their names, which grow without it, too. At an error nothing changes.
+    pub fn reserve_agents(&mut self, count: usize) -> Result<(), AllocError>
+        ensures { self.new ≡ self.old }
+    {
+        self.names.reserve(count)?;
+        self.agents.reserve(count)
+    }
+
     /// The number of agents.
     pub fn agent_count(&self) -> usize
         ensures { result ≡ length self.now.agents }

@@ -6,7 +6,7 @@ use std::alloc::{AllocError, Global};
 use std::marker::Model;
 
 /// A slot for each of some numbers, found in one look. It takes four bytes for each number up to the greatest that it
-/// was made to hold.
+/// was made to hold, and as much again at most: so numbers that come in order seldom make it grow.
 #[derive(Drop)]
 pub struct SlotIndex {
     slots: Vec<OptionalSlot>,
@@ -56,7 +56,8 @@ impl SlotIndex {
         if numbers <= self.slots.len() {
             return Ok(());
         }
-        self.slots.resize(numbers, OptionalSlot::none())
+        let room = numbers.max(2 * self.slots.len());
+        self.slots.resize(room, OptionalSlot::none())
     }
 
     /// Gives a slot to a number that there is room for, in constant time. It takes no memory.

@@ -72,6 +72,7 @@ impl<'a> Builder<'a> {
     }
 
     /// A term with this root comes, if one may come here.
+    #[inline(always)]
     #[tactic(auto, using(crate::proofs::Steps::top))]
     fn put(&mut self, root: End) -> Result<bool, AllocError>
         requires { length self.old.links < 2 ^ 32 }
@@ -99,10 +100,10 @@ impl<'a> Builder<'a> {
                         },
                         root,
                     )?;
-                    self.stack.push(Frame {
+                    self.stack.push_reserved(Frame {
                         agent,
                         phase: Phase::Comma,
-                    })?;
+                    });
                     Ok(true)
                 }
                 Phase::Second => {
@@ -113,10 +114,10 @@ impl<'a> Builder<'a> {
                         },
                         root,
                     )?;
-                    self.stack.push(Frame {
+                    self.stack.push_reserved(Frame {
                         agent,
                         phase: Phase::Closing,
-                    })?;
+                    });
                     Ok(true)
                 }
                 Phase::Opening | Phase::Comma | Phase::Closing => Ok(false),
@@ -126,38 +127,38 @@ impl<'a> Builder<'a> {
 
     /// A mark comes, if it may come here.
     #[tactic(auto, using(crate::proofs::Steps::top))]
-    fn mark(&mut self, piece: Lexeme<'_>) -> Result<bool, AllocError>
-        ensures { IfOk result (GoesOn (mark (token_of piece.entry) (state_of self.old)) (state_of self.new)) }
+    fn mark(&mut self, piece: Lexeme<'_>) -> bool
+        ensures { GoesOn (mark (token_of piece.entry) (state_of self.old)) (state_of self.new) result }
     {
         match self.stack.pop() {
             None => match (self.side, piece) {
                 (Side::Equals(left), Lexeme::Equals) => {
                     self.side = Side::Right(left);
-                    Ok(true)
+                    true
                 }
                 (Side::Heading | Side::Semicolon, Lexeme::Semicolon) => {
                     self.side = Side::Left;
-                    Ok(true)
+                    true
                 }
-                _ => Ok(false),
+                _ => false,
             },
             Some(Frame { agent, phase }) => match (phase, piece) {
                 (Phase::Opening, Lexeme::Opening) => {
-                    self.stack.push(Frame {
+                    self.stack.push_reserved(Frame {
                         agent,
                         phase: Phase::First,
-                    })?;
-                    Ok(true)
+                    });
+                    true
                 }
                 (Phase::Comma, Lexeme::Comma) => {
-                    self.stack.push(Frame {
+                    self.stack.push_reserved(Frame {
                         agent,
                         phase: Phase::Second,
-                    })?;
-                    Ok(true)
+                    });
+                    true
                 }
-                (Phase::Closing, Lexeme::Closing) => Ok(true),
-                _ => Ok(false),
+                (Phase::Closing, Lexeme::Closing) => true,
+                _ => false,
             },
         }
     }
@@ -251,7 +252,7 @@ impl<'a> Builder<'a> {
             | Lexeme::Semicolon
             | Lexeme::Stray
             | Lexeme::Digit => {
-                if self.mark(piece)? {
+                if self.mark(piece) {
                     Ok(())
                 } else {
                     Err(TextFault::Refused(Refusal::Syntax(at)))

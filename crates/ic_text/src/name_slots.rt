@@ -10,13 +10,13 @@ use ic_slots::SlotIndex;
 use std::alloc::{AllocError, Global};
 use std::collections::BTreeMap;
 
-/// Empty slots for the names of a text of so many bytes: more than one for each four of them.
+/// Empty slots for the names of a text of so many bytes: more than one for each two of them.
 pub fn slots_for(alloc: Global, bytes: usize) -> Result<SlotIndex, AllocError>
     ensures empty { IfOk result (λ s. (k : ℕ) → slot_of s k ≡ None) }
-    ensures many { IfOk result (λ s. min bytes MAX_TEXT / 4 < length s) }
+    ensures many { IfOk result (λ s. min bytes MAX_TEXT / 2 < length s) }
 {
     let mut slots = SlotIndex::new(alloc);
-    slots.reserve((bytes.min(MAX_TEXT) / 4) as u32)?;
+    slots.reserve((bytes.min(MAX_TEXT) / 2) as u32)?;
     Ok(slots)
 }
 
