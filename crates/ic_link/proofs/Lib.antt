@@ -8,3 +8,4 @@ pub mod RowRings
 pub mod Restored
 pub mod OnlyLink
 pub mod MoreMakers
+pub mod DroppedLinks

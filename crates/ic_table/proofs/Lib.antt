@@ -52,3 +52,8 @@ pub mod GivenUpTips
 pub mod TakenPaths
 pub mod TakenTips
 pub mod LooseTakes
+mod ClearedEvents
+mod JoinedStarts
+mod ClearedRows
+mod StrippedRecords
+mod SweptSlots

@@ -4,6 +4,7 @@
 mod changes;
 mod labels;
 mod link_records;
+mod rebuilding;
 mod records;
 mod splices;
 pub mod table;

@@ -160,6 +160,17 @@ impl EventRecords {
         Some(8 * event.slot + place)
     }
 
+    /// Takes away all links. The records stay for later links.
+    pub fn clear(&mut self)
+        ensures rows { (slot : ℕ) → event_row self.new slot ≡ None }
+        ensures few { length self.new ≤ most_events }
+    {
+        for number in 0..self.records.len() {
+            self.records[number].len = 0;
+        }
+        self.count = 0;
+    }
+
     /// Takes away the link in the slot, which is the last one of its event's record.
     pub fn remove(&mut self, slot: u32)
         requires has { IsSome (event_row self.old slot) }
