@@ -111,22 +111,24 @@ fn active_pair(alloc: Global, net: &Net) -> Option<(u16, u16)> {
 
 /// The start number and the kind of the second of a net's two agents, and the number of its partners.
 fn second_agent(alloc: Global, net: &Net) -> Option<(u16, Kind, usize)> {
-    let view = net.view(alloc).ok()?;
-    match view.agents() {
-        [_, second] => Some((
-            second.name.start_number(),
-            second.kind,
-            second.partners.len(),
-        )),
+    let names = net.names(alloc).ok()?;
+    let sheet = net.sheet(alloc, &names).ok()?;
+    match sheet.lists().agents {
+        [_, second] => {
+            let name = names.name(second.name).ok()??;
+            let partners = second.partners.as_slice();
+            Some((name.start_number(), second.kind, partners.len()))
+        }
         _ => None,
     }
 }
 
 /// The numbers of a net's two loose names.
 fn loose_names(alloc: Global, net: &Net) -> Option<(u32, u32)> {
-    let view = net.view(alloc).ok()?;
-    match view.frees() {
-        [first, second] => Some((first.number, second.number)),
+    let names = net.names(alloc).ok()?;
+    let sheet = net.sheet(alloc, &names).ok()?;
+    match sheet.lists().frees {
+        [(first, _), (second, _)] => Some((*first, *second)),
         _ => None,
     }
 }
