@@ -25,7 +25,6 @@ pub mod ByPlace
 pub mod SlimSets
 pub mod StartLinks
 pub mod EmptySets
-pub mod DroppedLinks
 pub mod ClearedAgents
 pub mod ClearedSets
 pub mod KeptRanks

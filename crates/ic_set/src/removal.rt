@@ -43,16 +43,14 @@ impl<L: LinkStore> BareSet<L> {
         gone.lead
     }
 
-    /// All events go, whose ids these are: with them their children go, and their links, those of the last one first. It
-    /// takes no memory, and no look at what rests on what.
+    /// All events go, whose ids these are: with them their children go, and their links. It takes no memory, and no look at
+    /// what rests on what.
     pub fn clear(&mut self, ids: &[EventId])
         requires all { AreAll self.old.set ids.now }
         ensures cleared { Clears self.old.set self.new.set }
         ensures names { self.new.names ≡ self.old.names }
     {
-        for place in (0..ids.len()).rev() {
-            self.store.take_of(ids[place]);
-        }
+        self.store.take_all(ids);
         self.roster.clear_events();
         self.roster.lawful();
     }
