@@ -47,10 +47,9 @@ impl<L: LinkStore> StandingSet<L> {
     pub fn over(alloc: Global, start: Start) -> Result<StandingSet<L>, AllocError>
         ensures { IfOk result (λ set. IsOver start set.set) }
     {
-        let bare = BareSet::over(alloc, start)?;
+        let (bare, ids) = BareSet::over_agents(alloc, start)?;
         bare.lawful();
-        let ids = bare.roster().in_order(alloc)?;
-        let mut queue = queue_of(alloc, &bare, &ids)?;
+        let mut queue = queue_of(alloc, &bare, ids.as_slice())?;
         let front = drop_stale(&mut queue, &bare);
         Ok(StandingSet {
             bare: Box::new(alloc, bare)?,
