@@ -90,3 +90,4 @@ pub mod Tallies
 pub mod Trips
 pub use Rattle.ic_net.proofs.OneListing
 pub mod NameLines
+pub mod Underlined

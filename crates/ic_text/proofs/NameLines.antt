@@ -6,7 +6,7 @@ use Rattle.std.proofs.lemmas.List.{length-map}
 use Rattle.std.proofs.lemmas.List.Elements.{All-get_or}
 use Rattle.std.proofs.lemmas.Option.{slice_get_within, slice_get-map, slice_get_cases, same_Some, slice_get-get_or, get_or_from_slice_get}
 use Rattle.ic_names.specs.Tables.{name_at, IsTable}
-use Rattle.ic_slots.specs.Slots.{slot_of, Gives, Keeps}
+use Rattle.ic_slots.specs.Slots.{slot_of, Gives}
 use Rattle.ic_theory.specs.Listed.{NetAgent, agent_among}
 use Rattle.ic_net.specs.Placed.{listed_at, port_at, IsAgentInside}
 use Rattle.ic_net.specs.declared.sheet.SheetLists.{SheetLists}
@@ -45,10 +45,10 @@ module _ (s : SheetLists) (net : AreNetLists s) where
   inside_there k a at_k = subst (IsAgentInside s.names.now) (get_or_from_slice_get s.agents.now k a a at_k) (All-get_or (IsAgentInside s.names.now) s.agents.now k a (slice_get_within s.agents.now k a at_k) net.inside)
 
   -- the line of one agent more is put under the place of its name
-  pub line_put : (old mid new : List (Option ℕ)) (i : ℕ) (d : PlacedAgent) → i < length s.agents.now → Keeps old mid → Gives (get_or s.agents.now i d).name.place (Some i) mid new
+  pub line_put : (old new : List (Option ℕ)) (i : ℕ) (d : PlacedAgent) → i < length s.agents.now → Gives (get_or s.agents.now i d).name.place (Some i) old new
       → ((k : ℕ) (a : PlacedAgent) → k < i → slice_get s.agents.now k ≡ Some a → slot_of old a.name.place ≡ Some k)
       → (k : ℕ) (a : PlacedAgent) → k < i + 1 → slice_get s.agents.now k ≡ Some a → slot_of new a.name.place ≡ Some k
-  line_put old mid new i d within keeps gives before k a low at_k = go (a.name.place == x.name.place) refl (gives a.name.place)
+  line_put old new i d within gives before k a low at_k = go (a.name.place == x.name.place) refl (gives a.name.place)
     where
       x : PlacedAgent
       x = get_or s.agents.now i d
@@ -56,7 +56,7 @@ module _ (s : SheetLists) (net : AreNetLists s) where
       at_i : slice_get s.agents.now i ≡ Some x
       at_i = slice_get-get_or s.agents.now i d within
 
-      go : (b : Bool) → (a.name.place == x.name.place) ≡ b → slot_of new a.name.place ≡ (if b then Some i else slot_of mid a.name.place) → slot_of new a.name.place ≡ Some k
+      go : (b : Bool) → (a.name.place == x.name.place) ≡ b → slot_of new a.name.place ≡ (if b then Some i else slot_of old a.name.place) → slot_of new a.name.place ≡ Some k
       go true e is =
           let same : name_at s.names.now a.name.place ≡ name_at s.names.now x.name.place = ap (name_at s.names.now) (eqb-true a.name.place x.name.place e) in
           let here : k ≡ i = one_place (agents_of s) k i (listed_at s.names.now a) (listed_at s.names.now x) net.wired.in_order (listed_there s k a at_k) (listed_there s i x at_i) same in
@@ -64,7 +64,7 @@ module _ (s : SheetLists) (net : AreNetLists s) where
       go false e is =
           let other : k ≡ i → ⊥ = λ h. apart h e in
           let less : k < i = grind (arith, other, low) in
-          is ∙ keeps a.name.place ∙ before k a less at_k
+          is ∙ before k a less at_k
         where
           apart : k ≡ i → (a.name.place == x.name.place) ≡ false → ⊥
           apart h f =

@@ -27,9 +27,13 @@ impl LinesByName {
         requires { AreNetLists lists.now }
         ensures { IfOk result (λ lines. AreLines lists.now.agents.now lines) }
     {
+        let mut greatest = 0;
+        for agent in lists.agents {
+            greatest = agent.name.place.max(greatest);
+        }
         let mut slots = SlotIndex::new(alloc);
+        slots.reserve(greatest)?;
         for (line, agent) in lists.agents.iter().enumerate() {
-            slots.reserve(agent.name.place)?;
             slots.put(agent.name.place, line as u32);
         }
         Ok(LinesByName { slots })

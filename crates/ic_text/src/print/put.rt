@@ -12,8 +12,11 @@ use crate::print::ports::partner;
 use ic_name::{Kind, Profile};
 use ic_net::PlacedPort;
 use ic_start::Texts;
-use itoa::Buffer;
+use itoa::{Buffer, write_digits};
 use std::alloc::AllocError;
+
+/// The length of the longest number behind an underscore.
+const NUMBERED: usize = "_18446744073709551615".len();
 
 /// The text of the name of this number.
 pub(crate) fn text_of(names: &Texts, number: u32) -> &[u8]
@@ -35,8 +38,9 @@ fn put_decimal(out: &mut Vec<u8>, n: u64) -> Result<(), AllocError>
 fn put_numbered(out: &mut Vec<u8>, number: u64) -> Result<(), AllocError>
     ensures { OnOk result (out.new.items ≡ out.old.items ++ numbered number) }
 {
-    out.push(b'_')?;
-    put_decimal(out, number)
+    let mut text = [b'_'; NUMBERED];
+    let start = write_digits(number, &mut text, NUMBERED);
+    out.extend_from_slice(&text[start - 1..])
 }
 
 /// Writes the wire at an agent's port: the free name at its other end, or else its number.
