@@ -4,3 +4,4 @@ mod growth;
 mod paths;
 mod shared_slots;
 mod side_by_side;
+mod taken_at_once;

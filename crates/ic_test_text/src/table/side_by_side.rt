@@ -1,10 +1,11 @@
-ghost use Rattle.std.specs.Prelude.{OnOk};
+ghost use Rattle.std.specs.Prelude.{◌≡◌, IfOk, OnOk};
+ghost use Rattle.ic_link.specs.Links.{makers_of};
 ghost use Rattle.ic_test_text.specs.Stores.{AreSame};
 
 use crate::link::{has_places, path_places};
 use crate::table::paths::{Row, event, link};
 use ic_link::{LinkRows, LinkStore, has_room};
-use ic_name::{EventId, Link, LinkId, Spot};
+use ic_name::{EventId, Link, LinkId, MakerId, Spot};
 use ic_table::PortTable;
 use std::alloc::{AllocError, Global};
 use std::test::Fail;
@@ -51,6 +52,30 @@ impl Both {
         self.table.take_of(event);
         self.rows.take_of(event);
     }
+
+    /// Takes the links of all events out of both stores.
+    pub(crate) fn take_all(&mut self, alloc: Global) -> Result<(), AllocError>
+        requires { AreSame self.old.table.links self.old.rows self.old.ids.items }
+        ensures { OnOk result (AreSame self.new.table.links self.new.rows self.new.ids.items) }
+    {
+        let events = makers(alloc, self.ids.as_slice())?;
+        self.table.take_all(events.as_slice());
+        self.rows.take_all(events.as_slice());
+        Ok(())
+    }
+}
+
+/// The events that made links of these ids.
+fn makers(alloc: Global, ids: &[LinkId]) -> Result<Vec<EventId>, AllocError>
+    ensures { IfOk result (λ events. events.items ≡ makers_of ids.now) }
+{
+    let mut events = Vec::new(alloc);
+    for id in ids {
+        if let MakerId::Event(event) = id.maker {
+            events.push(event)?;
+        }
+    }
+    Ok(events)
 }
 
 /// Whether both stores have the same path at a name.
@@ -71,7 +96,7 @@ fn agree_at(alloc: Global, table: &PortTable, rows: &LinkRows, name: u32) -> boo
 }
 
 /// Whether both stores give the same answers.
-fn agree(alloc: Global, table: &PortTable, rows: &LinkRows) -> bool {
+pub(crate) fn agree(alloc: Global, table: &PortTable, rows: &LinkRows) -> bool {
     for name in 0..8 {
         if !agree_at(alloc, table, rows, name) {
             return false;
