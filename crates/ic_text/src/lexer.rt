@@ -33,11 +33,11 @@ pub struct Lexer<'a> {
     in_comment: bool,
 }
 
-/// Whether this is a byte between tokens.
+/// Whether this is a byte between tokens. Most bytes are none, and one test tells that of them.
 fn is_gap(byte: u8) -> bool
     ensures { result ≡ is_gap byte }
 {
-    matches!(byte, b' ' | b'\t' | b'\r' | b'\n')
+    byte <= b' ' && matches!(byte, b' ' | b'\t' | b'\r' | b'\n')
 }
 
 /// Whether this is a byte that may stand in a comment.

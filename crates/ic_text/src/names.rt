@@ -34,12 +34,12 @@ impl<'a> Model for Names<'a> {
 }
 
 impl<'a> Names<'a> {
-    /// No name has occurred, of a text of so many bytes.
+    /// No name has occurred, of a text of so many bytes. There is room for a name for each 16 of them.
     pub fn new(alloc: Global, bytes: usize) -> Result<Names<'a>, AllocError>
         ensures { IfOk result (λ n. n ≡ []) }
     {
         Ok(Names {
-            seen: Vec::new(alloc),
+            seen: Vec::with_capacity(alloc, bytes / 16)?,
             slots: slots_for(alloc, bytes)?,
             others: BTreeMap::new(alloc),
         })

@@ -10,9 +10,9 @@ pub queue_of-requires : goal.queue_of-requires
 queue_of-requires g c =
     let opened = c.in_ok-bare.ensures.ids in
     λ p active.
-        let there = alike-in (alike_back opened.alike) active.1.lead in
-        let entered = rw append-nil at there in
-        rw c.as_slice.ensures (subst (IsIn p.lead) opened.under (in-map (λ (m : Member). m.id) entered))
+    let there = alike-in (alike_back opened.alike) active.1.lead in
+    let entered = rw append-nil at there in
+    rw c.as_slice.ensures (subst (IsIn p.lead) opened.under (in-map (λ (m : Member). m.id) entered))
 
 pub invariant_of-result : goal.invariant_of-result
 invariant_of-result g c =
