@@ -6,11 +6,16 @@ use Rattle.std.specs.Cmp.Lexicographic.{slice_cmp}
 use Rattle.std.specs.List.{fold, cons_option}
 use Rattle.std.specs.Ordering.{nat_cmp}
 use Rattle.ic_name.specs.declared.ports.Port.{Port}
-use Rattle.ic_text.specs.NetText.{free_wire, numbered}
+use Rattle.ic_theory.specs.Listed.{NetAgent}
+use Rattle.ic_text.specs.NetText.{free_wire, numbered, port_label}
 
 -- the line of the ring of this number
 abbrev pub ring_line : ℕ → List ℕ
 ring_line k = numbered k ++ codes " = " ++ numbered k ++ codes ";\n"
+
+-- the auxiliary ports in the line of a gamma or delta, up to its principal port
+abbrev pub auxiliaries : List (List ℕ) → List Port → NetAgent → List ℕ
+auxiliaries names ws a = port_label names ws a 1 ++ codes "," ++ port_label names ws a 2 ++ codes ") = "
 
 -- two texts that are lent
 abbrev pub lent_texts : Bor (List ℕ) × Bor (List ℕ) → List ℕ × List ℕ

@@ -1,7 +1,7 @@
-ghost use Rattle.std.specs.Prelude.{◌≡◌, ◌++◌, ◌+◌, ◌<◌, ◌^◌, map, length, codes, decimal, OnOk, All};
+ghost use Rattle.std.specs.Prelude.{◌≡◌, ◌++◌, ◌+◌, ◌<◌, ◌^◌, map, length, decimal, OnOk, All};
 ghost use Rattle.std.specs.List.{flat_map};
 ghost use Rattle.ic_name.specs.Kinds.{arity};
-ghost use Rattle.ic_text.specs.Lines.{ring_line};
+ghost use Rattle.ic_text.specs.Lines.{auxiliaries, ring_line};
 ghost use Rattle.ic_text.specs.Lists.{agents_of, agent_on, partners_on, IsOnLine};
 ghost use Rattle.ic_text.specs.NetText.{agent_line, header, name_text, numbered, port_label, profile_line, ring_lines};
 ghost use Rattle.ic_text.specs.NumberedWires.{wires_in};
@@ -15,7 +15,7 @@ use ic_start::Texts;
 use itoa::{Buffer, write_digits};
 use std::alloc::AllocError;
 
-/// The length of the longest number behind an underscore.
+/// The length of the longest number with its underscore.
 const NUMBERED: usize = "_18446744073709551615".len();
 
 /// The text of the name of this number.
@@ -87,7 +87,7 @@ pub(crate) fn put_line(
     out.extend_from_slice(b";\n")
 }
 
-/// Writes the auxiliary ports of a gamma or delta, and what comes between them and its principal port.
+/// Writes the auxiliary ports in the line of a gamma or delta, up to its principal port.
 fn put_arguments(
     out: &mut Vec<u8>,
     sheet: &NumberedAgents<'_>,
@@ -96,7 +96,7 @@ fn put_arguments(
 ) -> Result<(), AllocError>
     requires placed { IsOnLine sheet.now.lists agent.now }
     requires whole { length (partners_on agent.now) ≡ 3 }
-    ensures { OnOk result (out.new.items ≡ out.old.items ++ port_label names.now (wires_in sheet.now) (agent_on sheet.now.lists agent.now) 1 ++ codes "," ++ port_label names.now (wires_in sheet.now) (agent_on sheet.now.lists agent.now) 2 ++ codes ") = ") }
+    ensures { OnOk result (out.new.items ≡ out.old.items ++ auxiliaries names.now (wires_in sheet.now) (agent_on sheet.now.lists agent.now)) }
 {
     put_port(out, sheet, names, agent, 1)?;
     out.push(b',')?;
