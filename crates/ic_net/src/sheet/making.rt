@@ -31,14 +31,12 @@ impl<'a> Model for NetMaker<'a> {
 
     ghost Value = { NetParts };
 
-    ghost use Rattle.std.specs.List.Sorted.{IsStrictlySortedBy};
-    ghost use Rattle.std.specs.Ordering.{nat_cmp};
-    ghost use Rattle.ic_name.specs.Names.{name_cmp};
-    ghost use Rattle.ic_net.specs.Placed.{listed_at, free_at, AreInside};
+    ghost use Rattle.ic_net.specs.Makings.{AreInOrder};
+    ghost use Rattle.ic_net.specs.Placed.{listed_at, free_at};
 
     ghost view = { λ m. record { names = m.names.now; agents = map (listed_at m.names.now) m.agents.items; frees = map (free_at m.names.now) m.frees.items; profile = m.profile } };
 
-    ghost invariant = { λ m. IsStrictlySortedBy name_cmp (map (λ a. a.name) (map (listed_at m.names.now) m.agents.items)) × IsStrictlySortedBy nat_cmp (map (λ f. f.0) (map (free_at m.names.now) m.frees.items)) × AreInside m.names.now m.agents.items m.frees.items };
+    ghost invariant = { λ m. AreInOrder m.names.now m.agents.items m.frees.items };
 }
 
 impl<'a> NetMaker<'a> {
