@@ -1,5 +1,5 @@
 -- An agent that comes to a net by the place of its name.
-use Rattle.std.proofs.Common.{◌≡◌, inr, refl, sym, ap, subst, List, [], ◌∷◌, ◌++◌, map}
+use Rattle.std.proofs.Common.{◌≡◌, inr, sym, subst, List, [], ◌∷◌, ◌++◌, map}
 use Rattle.ic_name.specs.Names.{Name}
 use Rattle.ic_name.specs.declared.ids.AgentId.{AgentId}
 use Rattle.ic_names.specs.Tables.{name_at}
