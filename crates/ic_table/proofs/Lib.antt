@@ -45,6 +45,7 @@ pub mod FourSlots
 pub mod Differing
 pub mod Decided
 pub mod TouchedSpots
+pub mod JoinedSlots
 pub mod IdleSpots
 pub mod WholePaths
 pub mod GivenUpPaths

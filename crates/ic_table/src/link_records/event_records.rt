@@ -13,6 +13,32 @@ use std::marker::Model;
 /// The number of event slots that have a record here.
 const MOST_EVENTS: u32 = 1 << 28;
 
+/// How many event slots get records when this one needs one: all up to it, and so many more that growth is seldom.
+fn slots_up_to(slot: u32) -> usize
+    requires { slot < most_events }
+    ensures more { slot < result }
+    ensures few { result ≤ most_events }
+{
+    (slot as usize / 64 + 1) * 64
+}
+
+/// Makes records up to that of the event slot, which has none. If it is far beyond the others, the answer is `false`.
+#[cold]
+#[inline(never)]
+fn lengthen(records: &mut Vec<EventLinks>, slot: u32) -> Result<bool, AllocError>
+    requires few { length records.old.items ≤ most_events }
+    requires beyond { length records.old.items ≤ slot }
+    ensures few { length records.new.items ≤ most_events }
+    ensures same { (n : ℕ) → links_at records.new.items n ≡ links_at records.old.items n }
+    ensures near { IfOk result (λ near. IsTrue near → slot < length records.new.items) }
+{
+    if slot >= MOST_EVENTS || !is_near(slot, records.len()) {
+        return Ok(false);
+    }
+    records.resize(slots_up_to(slot), EventLinks::vacant())?;
+    Ok(true)
+}
+
 /// Puts a link into the record of its event. `false` if it finds no place there.
 fn enter(
     records: &mut Vec<EventLinks>,
@@ -31,12 +57,8 @@ fn enter(
     ensures put { IfOk result (λ room. IsTrue room → PutsAt place event.line spots (links_at records.old.items event.slot) (links_at records.new.items event.slot)) }
 {
     let number = event.slot as usize;
-    let numbers = records.len();
-    if number >= numbers {
-        if event.slot >= MOST_EVENTS || !is_near(event.slot, numbers) {
-            return Ok(false);
-        }
-        records.resize(number + 1, EventLinks::vacant())?;
+    if number >= records.len() && !lengthen(records, event.slot)? {
+        return Ok(false);
     }
     Ok(records[number].put(event.line, place, spots))
 }
