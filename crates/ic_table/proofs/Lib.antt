@@ -45,8 +45,8 @@ pub mod FourSlots
 pub mod Differing
 pub mod Decided
 pub mod TouchedSpots
-pub mod JoinedSlots
 pub mod IdleSpots
+pub mod JoinedSlots
 pub mod WholePaths
 pub mod GivenUpPaths
 pub mod GivenUpTips
