@@ -3,4 +3,4 @@ pub mod Records
 pub mod OwnSlots
 pub mod FoundSlots
 pub mod Lawful
-pub mod Stripped
+pub mod Turned

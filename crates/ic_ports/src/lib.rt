@@ -11,4 +11,3 @@ mod strays;
 pub use end_slots::EndSlots;
 pub use port_record::RingLabel;
 pub use port_store::PortStore;
-pub use strays::FIRST_STRAY;

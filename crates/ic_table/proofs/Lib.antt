@@ -57,4 +57,4 @@ mod ClearedEvents
 mod JoinedStarts
 mod ClearedRows
 mod StrippedRecords
-mod SweptSlots
+mod SweptRecords
