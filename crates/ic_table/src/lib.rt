@@ -2,6 +2,7 @@
 #![tactic(auto)]
 
 mod changes;
+mod counting;
 mod labels;
 mod link_records;
 mod rebuilding;
