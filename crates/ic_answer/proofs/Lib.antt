@@ -6,6 +6,7 @@ pub mod StandingCauses
 pub mod FoundCauses
 pub mod TurnSteps
 pub mod FiringReplies
+pub mod InactiveEvents
 pub mod UndoingReplies
 pub mod ToldReplies
 pub mod UndoneInTurn

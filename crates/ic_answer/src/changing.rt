@@ -1,5 +1,5 @@
-ghost use Rattle.std.specs.Prelude.{◌≡◌, ◌⊎◌, codes};
-ghost use Rattle.ic_name.specs.Events.{pair};
+ghost use Rattle.std.specs.Prelude.{◌≡◌, ◌≢◌, ◌⊎◌, codes};
+ghost use Rattle.ic_name.specs.Events.{Event as AnEvent, pair};
 ghost use Rattle.ic_path.specs.Orders.{IsIn};
 ghost use Rattle.ic_roster.specs.Rosters.{Stander};
 ghost use Rattle.ic_answer.specs.declared.refused.Refused.TheVariants.{Memory};
@@ -7,6 +7,9 @@ ghost use Rattle.ic_command.specs.declared.command.Command.TheVariants.{Fire, Un
 ghost use Rattle.ic_answer.specs.Texts.{answer_text, pair_line, refusal_text};
 ghost use Rattle.ic_answer.specs.Longer.{IsLonger};
 ghost use Rattle.ic_answer.specs.Turns.{TurnsByCommand};
+ghost use Rattle.ic_journal.specs.Views.{set_of};
+ghost use Rattle.ic_set.specs.Views.{standing};
+ghost use Rattle.ic_theory.specs.Active.{IsActive};
 
 use crate::answer::Answer;
 use crate::named::{event_line, name_line};
@@ -23,7 +26,7 @@ pub(crate) fn fire<L: LinkStore>(alloc: Global, bench: &mut Bench<L>, event: &Ev
 {
     bench.lawful();
     let Some(pair) = bench.pair_named(event) else {
-        return propose(alloc, bench, event);
+        return refuse_inactive(bench, event);
     };
     let Ok(text) = name_line(alloc, b"fired ", event) else {
         return Answer::Refused(Refused::Memory);
@@ -36,8 +39,9 @@ pub(crate) fn fire<L: LinkStore>(alloc: Global, bench: &mut Bench<L>, event: &Ev
     }
 }
 
-/// Fires an event by a proposal. Its answer is made before it is fired.
-fn propose<L: LinkStore>(alloc: Global, bench: &mut Bench<L>, event: &EventName) -> Answer
+/// Refuses to fire an event that isn't active. If both agents are there, the history gets a line by a proposal.
+fn refuse_inactive<L: LinkStore>(bench: &mut Bench<L>, event: &EventName) -> Answer
+    requires { (e : AnEvent) → IsActive bench.old.start (standing (set_of bench.old)) e → pair e ≢ event.now }
     ensures turns { TurnsByCommand bench.old (Fire event.now) (answer_text result) bench.new }
     ensures lines { IsLonger bench.old bench.new }
 {
@@ -52,16 +56,13 @@ fn propose<L: LinkStore>(alloc: Global, bench: &mut Bench<L>, event: &EventName)
     let Ok(proposal) = bench.propose(lead, other) else {
         return Answer::Refused(Refused::Memory);
     };
-    let Ok(text) = name_line(alloc, b"fired ", event) else {
-        return Answer::Refused(Refused::Memory);
-    };
     let fired = bench.fire(proposal);
     bench.lawful();
     match fired {
-        Ok(_) => Answer::Text(text),
+        Ok(_) => unreachable!(),
         Err(FireFault::NotActive) => Answer::Refused(Refused::NotActive),
-        Err(FireFault::Deep) => Answer::Refused(Refused::Deep),
-        Err(FireFault::Full) => Answer::Refused(Refused::Full),
+        Err(FireFault::Deep) => unreachable!(),
+        Err(FireFault::Full) => unreachable!(),
         Err(FireFault::HistoryFull(_)) => Answer::Refused(Refused::HistoryFull),
         Err(FireFault::Memory(_)) => Answer::Refused(Refused::Memory),
     }
