@@ -3,4 +3,5 @@ pub mod Records
 pub mod OwnSlots
 pub mod FoundSlots
 pub mod Lawful
+pub mod NoStrays
 pub mod Turned
