@@ -8,7 +8,7 @@ allocation refused, then with the second one, and so on until a run meets none t
 and sessions whose names contain one of them are run. It needs a C compiler, for the few lines that refuse. All of it takes
 about five minutes.
 
-Tests: each passes whichever allocation is refused. It looks at what is left where a call is answered by want of memory,
+Tests: each passes whichever allocation is refused. It looks at what is left where a call is answered as out of memory,
 and makes the call again.
 
 Sessions: where no answer can be given, the program ends with status 3, and what it wrote is a front of what it writes

@@ -1,7 +1,7 @@
 #!/usr/bin/env python3
 """Types two lessons at the built program, as at a terminal: python3 bench/terminal.py [PROGRAM].
 
-The program runs with -i on a pseudo-terminal; the second lesson begins with two files. Behind each prompt of a lesson stands what is
+The program runs with -i on a pseudo-terminal; the second lesson begins with two files. After each prompt of a lesson stands what is
 typed there, once the program has asked for it. What the terminal then shows has to be the lesson; if it isn't, it is printed, and the
 status is 1.
 """

@@ -88,6 +88,6 @@ pub record Choose (words : List Text) (options : Options) : Type 0 where
   pub echoes : IsFlag (one_of (codes "echo") (matches_of icbench words)) options.echoes
   pub interactive : IsFlag (one_of (codes "interactive") (matches_of icbench words)) options.interactive
 
--- memory was wanting, or it is a fault of these words
+-- memory ran out, or it is a fault of these words
 abbrev pub IsFaultOf : List Text → ErrorKind → Type 0
 IsFaultOf words kind = (kind ≡ OutOfMemory) ⊎ IsAmong kind (fault_of icbench words)

@@ -19,7 +19,7 @@ pub record Held : Type 0 where
   pub before : Option (List ℕ)
   pub after : Option (List ℕ)
 
--- the mode of a session that is run with these options: one at a terminal explains itself, too, and goes on behind a net
+-- the mode of a session that is run with these options: one at a terminal explains itself, too, and goes on after a net
 -- that was refused
 abbrev pub mode_of : Options → Mode
 mode_of options = record { workers = options.workers; budget = options.budget; explains = options.explains || options.interactive; stops = options.stops; echoes = options.echoes; retries = options.interactive }

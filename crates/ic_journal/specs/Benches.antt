@@ -1,4 +1,4 @@
--- What holds of every bench.
+-- The invariant of every bench.
 use Rattle.std.specs.Prelude.{◌≡◌, ◌+◌, ◌≤◌, [], length, map}
 use Rattle.ic_name.specs.declared.limits.TheConstants.{MAX_LINES}
 use Rattle.ic_name.specs.declared.ids.AgentId.{AgentId}
@@ -40,7 +40,7 @@ pub record IsKept (s : NamedView) (h : HistoryView) : Type 0 where
   pub running : IsRunning (view_of s h)
   pub named : AreLinesNamed s.names h.lines
 
--- what holds of every bench
+-- the invariant of every bench
 pub record IsBench (v : BenchView) : Type 0 where
   pub running : IsRunning v
   pub set : IsStandingSet (set_of v)

@@ -75,8 +75,9 @@ impl<L: LinkStore> Bench<L> {
         self.history.room()
     }
 
-    /// Reserves room for so many lines. It answers `HistoryFull` exactly if the history would be too long with them. It
-    /// answers `Memory` only if `room()` is less than that and no memory is left. At an error nothing changes.
+    /// Reserves room for this many lines. It answers `HistoryFull` exactly if the history would have more than `MAX_LINES`
+    /// lines with them. It answers `Memory` only if `room()` is less than that and no memory is left. At an error nothing
+    /// changes.
     pub fn reserve(&mut self, lines: usize) -> Result<(), ReserveFault>
         ensures { Reserves self.old lines result self.new }
     {
@@ -177,7 +178,7 @@ impl<L: LinkStore> Bench<L> {
         }
     }
 
-    /// Undoes all events, the last of these ids first. In the list, an event comes before those that depend on it. Each
+    /// Undoes all events. `ids` lists them, each before those that depend on it, and the last one is undone first. Each
     /// undoing is one step of the machine and adds a line. Afterwards nothing stands, and the net is the start's. It takes
     /// no memory. For many events it takes less time than an `undo` for each, but it looks at every slot that ever had an
     /// event.

@@ -61,7 +61,7 @@ impl NameTable {
         self.rows.len()
     }
 
-    /// Makes room for so many names more. The table grows without it, too. At an error nothing changes.
+    /// Makes room for this many more names. The table grows without it, too. At an error nothing changes.
     pub fn reserve(&mut self, names: usize) -> Result<(), AllocError>
         ensures { self.new ≡ self.old }
     {
@@ -88,7 +88,7 @@ impl NameTable {
         self.rows.key(id.place)
     }
 
-    /// Where the child with this digit stands, in constant time; `None` where it isn't there. It takes no memory.
+    /// The place of the child with this digit, in constant time; `None` if it isn't in the table. It takes no memory.
     pub fn child(&self, parent: NameId, digit: u8) -> Option<NameId>
         requires inside { parent.place < length self.now }
         requires small { digit < 4 }
@@ -99,10 +99,10 @@ impl NameTable {
         Some(NameId { place })
     }
 
-    /// The place of the name, which is entered with its ancestors where they weren't there, in time that grows as its depth
-    /// but for the growth of the table. It is an error where memory runs out, or where the table has fewer than `depth + 1`
-    /// places left of the 2^32 - 1 that there are. All memory is taken before anything changes, so at an error nothing
-    /// changes.
+    /// The place of the name. If it isn't in the table, it is entered, and its ancestors too. This takes time in proportion to
+    /// its depth, but for the growth of the table. It is an error if memory runs out, or if the table has fewer than
+    /// `depth + 1` places left of the 2^32 - 1 that there are. All memory is taken before anything changes, so at an error
+    /// nothing changes.
     pub fn enter(&mut self, name: &AgentName) -> Result<NameId, AllocError>
         ensures entered { IfOk result (λ id. StandsAt self.new name.now id.place) }
         ensures grown { IfOk result (λ id. GrowsUpTo self.old name.now self.new) }
@@ -114,9 +114,9 @@ impl NameTable {
         Ok(NameId { place })
     }
 
-    /// The place of the child with this digit, which is entered where it wasn't there, in constant time but for the
-    /// growth of the table. It is `Deep` where the parent has `MAX_DEPTH` digits, and only there, and `Memory` where
-    /// memory runs out or there would be 2^32 names. At an error nothing changes.
+    /// The place of the child with this digit. If it isn't in the table, it is entered. This takes constant time, but for the
+    /// growth of the table. It is `Deep` exactly if the parent has `MAX_DEPTH` digits. It is `Memory` if memory runs out or
+    /// there would be 2^32 names. At an error nothing changes.
     pub fn enter_child(&mut self, parent: NameId, digit: u8) -> Result<NameId, ChildFault>
         requires inside { parent.place < length self.old }
         requires small { digit < 4 }
@@ -137,7 +137,7 @@ impl NameTable {
         Ok(NameId { place })
     }
 
-    /// Where the name stands, in time that grows as its depth; `None` where it isn't there. It takes no memory.
+    /// The place of the name, in time in proportion to its depth; `None` if it isn't in the table. It takes no memory.
     pub fn find(&self, name: &AgentName) -> Option<NameId>
         ensures found { IfSome result (λ id. StandsAt self.now name.now id.place) }
         ensures absent { IfNone result (IsAbsent self.now name.now) }
@@ -152,16 +152,15 @@ impl NameTable {
         Some(NameId { place })
     }
 
-    /// Whether the place is of the table and its name is this one, in constant time where their depths differ, and else in time
-    /// that grows as the depth: each digit of the given name is read, and for 32 of them there is one look into the table. It
-    /// takes no memory.
+    /// Whether the place is one of the table and its name is this one. It takes constant time if their depths differ. Else it
+    /// reads each digit of the given name, and looks into the table once for 32 of them. It takes no memory.
     pub fn is(&self, id: NameId, name: &AgentName) -> bool
         ensures { IsTrue result ↔ StandsAt self.now name.now id.place }
     {
         (id.place as usize) < self.rows.len() && self.rows.is(id.place, name)
     }
 
-    /// The name at a place, in time that grows as its depth; `None` where the place isn't of the table, and only there.
+    /// The name at a place, in time in proportion to its depth; `None` exactly if the table has no such place.
     pub fn name(&self, id: NameId) -> Result<Option<AgentName>, AllocError>
         ensures { IfOk result (λ name. name ≡ slice_get self.now id.place) }
     {

@@ -44,12 +44,14 @@ fn audit<B: Ledger>(book: &mut Book<B>, all: &mut Share<B>, passes: &mut [Pass<B
 
 /// Compares the opening and all passes with the history, once nobody shares the bench any more. It takes no memory.
 ///
-/// For an answer of `Ok` the bench has the start of the opening, its history is the opening's lines and then exactly those of
-/// the passes, each told by one receipt under its number, that of a run by the names of the bench; and the lines that were
-/// added are counted. It is `Missing` exactly if there are not as many passes as were given out. It is `Mismatch`
-/// only if all passes are there, and then what the opening and the passes say is false at its number: the history's
-/// length if the start is another, before any line is looked at; else the number of a line. The bench that comes back has
-/// a line for each of the opening and for each receipt of these passes, and no other line if all passes are there.
+/// At `Ok` the bench has the start of the opening. Its history is the opening's lines and then exactly those of the passes:
+/// each is told by one receipt under its number, and that of a run by the names of the bench. The answer counts the lines
+/// that were added.
+///
+/// It is `Missing` exactly if there are not as many passes as were given out. It is `Mismatch` only if all passes are there
+/// and what they or the opening say is false. Its number is the history's length if the start is another one, before any
+/// line is looked at, and else the number of the line that is false. The bench that comes back has a line for each of the
+/// opening and for each receipt of these passes. If all passes are there, it has no other line.
 pub fn settle<B: Ledger>(
     opening: Opening<B>,
     mut passes: Vec<Pass<B>>,

@@ -12,15 +12,14 @@ use ic_name::limits::MAX_LINES;
 use ic_name::{EventId, EventName};
 use std::alloc::Global;
 
-/// Fires the listed events that don't stand: the active one with the least lead, again and again. Then all of them stand,
-/// whatever the order of the list, and the answer is how many were fired. A listed event that stands
-/// already, or is listed twice, isn't fired again. Its work is in proportion to K log K for K listed events and as many
-/// firings.
+/// Fires the listed events that don't stand. Each time it takes the active one with the least lead. Afterwards all of them
+/// stand, whatever the order of the list, and the answer is how many were fired. A listed event that stands already, or is
+/// listed twice, isn't fired again. For K listed events it takes time in proportion to K log K, and K firings at most.
 ///
-/// `HistoryFull` before anything else, exactly if the history would be too long with two lines for each listed event.
-/// `Deep`, `Full` or `Memory` if a firing is answered so, or if memory runs out elsewhere; else `NeverActive` if
-/// a listed event is in no sound set of the events that stood and those listed. It has the least such name, and says what
-/// is in its way. At each of these what was fired is undone, the last first, and that takes no memory.
+/// `HistoryFull` comes before anything else, exactly if the history would be too long with two lines for each listed event.
+/// `Deep`, `Full` and `Memory` come if a firing is answered so, and `Memory` also if memory runs out elsewhere. `NeverActive`
+/// comes if a listed event is in no sound set of the events that stood and those listed. It tells the least such name, and
+/// what is in its way. At each of these errors, the events that were fired are undone, the last first. That takes no memory.
 pub fn absorb<L: LinkStore>(
     alloc: Global,
     bench: &mut Bench<L>,

@@ -25,10 +25,10 @@ pub(crate) const NOTHING: Counts = Counts {
 /// order first, and then fires the events of the mark that don't stand, in canonical order. Afterwards exactly the mark's
 /// events stand, and those that stood before keep their ids. Each undoing and each firing adds a line.
 ///
-/// `HistoryFull` exactly if a line for each of them doesn't fit into the history; nothing has changed then, the room
-/// included. `Memory` may stand in place of each answer, with the numbers of the events that were undone and fired
-/// before memory ran out; these are done. The undoings take no memory, so it comes before all of them or after. Each
-/// line takes at most one line of room.
+/// It answers `HistoryFull` exactly if a line for each of them doesn't fit into the history. Nothing has changed then, the
+/// room included. `Memory` can come in place of any other answer. It tells how many events were undone and fired before
+/// memory ran out, and these changes stay. The undoings take no memory, so it comes before all of them or after. Each line
+/// takes at most one line of room.
 pub fn back<L: LinkStore>(
     alloc: Global,
     bench: &mut Bench<L>,

@@ -12,8 +12,8 @@ use crate::marks::Mark;
 use ic_journal::{Bench, LinkStore};
 use std::alloc::Global;
 
-/// Goes back to a mark as `back` does, when just its events stood after so many lines of the history: it looks only at
-/// what has changed after them. If more lines came since than there are events, it looks at the events.
+/// Goes back to a mark as `back` does. The mark was made after the first `since` lines of the history, so it looks only at
+/// the lines after them. If these are more than the events that stand and those of the mark, it looks at the events.
 pub fn back_since<L: LinkStore>(
     alloc: Global,
     bench: &mut Bench<L>,

@@ -9,8 +9,8 @@ use ic_name::{AgentName, Event};
 use ic_start::Start;
 use std::marker::Model;
 
-/// What stood on a bench at one time, with its start: a place to go back to. For each of its events it has the place in
-/// the list by its lead, which leads no other one.
+/// What stood on a bench at one time, with its start: a place to go back to. It finds an event by its lead, since no two of
+/// its events have the same.
 #[derive(Drop)]
 pub struct Mark {
     pub(crate) start: Start,

@@ -44,7 +44,7 @@ pub fn unwind<L: LinkStore>(
 /// start's. Each undoing adds a line, and takes at most one line of room.
 ///
 /// It answers `HistoryFull` exactly if a line for each of them doesn't fit into the history; nothing has changed then.
-/// `Memory` can come in place of any answer; nothing but the room has changed then.
+/// `Memory` can come in place of any other answer; nothing but the room has changed then.
 pub fn undo_all<L: LinkStore>(
     alloc: Global,
     bench: &mut Bench<L>,
