@@ -1,5 +1,5 @@
 -- Agents that were sorted by the names at their places are in order of their names.
-use Rattle.std.proofs.Common.{◌≡◌, ◌≢◌, Bool, false, List, [], ◌∷◌, map, refl, sym, ap, ◌∙◌}
+use Rattle.std.proofs.Common.{◌≡◌, ◌≢◌, ◌<◌, length, Bool, false, List, [], ◌∷◌, map, refl, sym, ap, ◌∙◌}
 use Rattle.std.specs.Cmp.{IsStrictWeakOrder}
 use Rattle.std.specs.List.Sorted.{IsPermutation, IsSortedBy}
 use Rattle.std.specs.Ordering.{is_lt, ordering_reverse}
@@ -15,8 +15,8 @@ use Rattle.ic_name.specs.declared.ids.AgentId.{AgentId}
 use Rattle.ic_name.proofs.NameOrder.{name_cmp_total, name_tied}
 use Rattle.ic_names.specs.Tables.{name_at}
 use Rattle.ic_roster.specs.declared.agent_records.PlacedAgent.{PlacedAgent}
-use Rattle.ic_roster.specs.Rosters.{Member, HaveOwnNames, AreRising, AreByName}
-use Rattle.ic_roster.specs.Placed.{member_in}
+use Rattle.ic_roster.specs.Rosters.{Member, RosterView, HaveOwnNames, AreRising, AreByName}
+use Rattle.ic_roster.specs.Placed.{member_in, IsAgentOf}
 use Rattle.ic_roster.proofs.Images.{each_image}
 use Rattle.ic_path.proofs.InLists.{in-map}
 use Rattle.ic_path.proofs.StrictOrders.{sorted_ascends}
@@ -33,6 +33,10 @@ before_orders ns = ranks_by name_cmp_total (λ (x : PlacedAgent). name_at ns x.n
 -- each agent has a name of its own
 abbrev AreApart : List Name → List PlacedAgent → Type 0
 AreApart ns xs = (x y : PlacedAgent) (rest : List PlacedAgent) → Pick x xs rest → IsIn y rest → name_at ns y.name.place ≢ name_at ns x.name.place
+
+-- as agents have that have names of their own
+apart : (ns : List Name) (xs : List PlacedAgent) → HaveOwnNames (map (member_in ns) xs) → AreApart ns xs
+apart ns xs own x y rest k i = own.names (member_in ns x) (member_in ns y) (map (member_in ns) rest) (pick-map (member_in ns) k) (in-map (member_in ns) i)
 
 -- where the second of two agents is not before the first, and has another name, it comes after it
 comes_after : (ns : List Name) (x y : PlacedAgent) → is_before ns y x ≡ false → name_at ns y.name.place ≢ name_at ns x.name.place
@@ -63,18 +67,26 @@ member_ids : (ns : List Name) (xs : List PlacedAgent) → map (λ (m : Member). 
 member_ids ns [] = refl
 member_ids ns (x ∷ xs) = ap (λ (ds : List AgentId). x.id ∷ ds) (member_ids ns xs)
 
--- agents that were sorted are in order of their names
+-- agents that were sorted are the same agents
+pub same_agents : (ns : List Name) (xs ys : List PlacedAgent) → HaveOwnNames (map (member_in ns) xs) → IsPermutation xs ys → Alike xs ys
+same_agents ns xs ys own moved = alike_by_length xs ys (λ x rest k i. apart ns xs own x x rest k i refl) (λ x i. contains-in x ys (Contains-permutation xs ys x moved (in-contains i))) (sym (length_permutation xs ys moved))
+
+-- and in order of their names
 pub by_name : (ns : List Name) (xs ys : List PlacedAgent) → HaveOwnNames (map (member_in ns) xs) → IsPermutation xs ys → IsSortedBy (is_before ns) ys
     → AreByName (map (member_in ns) xs) (map (λ (x : PlacedAgent). x.id) ys)
 by_name ns xs ys own moved up = record {
   order = map (member_in ns) ys;
   alike = alike-map (member_in ns) same;
-  rising = rising ns ys (λ x y rest k i. (let p = alike_pick (alike_back same) k in apart x y p.0 p.1 (alike-in p.2 i))) (sorted_ascends (is_before ns) (before_orders ns) ys up);
+  rising = rising ns ys (λ x y rest k i. (let p = alike_pick (alike_back same) k in apart ns xs own x y p.0 p.1 (alike-in p.2 i))) (sorted_ascends (is_before ns) (before_orders ns) ys up);
   named = member_ids ns ys;
 }
   where
-    apart : AreApart ns xs
-    apart x y rest k i = own.names (member_in ns x) (member_in ns y) (map (member_in ns) rest) (pick-map (member_in ns) k) (in-map (member_in ns) i)
-
     same : Alike xs ys
-    same = alike_by_length xs ys (λ x rest k i. apart x x rest k i refl) (λ x i. contains-in x ys (Contains-permutation xs ys x moved (in-contains i))) (sym (length_permutation xs ys moved))
+    same = same_agents ns xs ys own moved
+
+-- and each of them is one of the roster
+pub sorted_told : (r : RosterView) (ns : List Name) (xs ys : List PlacedAgent) → HaveOwnNames (map (member_in ns) xs) → IsPermutation xs ys → r.names ≡ ns → r.agents ≡ map (member_in ns) xs
+    → ((x : PlacedAgent) → IsIn x xs → x.name.place < length ns) → (a : PlacedAgent) → IsIn a ys → IsAgentOf r a
+sorted_told r ns xs ys own moved names agents inside a i =
+    let there : IsIn a xs = alike-in (alike_back (same_agents ns xs ys own moved)) i in
+    rw (names, agents) (in-map (member_in ns) there, inside a there)

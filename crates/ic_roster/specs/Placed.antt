@@ -56,6 +56,10 @@ IsGiven x (Some gone) = (gone.lead ≡ x.interaction.lead) × (gone.born.items �
 abbrev pub member_in : List Name → PlacedAgent → Member
 member_in ns x = record { id = x.id; name = name_at ns x.name.place; kind = x.kind }
 
+-- the agent is one of the roster, and its name lies at its place
+abbrev pub IsAgentOf : RosterView → PlacedAgent → Type 0
+IsAgentOf r a = IsIn (member_in r.names a) r.agents × (a.name.place < length r.names)
+
 -- the event with its names
 abbrev pub stander_in : List Name → PlacedEvent → Stander
 stander_in ns x = record { id = x.id; event = event_in ns x.interaction; rank = x.rank; born = x.born; causes = x.causes }

@@ -30,7 +30,7 @@ struct AgentRecord {
 
 /// An agent under its id, with the place of its name.
 #[derive(Clone, Copy)]
-pub(crate) struct PlacedAgent {
+pub struct PlacedAgent {
     pub id: AgentId,
     pub name: NameId,
     pub kind: Kind,

@@ -2,6 +2,8 @@ ghost use Rattle.std.specs.Prelude.{◌≡◌, ◌≢◌, ◌<◌, ◌∷◌, le
 ghost use Rattle.ic_path.specs.Orders.{Alike, IsIn};
 ghost use Rattle.ic_name.specs.declared.kinds.Kind.{Kind as AKind};
 ghost use Rattle.ic_names.specs.Tables.{name_at};
+ghost use Rattle.ic_roster.specs.declared.agent_records.PlacedAgent.{PlacedAgent as APlacedAgent};
+ghost use Rattle.ic_roster.specs.Placed.{IsAgentOf};
 ghost use Rattle.ic_roster.specs.Rosters.{Member, IsNewName, AreByName};
 
 use crate::agent_records::PlacedAgent;
@@ -61,14 +63,15 @@ impl Roster {
         self.agents.at(name)
     }
 
-    /// The ids of all agents, in order of their names.
-    pub fn in_order(&self, alloc: Global) -> Result<Vec<AgentId>, AllocError>
-        ensures { IfOk result (λ ids. AreByName self.now.agents ids.items) }
+    /// All agents, in order of their names, each under its id and with the place of its name.
+    pub fn in_order(&self, alloc: Global) -> Result<Vec<PlacedAgent>, AllocError>
+        ensures order { IfOk result (λ agents. AreByName self.now.agents (map (λ a. a.id) agents.items)) }
+        ensures told { IfOk result (λ agents. (a : APlacedAgent) → IsIn a agents.items → IsAgentOf self.now a) }
     {
         self.lawful();
         let mut agents = self.agents.all(alloc)?;
         agents.sort_by(|a, b| self.names.cmp(a.name, b.name))?;
-        ids_of(alloc, &agents)
+        Ok(agents)
     }
 
     /// One agent more, whose name stands at this place, under an id with this serial number, in constant time but for
@@ -93,15 +96,4 @@ impl Roster {
     {
         self.agents.remove(id);
     }
-}
-
-/// The ids of these agents.
-fn ids_of(alloc: Global, agents: &[PlacedAgent]) -> Result<Vec<AgentId>, AllocError>
-    ensures { IfOk result (λ ids. ids.items ≡ map (λ x. x.id) agents.now) }
-{
-    let mut ids = Vec::with_capacity(alloc, agents.len())?;
-    for agent in agents {
-        ids.push(agent.id)?;
-    }
-    Ok(ids)
 }

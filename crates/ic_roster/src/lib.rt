@@ -12,6 +12,7 @@ pub mod interaction;
 mod reserving;
 pub mod roster;
 
+pub use agent_records::PlacedAgent;
 pub use agents::AgentEntry;
 pub use events::{GoneEvent, StandingEntry};
 pub use interaction::Interaction;

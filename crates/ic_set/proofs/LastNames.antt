@@ -1,6 +1,6 @@
 -- Agents that come in the order of their names: each comes behind all others.
-use Rattle.std.proofs.Common.{◌≡◌, ℕ, ◌<◌, List, [], ◌∷◌, ◌++◌, length, map, take, get_or, drop-cons, sym, ap, subst, ◌∙◌, inl, inr}
-use Rattle.std.proofs.lemmas.List.{take-append-drop}
+use Rattle.std.proofs.Common.{◌≡◌, ℕ, ◌<◌, List, [], ◌∷◌, ◌++◌, length, map, take, drop, get_or, drop-cons, suc, sym, ap, subst, ◌∙◌, inl, inr}
+use Rattle.std.proofs.lemmas.List.{map-append, take-append-drop}
 use Rattle.std.specs.declared.cmp.Ordering.TheVariants.{Less}
 use Rattle.ic_name.specs.Names.{Name, name_cmp}
 use Rattle.ic_name.specs.declared.ids.AgentId.{AgentId}
@@ -11,6 +11,7 @@ use Rattle.ic_path.proofs.Picks.{none_in, in_first, in_more, in-cons_cases}
 use Rattle.ic_path.proofs.InLists.{map_cases, in_behind}
 use Rattle.ic_net.specs.Makings.{IsLastName}
 use Rattle.ic_theory.specs.Listed.{NetAgent as Listed}
+use Rattle.ic_roster.specs.declared.agent_records.PlacedAgent.{PlacedAgent}
 use Rattle.ic_roster.specs.Rosters.{Member, AreRising, AreByName}
 use Rattle.ic_set.specs.Reading.{IsLiving}
 use Rattle.ic_set.specs.Sets.{IsStandingSet}
@@ -66,9 +67,14 @@ last_name v set ids id rest as' all come n k living = each_less n as' (λ a i. l
         let y : b.greater ≡ record { id = id; name = n; kind = k } = same_member v.agents b.greater (record { id = id; name = n; kind = k }) set.own_names (alike-in back b.greater_in) living.0 (inl b.greater_id) in
         sym (ap (λ (z : Member). name_cmp z.name n) x ∙ ap (λ z. name_cmp z n) named) ∙ sym (ap (λ (z : Member). name_cmp b.lesser.name z.name) y) ∙ b.less
 
+-- the ids of agents
+abbrev pub ids_of : List PlacedAgent → List AgentId
+ids_of xs = map (λ x. x.id) xs
+
 -- and so has the one at a place, behind those in front of it
-pub last_at : (v : SetView) → IsStandingSet v → (ids all : List AgentId) (i : ℕ) (d : AgentId) (as' : List Listed) → ids ≡ all → AreByName v.agents all → i < length ids → ComeFrom v (take i ids) as'
-    → (n : Name) (k : Kind) → IsLiving v (get_or ids i d) n k → IsLastName n as'
-last_at v set ids all i d as' same ordered within come =
-    let cut = sym (take-append-drop i ids) ∙ ap (λ rest. take i ids ++ rest) (drop-cons ids i d within) in
-    last_name v set (take i ids) (get_or ids i d) _ as' (subst (AreByName v.agents) (sym same ∙ cut) ordered) come
+pub last_at : (v : SetView) → IsStandingSet v → (xs all : List PlacedAgent) (i : ℕ) (d : PlacedAgent) (as' : List Listed) → xs ≡ all → AreByName v.agents (ids_of all) → i < length xs → ComeFrom v (ids_of (take i xs)) as'
+    → (n : Name) (k : Kind) → IsLiving v (get_or xs i d).id n k → IsLastName n as'
+last_at v set xs all i d as' same ordered within come =
+    let cut : xs ≡ take i xs ++ get_or xs i d ∷ drop (suc i) xs = sym (take-append-drop i xs) ∙ ap (λ rest. take i xs ++ rest) (drop-cons xs i d within) in
+    let split = ap ids_of cut ∙ map-append (λ (x : PlacedAgent). x.id) (take i xs) (get_or xs i d ∷ drop (suc i) xs) in
+    last_name v set (ids_of (take i xs)) (get_or xs i d).id (ids_of (drop (suc i) xs)) as' (subst (AreByName v.agents) (ap ids_of (sym same) ∙ split) ordered) come

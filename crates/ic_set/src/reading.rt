@@ -6,6 +6,8 @@ ghost use Rattle.ic_name.specs.declared.ports.Port.{Port as APort};
 ghost use Rattle.ic_name.specs.declared.ports.Port.TheVariants as port_variants;
 ghost use Rattle.ic_net.specs.Makings.{IsLastName};
 ghost use Rattle.ic_net.specs.Placed.{port_at, placed_list, IsPortInside};
+ghost use Rattle.ic_path.specs.Orders.{IsIn};
+ghost use Rattle.ic_roster.specs.Placed.{member_in};
 ghost use Rattle.ic_theory.specs.Wires.{IsWire};
 ghost use Rattle.ic_set.specs.Reading.{net_in, IsPortAt, IsLiving, ArePartners, AreNetAgents, AreNetFrees, IsPut};
 ghost use Rattle.ic_set.specs.Views.{standing};
@@ -15,6 +17,7 @@ use crate::bare::BareSet;
 use ic_link::{Far, LinkStore};
 use ic_name::{AgentId, Kind, Port, Spot};
 use ic_net::{NetMaker, PlacedPartners, PlacedPort};
+use ic_roster::PlacedAgent;
 use std::alloc::AllocError;
 
 impl<L: LinkStore> BareSet<L> {
@@ -54,25 +57,23 @@ impl<L: LinkStore> BareSet<L> {
         Ok(())
     }
 
-    /// The agent under this id comes, with the partners of its ports, if there is one that isn't consumed. At an error memory
-    /// ran out.
-    fn put_agent(&self, agent: AgentId, maker: &mut NetMaker<'_>) -> Result<(), AllocError>
+    /// An agent comes, with the partners of its ports, if it isn't consumed. At an error memory ran out.
+    fn put_agent(&self, agent: PlacedAgent, maker: &mut NetMaker<'_>) -> Result<(), AllocError>
         requires names { maker.old.names ≡ self.now.names }
-        requires last { (n : AName) (k : AKind) → IsLiving self.now.set agent n k → IsLastName n maker.old.agents }
-        ensures agents { OnOk result (IsPut self.now.set agent maker.old.agents maker.new.agents) }
+        requires there { IsIn (member_in self.now.names agent) self.now.set.agents }
+        requires inside { agent.name.place < length self.now.names }
+        requires last { (n : AName) (k : AKind) → IsLiving self.now.set agent.id n k → IsLastName n maker.old.agents }
+        ensures agents { OnOk result (IsPut self.now.set agent.id maker.old.agents maker.new.agents) }
         ensures names { OnOk result (maker.new.names ≡ maker.old.names) }
         ensures frees { OnOk result (maker.new.frees ≡ maker.old.frees) }
         ensures profile { OnOk result (maker.new.profile ≡ maker.old.profile) }
     {
         self.lawful();
-        let Some(entry) = self.roster.agent(agent) else {
-            return Ok(());
-        };
-        if self.is_consumed(agent, entry.name) {
+        if self.is_consumed(agent.id, agent.name) {
             return Ok(());
         }
-        let partners = self.partners(agent, entry.kind);
-        maker.push_agent(entry.name, entry.kind, partners)
+        let partners = self.partners(agent.id, agent.kind);
+        maker.push_agent(agent.name, agent.kind, partners)
     }
 
     /// The partners of the ports of an agent that isn't consumed. It takes no memory.
