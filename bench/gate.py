@@ -2,6 +2,7 @@
 """Where the gate's time goes: processor seconds by crate and part, and the dearest functions and edits.
 
     python3 bench/gate.py                      runs `rt ci` at the top of the repository, and says what each part took
+    python3 bench/gate.py CRATE..              the same for these crates and those below them
     python3 bench/gate.py --functions CRATE..  checks these crates with their tests from nothing, and says what each
                                                function took (in a copy below /tmp; what lies in out/ stays)
 
@@ -165,13 +166,13 @@ def print_over_budget(sums):
             print(f"over budget: {crate} {part}, {used:.0f} s of {budget} s")
 
 
-def measure_gate():
-    """Runs the gate, and prints what its parts took. Answers the gate's status."""
+def measure_gate(crates):
+    """Runs the gate, or its part for some crates, and prints what its parts took. Answers the gate's status."""
     meter, begun = Meter(), time.time()
     watching = threading.Thread(target=meter.watch)
     watching.start()
     try:
-        status = subprocess.run(["rt", "ci"], cwd=ROOT, check=False).returncode
+        status = subprocess.run(["rt", "ci", *crates], cwd=ROOT, check=False).returncode
     finally:
         meter.ended.set()
         watching.join()
@@ -215,9 +216,9 @@ def measure_functions(crates):
 def main():
     if sys.argv[1:2] == ["--functions"] and sys.argv[2:]:
         return measure_functions(sys.argv[2:])
-    if sys.argv[1:]:
+    if any(word.startswith("-") for word in sys.argv[1:]):
         sys.exit(__doc__)
-    return measure_gate()
+    return measure_gate(sys.argv[1:])
 
 
 if __name__ == "__main__":
