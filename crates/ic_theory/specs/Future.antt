@@ -17,3 +17,7 @@ pub record Union (s : Start) (es fs : List Event) : Type 0 where
   pub left : Includes all es
   pub right : Includes all fs
   pub only : (e : Event) → IsIn e all → IsIn e es ⊎ IsIn e fs
+
+-- `all` has the events of both sets, and no others
+abbrev pub Unites : List Event → List Event → List Event → Type 0
+Unites all es fs = Includes all es × Includes all fs × ((e : Event) → IsIn e all → IsIn e es ⊎ IsIn e fs)

@@ -76,3 +76,19 @@ pub data IsHistory (s : Start) : List Line → State → Type 0 where
 pub record AreSame (st tt : State) : Type 0 where
   pub standing : Alike st.standing tt.standing
   pub lines : st.lines ≡ tt.lines
+
+-- the event is fired after a legal history
+pub record FiredAfter (s : Start) (lines : List Line) (st : State) (e : Event) (mid : State) : Type 0 where
+  pub history : IsHistory s lines st
+  pub fired : MachineStep s st (Fire e) Fired mid
+
+-- the event is fired after a legal history, and then undone
+pub record FiredAndUndone (s : Start) (lines : List Line) (st : State) (e : Event) (next : State) : Type 0 where
+  pub mid : State
+  pub fired : FiredAfter s lines st e mid
+  pub undone : MachineStep s mid (Undo st.lines) Undone next
+
+-- some event that stands can be undone, and the others stand then
+abbrev pub SomeIsUndone : Start → State → Type 0
+SomeIsUndone s st =
+    (x : Standing) × (rest : List Standing) × Pick x st.standing rest × MachineStep s st (Undo x.line) Undone (record { standing = rest; lines = st.lines + 1 })

@@ -1,5 +1,5 @@
 -- Sets of events, as lists read up to order: their agents, their links, and which agents they consume.
-use Rattle.std.specs.Prelude.{ℕ, ◌+◌, List, [], ◌∷◌, ◌++◌, if◌then◌else◌}
+use Rattle.std.specs.Prelude.{◌≡◌, ◌⊎◌, ℕ, ◌+◌, List, [], ◌∷◌, ◌++◌, if◌then◌else◌}
 use Rattle.ic_name.specs.Names.{Name}
 use Rattle.ic_name.specs.Events.{Event}
 use Rattle.ic_name.specs.Same.{same_name}
@@ -29,3 +29,7 @@ named_times n (x ∷ xs) = (if same_name n x.0 then 1 else 0) + named_times n xs
 abbrev pub consumed_times : Name → List Event → ℕ
 consumed_times n [] = 0
 consumed_times n (e ∷ es) = ((if same_name n e.lead then 1 else 0) + (if same_name n e.other then 1 else 0)) + consumed_times n es
+
+-- the event consumes the agent
+abbrev pub Consumes : Event → Name → Type 0
+Consumes e n = (n ≡ e.lead) ⊎ (n ≡ e.other)

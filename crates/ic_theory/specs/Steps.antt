@@ -11,7 +11,7 @@ use Rattle.ic_name.specs.declared.ports.Port.{Port}
 use Rattle.ic_name.specs.declared.ports.Port.TheVariants.{Of}
 use Rattle.ic_theory.specs.Rules.{born_ends}
 use Rattle.ic_theory.specs.Born.{port_of, born_agents}
-use Rattle.ic_theory.specs.Nets.{Net, kind_among}
+use Rattle.ic_theory.specs.Nets.{Net, IsSameNet, kind_among}
 
 -- a step is defined: the event's agents stand in the net, of these kinds, and their principal ports are partners
 pub record Meets (n : Net) (e : Event) : Type 0 where
@@ -84,3 +84,7 @@ steps n (e ∷ es) = steps (plain_step n e) es
 abbrev pub AreDefined : Net → List Event → Type 0
 AreDefined n [] = Unit {0}
 AreDefined n (e ∷ es) = Meets n e × AreDefined (plain_step n e) es
+
+-- the steps along the list are defined, and end in the other net
+abbrev pub EndIn : Net → List Event → Net → Type 0
+EndIn n list end = AreDefined n list × IsSameNet (steps n list) end

@@ -2,7 +2,6 @@
 #![tactic(auto)]
 
 ghost use Rattle.std.specs.Prelude.{◌≡◌, ◌≢◌, ◌+◌, ◌<◌, ℕ, ◌⊎◌, ◌↔◌, List, [], ◌∷◌, ◌++◌, length, Some};
-ghost use Rattle.std.specs.List.Sorted.{IsStrictlySortedBy};
 ghost use Rattle.ic_name.specs.Names.{Name};
 ghost use Rattle.ic_name.specs.Events.{Event};
 ghost use Rattle.ic_name.specs.declared.lines.Call.{Call};
@@ -11,24 +10,24 @@ ghost use Rattle.ic_name.specs.declared.lines.Line.{Line};
 ghost use Rattle.ic_name.specs.declared.lines.Reply.{Reply};
 ghost use Rattle.ic_name.specs.declared.lines.Reply.TheVariants.{Fired, Undone};
 ghost use Rattle.ic_name.specs.declared.ports.Port.{Port};
-ghost use Rattle.ic_path.specs.Orders.{IsIn, Alike, Pick};
+ghost use Rattle.ic_path.specs.Orders.{IsIn, Alike};
 ghost use Rattle.ic_path.specs.Rings.{IsOrder, IsSeal, HasEachOnce};
 ghost use Rattle.ic_theory.specs.Starts.{Start, IsProper, net_shape};
 ghost use Rattle.ic_theory.specs.Born.{Link};
-ghost use Rattle.ic_theory.specs.Sets.{links};
+ghost use Rattle.ic_theory.specs.Sets.{links, Consumes};
 ghost use Rattle.ic_theory.specs.Seals.{comes_before};
 ghost use Rattle.ic_theory.specs.Wires.{IsLoose, IsWire};
 ghost use Rattle.ic_theory.specs.Active.{IsActive};
-ghost use Rattle.ic_theory.specs.Causes.{IsCause, IsRank, canonical_cmp};
-ghost use Rattle.ic_theory.specs.CausalOrders.{IsCausalOrder, AreIndependent, Reorders};
+ghost use Rattle.ic_theory.specs.Causes.{IsCause, IsRank};
+ghost use Rattle.ic_theory.specs.CausalOrders.{IsCausalOrder, AreIndependent, Reorders, EndTogether, ReordersToCanonical};
 ghost use Rattle.ic_theory.specs.Sound.{IsSound};
 ghost use Rattle.ic_theory.specs.Nets.{IsSameNet, net_of};
-ghost use Rattle.ic_theory.specs.Steps.{Meets, plain_step, steps, AreDefined};
+ghost use Rattle.ic_theory.specs.Steps.{Meets, plain_step, steps, AreDefined, EndIn};
 ghost use Rattle.ic_theory.specs.Firings.{IsFired, AreAfterCauses, then_fired};
-ghost use Rattle.ic_theory.specs.Future.{Union, Includes};
-ghost use Rattle.ic_theory.specs.Exchanges.{Exchanges, IsCanonical};
+ghost use Rattle.ic_theory.specs.Future.{Union, Includes, Unites};
+ghost use Rattle.ic_theory.specs.Exchanges.{Exchanges, ReachesCanonical};
 ghost use Rattle.ic_theory.specs.Letters.{Letter, Runs, AreEquivalent};
-ghost use Rattle.ic_theory.specs.Machine.{Standing, State, events, MachineStep, IsHistory};
+ghost use Rattle.ic_theory.specs.Machine.{Standing, State, events, MachineStep, IsHistory, FiredAfter, FiredAndUndone, SomeIsUndone};
 
 /// Each loose port has a partner: the other end of its wire, another port, whose partner it is.
 pub fn wires()
@@ -56,15 +55,15 @@ pub fn steps_agree()
 /// Steps are defined along the causal orders of sound sets and along no other list, and end in the net of the set. So
 /// whatever causal order of a sound set they take, they are defined, and end in the one net of that set.
 pub fn orders()
-    ensures defined { (s : Start) (list : List Event) → IsProper s → let set = then_fired [] list in AreDefined (net_of s []) list ↔ (IsSound s set × AreAfterCauses s set set) }
+    ensures defined { (s : Start) (list : List Event) → IsProper s → AreDefined (net_of s []) list ↔ IsCausalOrder s list }
     ensures ends { (s : Start) (list : List Event) → IsProper s → AreDefined (net_of s []) list → steps (net_of s []) list ≡ net_of s (then_fired [] list) }
-    ensures every { (s : Start) (es list : List Event) → IsProper s → IsSound s es → Alike es (then_fired [] list) → AreAfterCauses s (then_fired [] list) (then_fired [] list) → AreDefined (net_of s []) list × IsSameNet (steps (net_of s []) list) (net_of s es) }
+    ensures every { (s : Start) (es list : List Event) → IsProper s → IsSound s es → let set = then_fired [] list in Alike es set → AreAfterCauses s set set → EndIn (net_of s []) list (net_of s es) }
 {}
 
 /// Of two firings over one start there is a common one, and events of both that share an agent are one.
 pub fn one_future()
     ensures union { (s : Start) (es fs : List Event) → IsProper s → IsFired s es → IsFired s fs → Union s es fs }
-    ensures partner { (s : Start) (es fs : List Event) (e f : Event) (n : Name) → IsProper s → IsFired s es → IsFired s fs → IsIn e es → IsIn f fs → (n ≡ e.lead) ⊎ (n ≡ e.other) → (n ≡ f.lead) ⊎ (n ≡ f.other) → e ≡ f }
+    ensures partner { (s : Start) (es fs : List Event) (e f : Event) (n : Name) → IsProper s → IsFired s es → IsFired s fs → IsIn e es → IsIn f fs → Consumes e n → Consumes f n → e ≡ f }
 {}
 
 /// A firing leaves a sound set, and each sound set can be fired in some order. In any order the set is sound, and gives
@@ -76,7 +75,7 @@ pub fn sound_sets()
     ensures firing { (s : Start) (es : List Event) → IsProper s → IsFired s es ↔ (IsSound s es × AreAfterCauses s es es) }
     ensures order { (s : Start) (es fs : List Event) → IsProper s → IsSound s es → Alike es fs → IsSound s fs }
     ensures net { (s : Start) (es fs : List Event) → IsProper s → IsSound s es → Alike es fs → IsSameNet (net_of s es) (net_of s fs) }
-    ensures union { (s : Start) (es fs : List Event) → IsProper s → IsSound s es → IsSound s fs → (all : List Event) × IsSound s all × Includes all es × Includes all fs × ((e : Event) → IsIn e all → IsIn e es ⊎ IsIn e fs) }
+    ensures union { (s : Start) (es fs : List Event) → IsProper s → IsSound s es → IsSound s fs → (all : List Event) × IsSound s all × Unites all es fs }
     ensures causes { (s : Start) (all es : List Event) (e c : Event) → IsProper s → IsSound s all → Includes all es → IsSound s es → IsIn e es → IsCause s all e c ↔ IsCause s es e c }
 {}
 
@@ -88,16 +87,18 @@ pub fn exchange()
     ensures fired { (s : Start) (later es : List Event) (e f : Event) → IsProper s → IsFired s (later ++ f ∷ e ∷ es) → (IsCause s (f ∷ e ∷ es) f e → ⊥) → IsFired s (later ++ e ∷ f ∷ es) }
     ensures net { (s : Start) (later es : List Event) (e f : Event) → IsProper s → IsFired s (later ++ f ∷ e ∷ es) → IsSameNet (net_of s (later ++ f ∷ e ∷ es)) (net_of s (later ++ e ∷ f ∷ es)) }
     ensures along { (s : Start) (es gs : List Event) → IsProper s → IsFired s es → Exchanges s es gs → IsFired s gs × IsSameNet (net_of s es) (net_of s gs) × Alike es gs }
-    ensures canonical { (s : Start) (es : List Event) (rank : Event → ℕ) → IsProper s → IsFired s es → IsRank s es rank → (order : List Event) × Exchanges s es order × IsFired s order × IsCanonical rank order × Alike es order }
+    ensures canonical { (s : Start) (es : List Event) (rank : Event → ℕ) → IsProper s → IsFired s es → IsRank s es rank → ReachesCanonical s rank es }
 {}
 
 /// Neighbours in a causal order of which neither is a direct cause of the other change places, and the list is a causal
 /// order still; the steps along both end in the same net. So it is along exchanges in any number, and by them any causal
 /// order reaches the canonical order of its events.
 pub fn causal_orders()
-    ensures exchanged { (s : Start) (front back : List Event) (e f : Event) → IsProper s → IsCausalOrder s (front ++ e ∷ f ∷ back) → AreIndependent s (then_fired [] (front ++ e ∷ f ∷ back)) e f → IsCausalOrder s (front ++ f ∷ e ∷ back) × IsSameNet (steps (net_of s []) (front ++ e ∷ f ∷ back)) (steps (net_of s []) (front ++ f ∷ e ∷ back)) }
-    ensures along { (s : Start) (list order : List Event) → IsProper s → IsCausalOrder s list → Reorders s (then_fired [] list) list order → IsCausalOrder s order × IsSameNet (steps (net_of s []) list) (steps (net_of s []) order) × Alike list order }
-    ensures canonical { (s : Start) (list : List Event) (rank : Event → ℕ) → IsProper s → IsCausalOrder s list → IsRank s (then_fired [] list) rank → (order : List Event) × Reorders s (then_fired [] list) list order × IsCausalOrder s order × IsStrictlySortedBy (canonical_cmp rank) order × Alike list order × IsSameNet (steps (net_of s []) list) (steps (net_of s []) order) }
+    ensures exchanged { (s : Start) (front back : List Event) (e f : Event) → IsProper s → let list = front ++ e ∷ f ∷ back in let order = front ++ f ∷ e ∷ back in
+        IsCausalOrder s list → AreIndependent s (then_fired [] list) e f → IsCausalOrder s order × EndTogether s list order }
+    ensures along { (s : Start) (list order : List Event) → IsProper s → IsCausalOrder s list → Reorders s (then_fired [] list) list order
+        → IsCausalOrder s order × EndTogether s list order × Alike list order }
+    ensures canonical { (s : Start) (list : List Event) (rank : Event → ℕ) → IsProper s → IsCausalOrder s list → IsRank s (then_fired [] list) rank → ReordersToCanonical s rank list }
 {}
 
 /// A sound set in which no pair is active has every sound set over its start as a part, and two such sets are one.
@@ -118,8 +119,10 @@ pub fn machine()
     ensures count { (s : Start) (lines : List Line) (st : State) → IsHistory s lines st → st.lines ≡ length lines }
     ensures below { (s : Start) (lines : List Line) (st : State) (x : Standing) → IsProper s → IsHistory s lines st → IsIn x st.standing → x.line < st.lines }
     ensures own { (s : Start) (lines : List Line) (st : State) (x y : Standing) → IsProper s → IsHistory s lines st → IsIn x st.standing → IsIn y st.standing → x.line ≡ y.line → x ≡ y }
-    ensures reply { (s : Start) (lines : List Line) (st a a' : State) (call : Call) (r r' : Reply) → IsProper s → IsHistory s lines st → MachineStep s st call r a → MachineStep s st call r' a' → r ≡ r' }
-    ensures standing { (s : Start) (lines : List Line) (st a a' : State) (call : Call) (r r' : Reply) → IsProper s → IsHistory s lines st → MachineStep s st call r a → MachineStep s st call r' a' → Alike a.standing a'.standing }
+    ensures reply { (s : Start) (lines : List Line) (st a a' : State) (call : Call) (r r' : Reply) → IsProper s → IsHistory s lines st → MachineStep s st call r a
+        → MachineStep s st call r' a' → r ≡ r' }
+    ensures standing { (s : Start) (lines : List Line) (st a a' : State) (call : Call) (r r' : Reply) → IsProper s → IsHistory s lines st → MachineStep s st call r a
+        → MachineStep s st call r' a' → Alike a.standing a'.standing }
 {}
 
 /// A refused call changes nothing that stands, and so not the net.
@@ -129,13 +132,15 @@ pub fn refusals()
 
 /// A firing can be undone at once, and this restores what was before: what stands, the net, and each event's rank.
 pub fn undone_at_once()
-    ensures accepted { (s : Start) (lines : List Line) (st mid : State) (e : Event) → IsProper s → IsHistory s lines st → MachineStep s st (Fire e) Fired mid → MachineStep s mid (Undo st.lines) Undone (record { standing = st.standing; lines = mid.lines + 1 }) }
-    ensures standing { (s : Start) (lines : List Line) (st mid next : State) (e : Event) → IsProper s → IsHistory s lines st → MachineStep s st (Fire e) Fired mid → MachineStep s mid (Undo st.lines) Undone next → Alike st.standing next.standing }
-    ensures net { (s : Start) (lines : List Line) (st mid next : State) (e : Event) → IsProper s → IsHistory s lines st → MachineStep s st (Fire e) Fired mid → MachineStep s mid (Undo st.lines) Undone next → IsSameNet (net_of s (events st)) (net_of s (events next)) }
-    ensures ranks { (s : Start) (lines : List Line) (st mid next : State) (e : Event) (rank : Event → ℕ) → IsProper s → IsHistory s lines st → MachineStep s st (Fire e) Fired mid → MachineStep s mid (Undo st.lines) Undone next → IsRank s (events st) rank → IsRank s (events next) rank }
+    ensures accepted { (s : Start) (lines : List Line) (st mid : State) (e : Event) → IsProper s → FiredAfter s lines st e mid
+        → MachineStep s mid (Undo st.lines) Undone (record st { lines = mid.lines + 1 }) }
+    ensures standing { (s : Start) (lines : List Line) (st next : State) (e : Event) → IsProper s → FiredAndUndone s lines st e next → Alike st.standing next.standing }
+    ensures net { (s : Start) (lines : List Line) (st next : State) (e : Event) → IsProper s → FiredAndUndone s lines st e next → IsSameNet (net_of s (events st)) (net_of s (events next)) }
+    ensures ranks { (s : Start) (lines : List Line) (st next : State) (e : Event) (rank : Event → ℕ) → IsProper s → FiredAndUndone s lines st e next
+        → IsRank s (events st) rank → IsRank s (events next) rank }
 {}
 
 /// While anything stands, some event of it can be undone; so undoing goes on down to the start.
 pub fn something_undone()
-    ensures { (s : Start) (lines : List Line) (st : State) → IsProper s → IsHistory s lines st → (st.standing ≡ [] → ⊥) → (x : Standing) × (rest : List Standing) × Pick x st.standing rest × MachineStep s st (Undo x.line) Undone (record { standing = rest; lines = st.lines + 1 }) }
+    ensures { (s : Start) (lines : List Line) (st : State) → IsProper s → IsHistory s lines st → (st.standing ≡ [] → ⊥) → SomeIsUndone s st }
 {}

@@ -20,7 +20,7 @@ pub returns-clause-net : goal.returns-clause-net
 returns-clause-net c = λ s es fs ok h a. net-alike s ok h a
 
 pub returns-clause-union : goal.returns-clause-union
-returns-clause-union c = λ s es fs ok h k. sound_union s ok es fs h k
+returns-clause-union c = λ s es fs ok h k. let u = sound_union s ok es fs h k in (u.0, u.1, (u.2, u.3, u.4))
 
 pub returns-clause-causes : goal.returns-clause-causes
 returns-clause-causes c = λ s all es e f ok h i k j. (λ q. cause_stays s ok h.apart i k j q, λ q. cause_included s i q)
