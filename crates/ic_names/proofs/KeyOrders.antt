@@ -1,5 +1,5 @@
 -- Keys are in the order of their names.
-use Rattle.std.proofs.Common.{◌≡◌, ℕ, ◌+◌, ◌*◌, ◌^◌, ◌<◌, ◌≤◌, ◌/◌, [], ◌∷◌, ◌++◌, length, refl, ◌∙◌, ap, arith, ◌⊎◌, inl, inr, ◌-◌, length-append}
+use Rattle.std.proofs.Common.{◌≡◌, ℕ, ◌+◌, ◌*◌, ◌^◌, ◌<◌, ◌≤◌, ◌/◌, ◌%◌, [], ◌∷◌, ◌++◌, length, refl, ◌∙◌, ap, arith, ◌⊎◌, inl, inr, ◌-◌, length-append}
 use Rattle.std.proofs.lemmas.Bool.{cases_order, cases_lt}
 use Rattle.std.specs.declared.cmp.Ordering.TheVariants.{Less, Greater}
 use Rattle.std.specs.Ordering.{nat_cmp, ordering_reverse}
@@ -52,6 +52,10 @@ key-start k = omega (arith, front-nil 17)
 -- the depth stands in front
 pub key_depth : (n : Name) → IsProper n → key_of n / 1125899906842624 ≡ depth n
 key_depth n is = let front = front_fits n is in let starts = is.starts in omega arith
+
+-- the start number stands after it
+pub key_start_number : (n : Name) → IsProper n → key_of n % 1125899906842624 / 17179869184 ≡ n.start
+key_start_number n is = let front = front_fits n is in let starts = is.starts in omega arith
 
 -- the key of a child, by what its digit adds
 pub key-child : (n : Name) (d more : ℕ) → (depth n < 17 → more ≡ d * 4 ^ (16 - depth n)) → (17 ≤ depth n → more ≡ 0) → key_of n + 1125899906842624 + more ≡ key_of (child_name n d)

@@ -2,6 +2,7 @@ pub mod Fronts
 pub mod KeyOrders
 pub mod Blocks
 pub mod PutDigits
+pub mod WrittenDigits
 pub mod PlaceNames
 pub mod RowNames
 pub mod RowReads

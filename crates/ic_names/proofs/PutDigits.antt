@@ -15,17 +15,15 @@ pub record ArePut (n : Name) (first at deep number : ℕ) (digits old : List ℕ
   pub left : number ≡ number_of (take (at - first) (drop first n.digits))
   pub put : drop at digits ≡ drop at n.digits ++ drop deep old
 
--- at first none is put
-pub none_put : (n : Name) (first at number : ℕ) (old : List ℕ) → at ≡ depth n → first ≡ anchor_depth n → number ≡ block_of n → ArePut n first at at number old old
-none_put n first at number old deep anchor is = record {
-  left = is ∙ ap (λ k. number_of (drop k n.digits)) (sym anchor) ∙ ap number_of (sym (take_all (at - first) (drop first n.digits) (omega (arith, length-drop first n.digits, deep))));
-  put = ap (λ ds. ds ++ drop at old) (sym (drop_all at n.digits (omega (arith, deep))));
-}
+-- the number of a block at first
+pub whole_block : (n : Name) (first at number : ℕ) → at ≡ depth n → first ≡ anchor_depth n → number ≡ block_of n → number ≡ number_of (take (at - first) (drop first n.digits))
+whole_block n first at number deep anchor is =
+    is ∙ ap (λ k. number_of (drop k n.digits)) (sym anchor) ∙ ap number_of (sym (take_all (at - first) (drop first n.digits) (omega (arith, length-drop first n.digits, deep))))
 
--- one digit more
-pub one_put : (n : Name) (first at deep number : ℕ) (digits old : List ℕ) → IsProper n → first ≤ at → at < depth n → at < length digits
-    → ArePut n first (at + 1) deep number digits old → ArePut n first at deep (number / 4) (set digits at (number % 4)) old
-one_put n first at deep number digits old is low high inside are =
+-- the last digit of a block, and the number of those before it
+pub last_digit : (n : Name) (first at number : ℕ) → IsProper n → first ≤ at → at < depth n → number ≡ number_of (take (at + 1 - first) (drop first n.digits))
+    → (number / 4 ≡ number_of (take (at - first) (drop first n.digits))) × (number % 4 ≡ get_or n.digits at 0)
+last_digit n first at number is low high left =
     let xs = drop first n.digits in
     let k = at - first in
     let long : k < length xs = omega (arith, length-drop first n.digits, low, high) in
@@ -35,12 +33,24 @@ one_put n first at deep number digits old is low high inside are =
     let same : get_or xs k 0 ≡ get_or n.digits at 0 = get_or-drop first n.digits k 0 ∙ ap (λ i. get_or n.digits i 0) at_k in
     let small : get_or xs k 0 < 4 = let h = All-get_or (λ d. d < 4) n.digits at 0 high is.digit in omega (arith, same, h) in
     let number_is : number ≡ 4 * number_of (take k xs) + get_or xs k 0 =
-    are.left ∙ ap (λ i. number_of (take i xs)) count ∙ ap number_of more ∙ number-push (take k xs) (get_or xs k 0) in
-    let rest : number / 4 ≡ number_of (take k xs) = omega (arith, number_is, small) in
-    let digit : number % 4 ≡ get_or n.digits at 0 = omega (arith, number_is, small, same) in
+    left ∙ ap (λ i. number_of (take i xs)) count ∙ ap number_of more ∙ number-push (take k xs) (get_or xs k 0) in
+    (omega (arith, number_is, small), omega (arith, number_is, small, same))
+
+-- at first none is put
+pub none_put : (n : Name) (first at number : ℕ) (old : List ℕ) → at ≡ depth n → first ≡ anchor_depth n → number ≡ block_of n → ArePut n first at at number old old
+none_put n first at number old deep anchor is = record {
+  left = whole_block n first at number deep anchor is;
+  put = ap (λ ds. ds ++ drop at old) (sym (drop_all at n.digits (omega (arith, deep))));
+}
+
+-- one digit more
+pub one_put : (n : Name) (first at deep number : ℕ) (digits old : List ℕ) → IsProper n → first ≤ at → at < depth n → at < length digits
+    → ArePut n first (at + 1) deep number digits old → ArePut n first at deep (number / 4) (set digits at (number % 4)) old
+one_put n first at deep number digits old is low high inside are =
+    let last = last_digit n first at number is low high are.left in
     record {
-      left = rest;
-      put = drop-set digits at (number % 4) inside ∙ ap (λ ds. number % 4 ∷ ds) are.put ∙ ap (λ d. d ∷ (drop (at + 1) n.digits ++ drop deep old)) digit
+      left = last.0;
+      put = drop-set digits at (number % 4) inside ∙ ap (λ ds. number % 4 ∷ ds) are.put ∙ ap (λ d. d ∷ (drop (at + 1) n.digits ++ drop deep old)) last.1
           ∙ ap (λ ds. ds ++ drop deep old) (sym (drop_more n.digits at 0 high));
     }
 

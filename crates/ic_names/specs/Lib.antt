@@ -1,5 +1,6 @@
 pub mod Keys
 pub mod Blocks
+pub mod DigitTexts
 pub mod Tables
 pub mod Rows
 pub mod Known

@@ -1,7 +1,9 @@
-ghost use Rattle.std.specs.Prelude.{◌≡◌, ◌<◌, ◌≤◌, ◌++◌, ℕ, length, drop, All};
+ghost use Rattle.std.specs.Prelude.{◌≡◌, ◌*◌, ◌<◌, ◌≤◌, ◌++◌, ℕ, length, drop, All};
 ghost use Rattle.ic_name.specs.Names.{Name, depth as depth_of, start_name, child_name};
+ghost use Rattle.ic_name.specs.NameTexts.{digits_text};
 ghost use Rattle.ic_names.specs.Keys.{IsProper};
 ghost use Rattle.ic_names.specs.Blocks.{anchor_depth, number_of, block_of};
+ghost use Rattle.ic_names.specs.DigitTexts.{HasDots};
 
 /// The number of digits in a block, at most: so many fit in 64 bits. At each multiple of it there is an anchor.
 pub const BLOCK: u64 = 32;
@@ -68,6 +70,28 @@ impl Block {
         while at > first {
             at -= 1;
             digits[at] = (number % 4) as u8;
+            number /= 4;
+        }
+        first
+    }
+
+    /// Writes the digits after the anchor of a name of this depth and block into a text with a dot before each digit of the
+    /// name, and gives the depth of the anchor.
+    pub fn write_digits(self, text: &mut [u8], depth: usize) -> usize
+        requires some { 0 < depth }
+        requires inside { 2 * depth ≤ length text.old }
+        requires dots { HasDots text.old }
+        ensures anchor { (n : Name) → depth ≡ depth_of n → result ≡ anchor_depth n }
+        ensures put { (n : Name) → IsProper n → depth ≡ depth_of n → self.0 ≡ block_of n → drop (2 * result) text.new ≡ digits_text (drop result n.digits) ++ drop (2 * depth) text.old }
+        ensures same_length { length text.new ≡ length text.old }
+        ensures dots { HasDots text.new }
+    {
+        let first = (depth - 1) / BLOCK as usize * BLOCK as usize;
+        let mut number = self.0;
+        let mut at = depth;
+        while at > first {
+            at -= 1;
+            text[2 * at + 1] = b'0' + (number % 4) as u8;
             number /= 4;
         }
         first

@@ -38,6 +38,13 @@ impl NameKey {
         self.0 / GENERATION
     }
 
+    /// The start number of the names of this key, in constant time.
+    pub fn start_number(self) -> u16
+        ensures { (n : Name) → IsProper n → self.0 ≡ key_of n → result ≡ n.start }
+    {
+        (self.0 % GENERATION / START) as u16
+    }
+
     /// The key of the child with this digit, in constant time.
     pub fn child(self, digit: u8) -> NameKey
         requires small { digit < 4 }

@@ -7,6 +7,8 @@ ghost use Rattle.ic_names.specs.Blocks.{anchor_of, block_of};
 ghost use Rattle.ic_names.specs.Tables.{name_at, StandsAt, IsAbsent, IsPlaceOf, IsTable, Enters, GrowsUpTo};
 ghost use Rattle.ic_names.specs.Rows.{name_from, IsBefore};
 
+mod writing;
+
 use crate::block::{BLOCK, Block};
 use crate::entry::{Entry, Origin};
 use crate::key::NameKey;

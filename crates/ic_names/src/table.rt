@@ -1,5 +1,6 @@
-ghost use Rattle.std.specs.Prelude.{◌≡◌, ◌<◌, ◌≤◌, ◌↔◌, ◌++◌, ◌∷◌, [], ℕ, length, slice_get, Some, None, IsTrue, IfSome, IfNone, IfOk, IsErrOf, OnErr};
+ghost use Rattle.std.specs.Prelude.{◌≡◌, ◌<◌, ◌≤◌, ◌↔◌, ◌++◌, ◌∷◌, [], ℕ, length, slice_get, Some, None, IsTrue, IfSome, IfNone, IfOk, IsErrOf, OnOk, OnErr};
 ghost use Rattle.ic_name.specs.Names.{depth as depth_of, name_cmp, child_name};
+ghost use Rattle.ic_name.specs.NameTexts.{name_text};
 ghost use Rattle.ic_names.specs.Keys.{key_of};
 ghost use Rattle.ic_names.specs.Tables.{name_at, StandsAt, IsAbsent, IsTable, Enters, GrowsUpTo};
 
@@ -169,6 +170,17 @@ impl NameTable {
         }
         let name = self.rows.name(id.place)?;
         Ok(Some(name))
+    }
+
+    /// Writes the text of the name at a place at the end of `out`: the start number in decimal, then a dot and a digit for
+    /// each generation. The time is in proportion to the depth of the name. Room is made once for the whole text, and
+    /// nothing else is allocated. At an error memory ran out, and `out` is as before.
+    pub fn write_to(&self, id: NameId, out: &mut Vec<u8>) -> Result<(), AllocError>
+        requires { id.place < length self.now }
+        ensures ok { OnOk result (out.new.items ≡ out.old.items ++ name_text (name_at self.now id.place)) }
+        ensures err { OnErr result (out.new.items ≡ out.old.items) }
+    {
+        self.rows.write_to(id.place, out)
     }
 
     /// The order of the names at two places. A place beyond the table counts as the least name. It takes no memory,
