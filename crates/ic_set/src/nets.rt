@@ -1,11 +1,11 @@
-ghost use Rattle.std.specs.Prelude.{◌≡◌, All, List, [], map, IfOk};
+ghost use Rattle.std.specs.Prelude.{◌≡◌, ◌++◌, All, List, [], map, IfOk, OnOk};
 ghost use Rattle.ic_name.specs.Events.{Event as AnEvent};
 ghost use Rattle.ic_path.specs.Orders.{Alike};
 ghost use Rattle.ic_theory.specs.Firings.{AreAfterCauses, then_fired};
 ghost use Rattle.ic_theory.specs.Listed.{shown, IsListing};
 ghost use Rattle.ic_theory.specs.Nets.{IsSameNet, net_of};
 ghost use Rattle.ic_theory.specs.Steps.{AreDefined, steps};
-ghost use Rattle.ic_cause.specs.Journals.{Ranked, IsJournal, journal_text};
+ghost use Rattle.ic_cause.specs.Journals.{Ranked, IsJournal, journal_line, journal_text};
 ghost use Rattle.ic_roster.specs.Rosters.{event_in, IsNamed};
 ghost use Rattle.ic_set.specs.Views.{standing};
 ghost use Rattle.ic_set.specs.Orders.{AreCanonical};
@@ -13,9 +13,10 @@ ghost use Rattle.ic_set.specs.Placed.{ranked_in};
 
 use crate::bare::BareSet;
 use crate::orders::Placed;
-use ic_cause::{RankedEvent, journal_head, push_line};
+use ic_cause::{journal_head, push_rank};
 use ic_link::LinkStore;
 use ic_name::Event;
+use ic_names::NameTable;
 use ic_net::{Net, NetMaker, NetSheet};
 use ic_roster::Roster;
 use std::alloc::{AllocError, Global};
@@ -73,21 +74,27 @@ impl<L: LinkStore> BareSet<L> {
     }
 }
 
-/// The journal of these events. One of them at a time is built.
+/// The journal of these events.
 fn journal_of(alloc: Global, roster: &Roster, placed: &[Placed]) -> Result<Vec<u8>, AllocError>
     requires { All (λ p. IsNamed roster.now.names p.interaction) placed.now }
     ensures { IfOk result (λ text. text.items ≡ journal_text (map (ranked_in roster.now.names) placed.now)) }
 {
     let mut text = journal_head(alloc, placed.len())?;
     for standing in placed {
-        let event = roster.read(standing.interaction)?;
-        let ranked = RankedEvent {
-            event,
-            rank: standing.rank,
-        };
-        push_line(&mut text, &ranked)?;
+        push_line(&mut text, roster.names(), standing)?;
     }
     Ok(text)
+}
+
+/// Puts the line of an event at the end. At an error memory ran out, and a front of the line may stand there.
+fn push_line(text: &mut Vec<u8>, names: &NameTable, standing: &Placed) -> Result<(), AllocError>
+    requires { IsNamed names.now standing.now.interaction }
+    ensures { OnOk result (text.new.items ≡ text.old.items ++ journal_line (ranked_in names.now standing.now)) }
+{
+    names.write_to(standing.interaction.lead, text)?;
+    text.push(b' ')?;
+    names.write_to(standing.interaction.other, text)?;
+    push_rank(text, standing.rank)
 }
 
 /// These events, by their names.
