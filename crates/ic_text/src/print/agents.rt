@@ -49,8 +49,7 @@ fn put_named_line(
     requires whole { length (partners_on agent.now) ≡ arity agent.now.agent.now.kind + 1 }
     ensures { OnOk result (out.new.items ≡ out.old.items ++ named_line names.now (wires_in sheet.now) (agent_on sheet.now.lists agent.now)) }
 {
-    let name = sheet.name(agent.agent)?;
-    name.write_to(out)?;
+    sheet.names().write_to(agent.agent.name, out)?;
     out.push(b' ')?;
     put_line(out, sheet, names, agent)
 }

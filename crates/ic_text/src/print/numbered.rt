@@ -4,7 +4,7 @@ ghost use Rattle.ic_text.specs.Numbers.{IsNumbering};
 
 use crate::print::agent_lines::AgentLine;
 use crate::print::numbers::{WireNumbers, number_wires};
-use ic_name::AgentName;
+use ic_names::NameTable;
 use ic_net::{PlacedAgent, SheetLists};
 use std::alloc::{AllocError, Global};
 
@@ -18,7 +18,6 @@ pub(crate) struct NumberedAgents<'a> {
 
 impl<'a> NumberedAgents<'a> {
     ghost use Rattle.std.specs.Prelude.{◌≡◌, ◌<◌, ◌≤◌, ◌*◌, length, unwrap_or, IfOk};
-    ghost use Rattle.ic_names.specs.Tables.{name_at};
     ghost use Rattle.ic_text.specs.Lists.{agent_on, partners_on, AreNetLists, IsOnLine};
     ghost use Rattle.ic_text.specs.Numbers.{port_wire, wire_place};
     ghost use Rattle.ic_text.specs.NumberedWires.{wires_in};
@@ -42,15 +41,11 @@ impl<'a> NumberedAgents<'a> {
         self.lists.agents
     }
 
-    /// The name of an agent. At an error memory ran out.
-    pub(crate) fn name(&self, agent: &PlacedAgent) -> Result<AgentName, AllocError>
-        requires { agent.now.name.place < length self.now.lists.names.now }
-        ensures { IfOk result (λ name. name ≡ name_at self.now.lists.names.now agent.now.name.place) }
+    /// The table of their names.
+    pub(crate) fn names(&self) -> &'a NameTable
+        ensures { result.now ≡ self.now.lists.names.now }
     {
-        match self.lists.names.name(agent.name)? {
-            Some(name) => Ok(name),
-            None => unreachable!(),
-        }
+        self.lists.names
     }
 
     /// The number of the wire at an agent's port, or 0 for one that has none.
