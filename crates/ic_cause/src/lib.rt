@@ -7,7 +7,7 @@ pub mod makers;
 pub mod order;
 pub mod shown;
 
-pub use journal::{journal_head, push_rank};
+pub use journal::{RankedEvent, journal_head, journal_text, push_rank};
 pub use laws::{one_future, one_journal};
 pub use makers::{direct_causes, path_makers};
 pub use order::{canonical_cmp, rank_of, rank_with};

@@ -2,7 +2,7 @@ ghost use Rattle.std.specs.Prelude.{◌<◌, ◌≤◌, OnOk};
 ghost use Rattle.ic_name.specs.declared.ids.Link.{Link as ALink};
 ghost use Rattle.ic_path.specs.Orders.{IsIn};
 
-use crate::{canonical_cmp, direct_causes, journal_head, push_rank, rank_of};
+use crate::{RankedEvent, canonical_cmp, direct_causes, journal_text, rank_of};
 use ic_link::{Far, LinkRows, LinkStore, has_room};
 use ic_name::{AgentId, AgentName, Event, EventId, Kind, Link, LinkId, MakerId, Spot};
 use std::alloc::{AllocError, Global};
@@ -105,21 +105,27 @@ fn events_go_by_rank_lead_and_other(rt: HostRuntime) {
     }
 }
 
-/// Whether this is the first line of a journal of so many events, and then what ends the line of an event of this rank.
-fn has_parts(alloc: Global, events: usize, rank: u32, text: &[u8]) -> Option<bool> {
-    let mut journal = journal_head(alloc, events).ok()?;
-    push_rank(&mut journal, rank).ok()?;
+/// The events of these agents and ranks.
+fn ranked_events(alloc: Global, rows: &[Row]) -> Option<Vec<RankedEvent>> {
+    let mut events = Vec::new(alloc);
+    for (lead, other, rank) in rows {
+        let event = event(alloc, *lead, *other)?;
+        events.push(RankedEvent { event, rank: *rank }).ok()?;
+    }
+    Some(events)
+}
+
+/// Whether this is the journal of the events of these agents and ranks.
+fn is_journal(alloc: Global, rows: &[Row], text: &[u8]) -> Option<bool> {
+    let events = ranked_events(alloc, rows)?;
+    let journal = journal_text(alloc, &events).ok()?;
     Some(journal.as_slice() == text)
 }
 
 #[test]
-fn a_journal_counts_its_events_and_tells_ranks(rt: HostRuntime) {
-    assert_eq!(rt;
-        has_parts(rt.alloc(), 0, 0, b"journal 0\n rank 0\n"),
-        Some(true)
-    );
-    assert_eq!(rt;
-        has_parts(rt.alloc(), 12, 305, b"journal 12\n rank 305\n"),
-        Some(true)
-    );
+fn a_journal_has_a_line_for_each_event(rt: HostRuntime) {
+    assert_eq!(rt; is_journal(rt.alloc(), &[], b"journal 0\n"), Some(true));
+    let rows = [(4, 5, 0), (3, 10, 12)];
+    let text = b"journal 2\n4 5 rank 0\n3 10 rank 12\n";
+    assert_eq!(rt; is_journal(rt.alloc(), &rows, text), Some(true));
 }
