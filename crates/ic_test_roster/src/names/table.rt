@@ -102,6 +102,44 @@ fn names_are_found_and_read_back(rt: HostRuntime) -> Result<(), Fail> {
     Ok(())
 }
 
+/// Texts of names of 0, 1, 16, 17, 32, 33 and 70 digits.
+const WRITTEN_NAMES: [&[u8]; 7] = [
+    b"65534",
+    b"0.3",
+    b"10.2.2.0.3.1.0.1.0.2.3.1.3.0.1.0.1",
+    b"10.2.2.0.3.1.0.1.0.2.3.1.3.0.1.0.1.3",
+    b"7.3.1.0.1.0.2.3.1.3.0.1.0.1.3.2.1.3.1.0.1.3.1.1.0.0.1.1.1.1.2.2.1",
+    b"7.3.1.0.1.0.2.3.1.3.0.1.0.1.3.2.1.3.1.0.1.3.1.1.0.0.1.1.1.1.2.2.1.1",
+    b"12.2.2.0.3.1.0.1.0.2.3.1.3.0.1.0.1.3.2.1.3.1.0.1.3.1.1.0.0.1.1.1.1.2.2.1.1.1.1.3.2.0.2.3.1.1.2.0.2.2.0.2.0.2.2.2.3.2.1.3.3.1.0.2.0.2.3.0.3.2.3",
+];
+
+/// Whether a name is written from its place in the table as this text, after what stands there already.
+fn is_written(alloc: Global, table: &mut NameTable, name: &AgentName, text: &[u8]) -> Option<bool> {
+    let Ok(id) = table.enter(name) else {
+        return None;
+    };
+    let mut written = vec![in alloc; b'>'; 1].ok()?;
+    table.write_to(id, &mut written).ok()?;
+    Some(written.strip_prefix(b">") == Some(text))
+}
+
+/// Whether the names that these texts write are written from their places in one table as the same texts.
+fn are_written(alloc: Global) -> Option<bool> {
+    let mut table = NameTable::new(alloc);
+    for text in &WRITTEN_NAMES {
+        let name = AgentName::read(alloc, text).ok()?;
+        if !is_written(alloc, &mut table, &name, text)? {
+            return Some(false);
+        }
+    }
+    Some(true)
+}
+
+#[test]
+fn names_are_written_from_their_places(rt: HostRuntime) {
+    assert_eq!(rt; are_written(rt.alloc()), Some(true));
+}
+
 /// Whether the names that two texts write compare in the table as they do by themselves.
 fn compare_alike(alloc: Global, table: &NameTable, a: &[u8], b: &[u8]) -> Option<bool> {
     let first = AgentName::read(alloc, a).ok()?;
