@@ -7,6 +7,7 @@ pub mod Bodies
 pub mod WordsListed
 pub mod WordsAbsorbing
 pub mod RequestWords
+pub mod AskedWords
 pub mod PlacesNamed
 pub mod WordsQuestioned
 pub mod FirstLines

@@ -6,19 +6,13 @@ use Rattle.std.proofs.lemmas.Slice.Eq.{bytes_eq-Decides}
 use Rattle.ic_name.specs.Events.{Pair}
 use Rattle.ic_command.specs.declared.command.Command.{Command}
 use Rattle.ic_command.specs.declared.command.Command.TheVariants.{Malformed, Reduce}
-use Rattle.ic_command.specs.Commands.{AreAgents, IsNumber, AreNumber, AreWordsOf, Asks, IsEventIn, is_comment, asked, malformed, no_words, comment, net, active, journal, undo_all, fire, undo, why, unwind, reduce}
+use Rattle.ic_command.specs.declared.command.Deed.{Deed}
+use Rattle.ic_command.specs.declared.command.Deed.TheVariants.{Fire, Undo, Why, Unwind}
+use Rattle.ic_command.specs.Commands.{AreAgents, IsNumber, AreNumber, AreWordsOf, Asks, deed_word, deed_command, is_comment, is_counted, is_paired, asked, malformed, no_words, comment, net, active, journal, undo_all, fire, undo, why, unwind, reduce}
 
 -- a word that asks for something by itself
 abbrev pub is_lone : List ℕ → Bool
 is_lone w = (bytes_eq w (codes "net") || bytes_eq w (codes "active")) || (bytes_eq w (codes "journal") || bytes_eq w (codes "undo-all"))
-
--- a word that asks for something with the names of two agents behind it
-abbrev pub is_paired : List ℕ → Bool
-is_paired w = (bytes_eq w (codes "fire") || bytes_eq w (codes "undo")) || (bytes_eq w (codes "why") || bytes_eq w (codes "unwind"))
-
--- the word that asks for something with a number behind it
-abbrev pub is_counted : List ℕ → Bool
-is_counted w = bytes_eq w (codes "reduce")
 
 -- a word that begins a command, with what may stand behind it
 data Says (w : List ℕ) (rest : List (List ℕ)) : Type 0 where
@@ -79,36 +73,34 @@ no_command w rest ws e plain not_lone not_paired not_counted =
     malformed (λ c a. elim (asks_says w rest ws c a e plain) [ lone h _ ↦ absurd cc | paired h _ ↦ absurd cc | counted h _ _ ↦ absurd cc ])
 
 -- words behind a word that takes none
-too_many : (w : List ℕ) (rest ws : List (List ℕ)) → ws ≡ w ∷ rest → is_comment w ≡ false → is_paired w ≡ false
+pub too_many : (w : List ℕ) (rest ws : List (List ℕ)) → ws ≡ w ∷ rest → is_comment w ≡ false → is_paired w ≡ false
     → is_counted w ≡ false → rest ≢ []
     → AreWordsOf ws Malformed
 too_many w rest ws e plain not_paired not_counted more =
     malformed (λ c a. elim (asks_says w rest ws c a e plain) [ lone _ none ↦ more none | paired h _ ↦ absurd cc | counted h _ _ ↦ absurd cc ])
 
--- a word that takes none, and what stands behind it
-pub asks_alone : (w t : List ℕ) (rest ws : List (List ℕ)) (c d : Command) → ws ≡ w ∷ rest → w ≡ t → is_comment t ≡ false
-    → is_paired t ≡ false → is_counted t ≡ false
-    → (rest ≡ [] → c ≡ d) → (rest ≢ [] → c ≡ Malformed) → Asks (t ∷ []) d → AreWordsOf ws c
-asks_alone w t [] ws c d e same plain not_paired not_counted none more a = asks_this w t [] ws c d e same (none refl) a
-asks_alone w t (v ∷ vs) ws c d e same plain not_paired not_counted none more a =
-    let some : v ∷ vs ≢ [] = λ h. cc in
-    let whole : ws ≡ t ∷ (v ∷ vs) = cc in
-    subst (λ x. AreWordsOf ws x) (sym (more some)) (too_many t (v ∷ vs) ws whole plain not_paired not_counted some)
+-- a word that takes none, alone
+pub asks_alone : (w t : List ℕ) (rest : List (List ℕ)) (c : Command) → w ≡ t → rest ≡ [] → Asks (t ∷ []) c → AreWordsOf (w ∷ rest) c
+asks_alone w t rest c same none a = asks_this w t rest (w ∷ rest) c c refl same refl (subst (λ us. Asks (t ∷ us) c) (sym none) a)
 
--- a word that takes the names of two agents, and what stands behind it
-pub asks_event : (w t : List ℕ) (rest ws : List (List ℕ)) (make : Pair → Command) (o : Option Pair) (e : Pair) (c : Command)
-    → ws ≡ w ∷ rest → w ≡ t
-    → IsEventIn rest o → o ≡ Some e → c ≡ make e → ((p : Pair) → AreAgents rest p → Asks (t ∷ rest) (make p)) → AreWordsOf ws c
-asks_event w t rest ws make o e c whole same is some here a = asks_this w t rest ws c (make e) whole same here (a e (subst (IsEventIn rest) some is))
+-- a deed and an event
+pub asks_deed : (d : Deed) (rest : List (List ℕ)) (e : Pair) → AreAgents rest e → AreWordsOf (deed_word d ∷ rest) (deed_command d e)
+asks_deed Fire rest e a = asked (fire a)
+asks_deed Undo rest e a = asked (undo a)
+asks_deed Why rest e a = asked (why a)
+asks_deed Unwind rest e a = asked (unwind a)
 
--- and where it names none
-pub asks_no_event : (w t : List ℕ) (rest ws : List (List ℕ)) (o : Option Pair) (c : Command) → ws ≡ w ∷ rest → w ≡ t
-    → is_comment t ≡ false → is_lone t ≡ false → is_counted t ≡ false
-    → IsEventIn rest o → o ≡ None → c ≡ Malformed → AreWordsOf ws c
-asks_no_event w t rest ws o c e same plain not_lone not_counted is none here =
-    let whole : ws ≡ t ∷ rest = cc in
-    let names_none : (p : Pair) → AreAgents rest p → ⊥ = subst (IsEventIn rest) none is in
-    subst (λ x. AreWordsOf ws x) (sym here) (malformed (λ d a. elim (asks_says t rest ws d a whole plain) [ lone h _ ↦ absurd cc | paired {e = p} h agents ↦ names_none p agents | counted h _ _ ↦ absurd cc ]))
+-- and where the words behind name no event
+asks_no_event : (t : List ℕ) (rest : List (List ℕ)) → is_comment t ≡ false → is_lone t ≡ false → is_counted t ≡ false
+    → ((p : Pair) → AreAgents rest p → ⊥) → AreWordsOf (t ∷ rest) Malformed
+asks_no_event t rest plain not_lone not_counted none =
+    malformed (λ d a. elim (asks_says t rest (t ∷ rest) d a refl plain) [ lone h _ ↦ absurd cc | paired {e = p} h agents ↦ none p agents | counted h _ _ ↦ absurd cc ])
+
+pub asks_no_deed : (d : Deed) (rest : List (List ℕ)) → ((p : Pair) → AreAgents rest p → ⊥) → AreWordsOf (deed_word d ∷ rest) Malformed
+asks_no_deed Fire rest none = asks_no_event (codes "fire") rest refl refl refl none
+asks_no_deed Undo rest none = asks_no_event (codes "undo") rest refl refl refl none
+asks_no_deed Why rest none = asks_no_event (codes "why") rest refl refl refl none
+asks_no_deed Unwind rest none = asks_no_event (codes "unwind") rest refl refl refl none
 
 -- the word that takes a number, and what stands behind it
 pub asks_number : (w : List ℕ) (rest ws : List (List ℕ)) (o : Option ℕ) (n : ℕ) (c : Command) → ws ≡ w ∷ rest

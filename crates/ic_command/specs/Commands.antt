@@ -1,6 +1,7 @@
 -- What a command line says.
 use Rattle.std.specs.Prelude.{◌≡◌, ◌≢◌, ◌≤◌, ℕ, ◌==◌, ◌||◌, ◌&&◌, nat_le, min, Bool, true, false, List, [], ◌∷◌, length, codes, Option, None, Some}
 use Rattle.std.specs.Fmt.{decimal}
+use Rattle.std.specs.Str.{bytes_eq}
 use Rattle.std.specs.List.{list_all}
 use Rattle.std.specs.Io.BufRead.{strip_last}
 use Rattle.ic_name.specs.Names.{Name, IsName}
@@ -10,6 +11,8 @@ use Rattle.ic_name.specs.declared.limits.TheConstants.{MAX_LINES}
 use Rattle.ic_command.specs.declared.command.TheConstants.{MAX_COMMAND}
 use Rattle.ic_command.specs.declared.command.Command.{Command}
 use Rattle.ic_command.specs.declared.command.Command.TheVariants.{Nothing, Net, Active, Journal, Fire, Undo, Why, Unwind, UndoAll, Reduce, Malformed}
+use Rattle.ic_command.specs.declared.command.Deed.{Deed}
+use Rattle.ic_command.specs.declared.command.Deed.TheVariants as deeds
 use Rattle.ic_command.specs.Words.{words}
 
 -- a byte that a command line may have
@@ -56,6 +59,28 @@ pub data Asks : List (List ℕ) → Command → Type 0 where
   why : {ws : List (List ℕ)} {e : Pair} → AreAgents ws e → Asks (codes "why" ∷ ws) (Why e)
   unwind : {ws : List (List ℕ)} {e : Pair} → AreAgents ws e → Asks (codes "unwind" ∷ ws) (Unwind e)
   reduce : {w : List ℕ} {n : ℕ} → IsNumber w n → Asks (codes "reduce" ∷ w ∷ []) (Reduce n)
+
+-- the words with the names of two agents behind them
+abbrev pub deed_word : Deed → List ℕ
+deed_word deeds.Fire = codes "fire"
+deed_word deeds.Undo = codes "undo"
+deed_word deeds.Why = codes "why"
+deed_word deeds.Unwind = codes "unwind"
+
+-- and what each asks for with an event
+abbrev pub deed_command : Deed → Pair → Command
+deed_command deeds.Fire e = Fire e
+deed_command deeds.Undo e = Undo e
+deed_command deeds.Why e = Why e
+deed_command deeds.Unwind e = Unwind e
+
+-- a word that asks for something with the names of two agents behind it
+abbrev pub is_paired : List ℕ → Bool
+is_paired w = (bytes_eq w (codes "fire") || bytes_eq w (codes "undo")) || (bytes_eq w (codes "why") || bytes_eq w (codes "unwind"))
+
+-- the word that asks for something with a number behind it
+abbrev pub is_counted : List ℕ → Bool
+is_counted w = bytes_eq w (codes "reduce")
 
 -- what words ask for, if they ask for anything
 pub data AreWordsOf : List (List ℕ) → Command → Type 0 where

@@ -1,5 +1,5 @@
 -- What a line of a session asks for: to mark what stands, to go back to a mark, or a command of the bench.
-use Rattle.std.specs.Prelude.{◌≡◌, ℕ, true, List, [], ◌∷◌, codes, Option, Some, None}
+use Rattle.std.specs.Prelude.{◌≡◌, ℕ, true, List, [], ◌∷◌, codes}
 use Rattle.std.specs.Io.BufRead.{strip_last}
 use Rattle.ic_command.specs.declared.command.Command.{Command}
 use Rattle.ic_command.specs.declared.request.Request.{Request}
@@ -13,11 +13,6 @@ use Rattle.ic_command.specs.Words.{words}
 pub data AsksMark : List (List ℕ) → Request → Type 0 where
   mark : {name : List ℕ} → IsMarkName name → AsksMark (codes "mark" ∷ name ∷ []) (Mark name)
   back : {name : List ℕ} → IsMarkName name → AsksMark (codes "back" ∷ name ∷ []) (Back name)
-
--- what the words ask for with a mark, if they do
-abbrev pub IsMarkRequestIn : List (List ℕ) → Option Request → Type 0
-IsMarkRequestIn ws (Some r) = AsksMark ws r
-IsMarkRequestIn ws None = (r : Request) → ¬ (AsksMark ws r)
 
 -- what words ask for
 pub data AreRequestWords (ws : List (List ℕ)) : Request → Type 0 where

@@ -1,12 +1,13 @@
-ghost use Rattle.std.specs.Prelude.{◌∷◌, IfOk};
-ghost use Rattle.ic_command.specs.Asked.{IsAbsorbIn, IsAsked};
+ghost use Rattle.std.specs.Prelude.{◌≡◌, ◌∷◌, IfOk, false};
+ghost use Rattle.ic_command.specs.Asked.{AreAskedWords, IsAsked};
+ghost use Rattle.ic_command.specs.Commands.{deed_word, is_paired};
 ghost use Rattle.ic_command.specs.Words.{words};
 
-use crate::command::{Command, number_in};
+use crate::command::{Command, Deed, alone_in, event_in, number_in};
 use crate::line_form::{is_well_formed, without_return};
-use crate::request::{Request, request_in};
+use crate::request::{Request, only_name_in};
 use crate::words::next_word;
-use ic_name::limits::MAX_ABSORBED;
+use ic_name::limits::{MAX_ABSORBED, MAX_LINES};
 use std::alloc::{AllocError, Global};
 
 /// What a line of a session asks for.
@@ -26,22 +27,62 @@ pub fn asked_of(alloc: Global, line: &[u8]) -> Result<Asked, AllocError>
     if !is_well_formed(body) {
         return Ok(Asked::Alone(Request::Bench(Command::Malformed)));
     }
-    let Some((word, behind)) = next_word(body) else {
-        return Ok(Asked::Alone(Request::Bench(Command::Nothing)));
-    };
-    match absorb_in(alloc, word, behind)? {
-        Some(count) => Ok(Asked::Absorb(count)),
-        None => Ok(Asked::Alone(request_in(alloc, word, behind)?)),
+    match next_word(body) {
+        Some((word, behind)) => asked_in(alloc, word, behind),
+        None => Ok(Asked::Alone(Request::Bench(Command::Nothing))),
     }
 }
 
-/// How many events a word and those after it ask to absorb; `None` if they don't.
-fn absorb_in(alloc: Global, word: &[u8], behind: &[u8]) -> Result<Option<u32>, AllocError>
-    ensures { IfOk result (λ count. IsAbsorbIn (word.now ∷ words behind.now) count) }
+/// What a word and those after it ask for.
+fn asked_in(alloc: Global, word: &[u8], behind: &[u8]) -> Result<Asked, AllocError>
+    ensures { IfOk result (λ asked. AreAskedWords (word.now ∷ words behind.now) asked) }
 {
-    if word == b"absorb".as_slice() {
-        number_in(alloc, behind, MAX_ABSORBED as u32)
-    } else {
-        Ok(None)
+    match Deed::of(word) {
+        Some(deed) => deed_in(alloc, deed, behind),
+        None => other_in(alloc, word, behind),
     }
+}
+
+/// What the word of a deed and those after it ask for.
+#[inline(never)]
+fn deed_in(alloc: Global, deed: Deed, behind: &[u8]) -> Result<Asked, AllocError>
+    ensures { IfOk result (λ asked. AreAskedWords (deed_word deed ∷ words behind.now) asked) }
+{
+    match event_in(alloc, behind)? {
+        Some(event) => Ok(Asked::Alone(Request::Bench(deed.with(event)))),
+        None => Ok(Asked::Alone(Request::Bench(Command::Malformed))),
+    }
+}
+
+/// What a word that names no deed and those after it ask for.
+#[inline(never)]
+fn other_in(alloc: Global, word: &[u8], behind: &[u8]) -> Result<Asked, AllocError>
+    requires { is_paired word.now ≡ false }
+    ensures { IfOk result (λ asked. AreAskedWords (word.now ∷ words behind.now) asked) }
+{
+    if word == b"reduce".as_slice() {
+        return match number_in(alloc, behind, MAX_LINES as u32)? {
+            Some(most) => Ok(Asked::Alone(Request::Bench(Command::Reduce(most)))),
+            None => Ok(Asked::Alone(Request::Bench(Command::Malformed))),
+        };
+    }
+    if word == b"absorb".as_slice() {
+        return match number_in(alloc, behind, MAX_ABSORBED as u32)? {
+            Some(count) => Ok(Asked::Absorb(count)),
+            None => Ok(Asked::Alone(Request::Bench(Command::Malformed))),
+        };
+    }
+    if word == b"mark".as_slice() {
+        return match only_name_in(alloc, behind)? {
+            Some(name) => Ok(Asked::Alone(Request::Mark(name))),
+            None => Ok(Asked::Alone(Request::Bench(Command::Malformed))),
+        };
+    }
+    if word == b"back".as_slice() {
+        return match only_name_in(alloc, behind)? {
+            Some(name) => Ok(Asked::Alone(Request::Back(name))),
+            None => Ok(Asked::Alone(Request::Bench(Command::Malformed))),
+        };
+    }
+    Ok(Asked::Alone(Request::Bench(alone_in(word, behind))))
 }

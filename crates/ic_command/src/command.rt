@@ -1,11 +1,9 @@
-ghost use Rattle.std.specs.Prelude.{◌≡◌, ◌≢◌, [], ◌∷◌, IfOk};
-ghost use Rattle.ic_command.specs.Commands.{AreNumberUpTo, AreWordsOf, IsEventIn, IsNameIn, IsNumberIn, within};
+ghost use Rattle.std.specs.Prelude.{◌≡◌, [], ◌∷◌, IfOk, MatchOption, false};
+ghost use Rattle.ic_command.specs.Commands.{AreNumberUpTo, AreWordsOf, IsEventIn, IsNameIn, IsNumberIn, deed_command, deed_word, is_counted, is_paired, within};
 ghost use Rattle.ic_command.specs.Words.{words};
-ghost use Rattle.ic_command.specs.declared.command.Command.TheVariants.{Malformed};
 
 use crate::line_form::is_comment;
 use crate::words::next_word;
-use ic_name::limits::MAX_LINES;
 use ic_name::{AgentName, EventName, NameFault};
 use std::alloc::{AllocError, Global};
 
@@ -51,63 +49,66 @@ impl Command {
     }
 }
 
-/// The command that a word and those after it ask for.
-pub(crate) fn command_of_words(
-    alloc: Global,
-    word: &[u8],
-    behind: &[u8],
-) -> Result<Command, AllocError>
-    ensures { IfOk result (λ command. AreWordsOf (word.now ∷ words behind.now) command) }
-{
-    if is_comment(word) {
-        return Ok(Command::Nothing);
+/// What is asked for with the names of two agents.
+#[derive(Clone, Copy)]
+pub(crate) enum Deed {
+    Fire,
+    Undo,
+    Why,
+    Unwind,
+}
+
+impl Deed {
+    /// The deed that a word asks for; `None` if it asks for none.
+    pub(crate) fn of(word: &[u8]) -> Option<Deed>
+        ensures { MatchOption result (is_paired word.now ≡ false) (λ deed. word.now ≡ deed_word deed) }
+    {
+        if word == b"fire".as_slice() {
+            Some(Deed::Fire)
+        } else if word == b"undo".as_slice() {
+            Some(Deed::Undo)
+        } else if word == b"why".as_slice() {
+            Some(Deed::Why)
+        } else if word == b"unwind".as_slice() {
+            Some(Deed::Unwind)
+        } else {
+            None
+        }
     }
-    if word == b"net".as_slice() {
-        Ok(alone(behind, Command::Net))
-    } else if word == b"active".as_slice() {
-        Ok(alone(behind, Command::Active))
-    } else if word == b"journal".as_slice() {
-        Ok(alone(behind, Command::Journal))
-    } else if word == b"undo-all".as_slice() {
-        Ok(alone(behind, Command::UndoAll))
-    } else if word == b"reduce".as_slice() {
-        Ok(match number_in(alloc, behind, MAX_LINES as u32)? {
-            Some(most) => Command::Reduce(most),
-            None => Command::Malformed,
-        })
-    } else if word == b"fire".as_slice() {
-        Ok(match event_in(alloc, behind)? {
-            Some(event) => Command::Fire(event),
-            None => Command::Malformed,
-        })
-    } else if word == b"undo".as_slice() {
-        Ok(match event_in(alloc, behind)? {
-            Some(event) => Command::Undo(event),
-            None => Command::Malformed,
-        })
-    } else if word == b"why".as_slice() {
-        Ok(match event_in(alloc, behind)? {
-            Some(event) => Command::Why(event),
-            None => Command::Malformed,
-        })
-    } else if word == b"unwind".as_slice() {
-        Ok(match event_in(alloc, behind)? {
-            Some(event) => Command::Unwind(event),
-            None => Command::Malformed,
-        })
-    } else {
-        Ok(Command::Malformed)
+
+    /// The command for an event.
+    pub(crate) fn with(self, event: EventName) -> Command
+        ensures { result ≡ deed_command self event }
+    {
+        match self {
+            Deed::Fire => Command::Fire(event),
+            Deed::Undo => Command::Undo(event),
+            Deed::Why => Command::Why(event),
+            Deed::Unwind => Command::Unwind(event),
+        }
     }
 }
 
-/// A command that takes no words.
-fn alone(behind: &[u8], command: Command) -> Command
-    ensures alone { words behind.now ≡ [] → result ≡ command }
-    ensures more { words behind.now ≢ [] → result ≡ Malformed }
+/// What a word and those after it ask for, if the word takes no words, or begins no command.
+pub(crate) fn alone_in(word: &[u8], behind: &[u8]) -> Command
+    requires paired { is_paired word.now ≡ false }
+    requires counted { is_counted word.now ≡ false }
+    ensures { AreWordsOf (word.now ∷ words behind.now) result }
 {
-    match next_word(behind) {
-        Some(_) => Command::Malformed,
-        None => command,
+    if is_comment(word) {
+        Command::Nothing
+    } else if next_word(behind).is_some() {
+        Command::Malformed
+    } else if word == b"net".as_slice() {
+        Command::Net
+    } else if word == b"active".as_slice() {
+        Command::Active
+    } else if word == b"journal".as_slice() {
+        Command::Journal
+    } else if word == b"undo-all".as_slice() {
+        Command::UndoAll
+    } else {
+        Command::Malformed
     }
 }
 
