@@ -1,12 +1,12 @@
 -- What the words of a line ask for, told by the first of them.
-use Rattle.std.proofs.Common.{◌≡◌, ℕ, true, false, List, [], ◌∷◌, refl, sym, subst}
+use Rattle.std.proofs.Common.{◌≡◌, ℕ, true, false, List, ◌∷◌, refl, sym, subst}
 use Rattle.std.specs.Prelude.{codes, Option, Some, None}
 use Rattle.std.specs.Io.BufRead.{strip_last}
 use Rattle.std.specs.Str.{bytes_eq}
 use Rattle.ic_name.specs.Events.{Pair}
 use Rattle.ic_name.specs.declared.limits.TheConstants.{MAX_ABSORBED}
 use Rattle.ic_command.specs.Asked.{AreAskedWords, AsksAbsorb, IsAsked, of_absorb, of_request, to_absorb, to_request}
-use Rattle.ic_command.specs.Commands.{AreNumber, AreNumberUpTo, AreWordsOf, IsEventIn, deed_command, deed_word, is_comment, is_counted, is_paired, is_well_formed}
+use Rattle.ic_command.specs.Commands.{AreNumber, AreNumberUpTo, AreWordsOf, IsEventIn, deed_command, deed_word, is_well_formed}
 use Rattle.ic_command.specs.MarkNames.{IsOnlyName}
 use Rattle.ic_command.specs.Requests.{for_bench, for_mark}
 use Rattle.ic_command.specs.Words.{words}

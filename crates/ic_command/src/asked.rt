@@ -27,16 +27,9 @@ pub fn asked_of(alloc: Global, line: &[u8]) -> Result<Asked, AllocError>
     if !is_well_formed(body) {
         return Ok(Asked::Alone(Request::Bench(Command::Malformed)));
     }
-    match next_word(body) {
-        Some((word, behind)) => asked_in(alloc, word, behind),
-        None => Ok(Asked::Alone(Request::Bench(Command::Nothing))),
-    }
-}
-
-/// What a word and those after it ask for.
-fn asked_in(alloc: Global, word: &[u8], behind: &[u8]) -> Result<Asked, AllocError>
-    ensures { IfOk result (λ asked. AreAskedWords (word.now ∷ words behind.now) asked) }
-{
+    let Some((word, behind)) = next_word(body) else {
+        return Ok(Asked::Alone(Request::Bench(Command::Nothing)));
+    };
     match Deed::of(word) {
         Some(deed) => deed_in(alloc, deed, behind),
         None => other_in(alloc, word, behind),

@@ -63,16 +63,12 @@ impl Deed {
     pub(crate) fn of(word: &[u8]) -> Option<Deed>
         ensures { MatchOption result (is_paired word.now ≡ false) (λ deed. word.now ≡ deed_word deed) }
     {
-        if word == b"fire".as_slice() {
-            Some(Deed::Fire)
-        } else if word == b"undo".as_slice() {
-            Some(Deed::Undo)
-        } else if word == b"why".as_slice() {
-            Some(Deed::Why)
-        } else if word == b"unwind".as_slice() {
-            Some(Deed::Unwind)
-        } else {
-            None
+        match word {
+            b"fire" => Some(Deed::Fire),
+            b"undo" => Some(Deed::Undo),
+            b"why" => Some(Deed::Why),
+            b"unwind" => Some(Deed::Unwind),
+            _ => None,
         }
     }
 
@@ -113,6 +109,7 @@ pub(crate) fn alone_in(word: &[u8], behind: &[u8]) -> Command
 }
 
 /// The event that the words of a line name; `None` if they aren't the names of two agents.
+#[inline(always)]
 pub(crate) fn event_in(alloc: Global, line: &[u8]) -> Result<Option<EventName>, AllocError>
     ensures { IfOk result (λ event. IsEventIn (words line.now) event) }
 {
@@ -129,6 +126,7 @@ pub(crate) fn event_in(alloc: Global, line: &[u8]) -> Result<Option<EventName>, 
 }
 
 /// The event that two words name; `None` if they aren't the names of two agents.
+#[inline(always)]
 pub(crate) fn event_of(
     alloc: Global,
     first: &[u8],

@@ -26,7 +26,19 @@ pub fn is_plain(byte: u8) -> bool
 pub fn are_plain(body: &[u8]) -> bool
     ensures { result ≡ list_all is_plain body.now }
 {
-    body.iter().all(|byte| is_plain(*byte))
+    let mut at = 0;
+    loop {
+        while at < body.len() && matches!(body[at], b' '..=b'~') {
+            at += 1;
+        }
+        if at >= body.len() {
+            return true;
+        }
+        if body[at] != b'\t' {
+            return false;
+        }
+        at += 1;
+    }
 }
 
 /// Whether a line without its end is no longer than a command may be, and has no other bytes than one may have.
@@ -40,8 +52,5 @@ pub(crate) fn is_well_formed(body: &[u8]) -> bool
 pub fn is_comment(word: &[u8]) -> bool
     ensures { result ≡ is_comment word.now }
 {
-    match word {
-        [] => false,
-        [byte, ..] => *byte == b'#',
-    }
+    matches!(word, [b'#', ..])
 }

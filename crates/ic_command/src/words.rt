@@ -8,12 +8,6 @@ fn is_blank(byte: u8) -> bool
     byte == b' ' || byte == b'\t'
 }
 
-fn is_solid(byte: u8) -> bool
-    ensures { result ≡ is_solid byte }
-{
-    !is_blank(byte)
-}
-
 #[tactic(auto, using(crate::proofs::WordFacts::prefix_within))]
 fn blanks(bytes: &[u8]) -> usize
     ensures value { result ≡ prefix_len is_blank bytes.now }
@@ -27,7 +21,7 @@ fn solids(bytes: &[u8]) -> usize
     ensures value { result ≡ prefix_len is_solid bytes.now }
     ensures within { result ≤ length bytes.now }
 {
-    bytes.iter().take_while(|byte| is_solid(**byte)).count()
+    bytes.iter().take_while(|byte| !is_blank(**byte)).count()
 }
 
 /// The first word of a line, and what stands after it.

@@ -2,13 +2,6 @@ ghost use Rattle.std.specs.Prelude.{◌≡◌, ◌≤◌, length};
 ghost use Rattle.std.specs.List.{prefix_len};
 ghost use Rattle.ic_command.specs.Lines.{first_line, goes_on};
 
-/// Whether the byte is no line feed.
-fn goes_on(byte: u8) -> bool
-    ensures { result ≡ goes_on byte }
-{
-    byte != b'\n'
-}
-
 /// The number of bytes before the first line feed, or of all.
 #[tactic(auto, using(crate::proofs::FirstLines::prefix_is, crate::proofs::FirstLines::first_within))]
 pub(crate) fn line_len(bytes: &[u8]) -> usize
@@ -21,5 +14,5 @@ pub(crate) fn line_len(bytes: &[u8]) -> usize
 fn front_len(bytes: &[u8]) -> usize
     ensures { result ≡ prefix_len goes_on bytes.now }
 {
-    bytes.iter().take_while(|byte| goes_on(**byte)).count()
+    bytes.iter().take_while(|byte| **byte != b'\n').count()
 }

@@ -1,6 +1,5 @@
 use Rattle.std.proofs.Common.{◌≡◌, false, refl}
 use Rattle.std.specs.Prelude.{codes}
-use Rattle.std.specs.Str.{bytes_eq}
 use Rattle.ic_command.specs.Words.{words}
 use Rattle.ic_command.proofs.AskedWords.{asked_absorb, asked_back, asked_bench, asked_mark, asked_no_absorb, asked_no_mark, asked_no_reduce, asked_reduce}
 use Rattle.ic_command.proofs.MarksAsked.{is_marking}

@@ -1,4 +1,4 @@
-use Rattle.std.proofs.Common.{◌≡◌, ◌≢◌, ◌∷◌, true, false, [], refl, sym, ◌∙◌, rules}
+use Rattle.std.proofs.Common.{◌≡◌, ◌≢◌, true, false, [], refl, sym, ◌∙◌, rules}
 use Rattle.std.specs.Prelude.{codes}
 use Rattle.ic_command.specs.Commands.{is_comment, asked, comment, net, active, journal, undo_all}
 use Rattle.ic_command.specs.Words.{words}
