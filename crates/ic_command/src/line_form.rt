@@ -22,7 +22,7 @@ pub fn is_plain(byte: u8) -> bool
     matches!(byte, b' '..=b'~' | b'\t')
 }
 
-/// Whether a command may have these bytes.
+/// Whether a command may have these bytes. One comparison tells all of them but tabs.
 pub fn are_plain(body: &[u8]) -> bool
     ensures { result ≡ list_all is_plain body.now }
 {
