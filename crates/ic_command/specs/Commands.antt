@@ -23,6 +23,7 @@ is_plain b = (nat_le 32 b && nat_le b 126) || (b == 9)
 abbrev pub is_well_formed : List ℕ → Bool
 is_well_formed line = nat_le (length line) MAX_COMMAND && list_all is_plain line
 
+-- a word that begins a comment
 abbrev pub is_comment : List ℕ → Bool
 is_comment [] = false
 is_comment (b ∷ bs) = b == 35
