@@ -20,7 +20,7 @@ use crate::statuses::{
 use clap::Error;
 use clap::error::ErrorKind;
 use ic_command::{Input, Output, write_reply};
-use ic_session::{Fault, Gate, MAX_READS, MAX_WORKERS, Setting, Status, run_session};
+use ic_session::{Fault, Gate, MAX_READS, MAX_WORKERS, NoGate, Setting, Status, run_session};
 use std::alloc::Global;
 use std::convert::AsStr;
 use std::fs::Files;
@@ -29,7 +29,8 @@ use std::io::{Read, Write};
 use std::sync::Wait;
 use std::thread::Threads;
 
-/// What the program runs on besides its streams: threads, memory, files, and a gate that sees each commit.
+/// What the program runs on besides its streams: threads, memory, files, and a gate that sees each commit of a session that
+/// explains itself.
 #[derive(Drop)]
 pub struct Host<'a, T, G, F> {
     pub threads: &'a T,
@@ -126,7 +127,8 @@ fn run<R: Read, W: Write, E: Write, T: Threads + Wait + Sync, G: Gate, F: Files>
     }
 }
 
-/// Runs a session over an input, and answers how it ended. So many lines were read ahead.
+/// Runs a session over an input, and answers how it ended. So many lines were read ahead. Only a session that explains itself is
+/// heard: it writes to `errors`, and the gate sees its commits.
 fn session<R: Read, W: Write, E: Write, T: Threads + Wait + Sync, G: Gate, F: Files>(
     host: &Host<'_, T, G, F>,
     options: Options,
@@ -155,9 +157,16 @@ fn session<R: Read, W: Write, E: Write, T: Threads + Wait + Sync, G: Gate, F: Fi
     if mode.explains {
         return run_session(&setting, &mut input, reader, &mut output, writer, errors);
     }
+    let silent = Setting {
+        threads: host.threads,
+        alloc: host.alloc,
+        gate: &NoGate,
+        mode,
+        prompts: options.prompts(ahead),
+    };
     let mut unheard: Vec<u8> = Vec::new(host.alloc);
     run_session(
-        &setting,
+        &silent,
         &mut input,
         reader,
         &mut output,

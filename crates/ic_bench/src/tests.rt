@@ -1,9 +1,10 @@
 use crate::program::{Host, refuse_words, run_program};
-use ic_session::NoGate;
+use ic_session::{Gate, NoGate};
 use std::alloc::Global;
 use std::fs::Files;
 use std::io::{ErrorKind, Read, Write};
 use std::sync::Wait;
+use std::sync::atomic::{AtomicU64, Ordering};
 use std::test::Fail;
 use std::thread::Threads;
 use std::{io, str};
@@ -393,4 +394,42 @@ fn words_that_cannot_be_read(rt: HostRuntime) {
     let wanting = io::Error::from(ErrorKind::OutOfMemory);
     assert!(rt; refuse_words(&wanting, &mut said) == 3);
     assert!(rt; said.as_slice() == b"icbench: no memory\n".as_slice());
+}
+
+/// A gate that counts the commits that it sees.
+#[derive(Drop)]
+struct Counter {
+    commits: AtomicU64,
+}
+
+impl Gate for Counter {
+    fn before_commit(&self, _worker: usize, _ticket: u64) {}
+
+    fn after_commit(&self, _worker: usize, _ticket: u64) {
+        self.commits.fetch_add(1, Ordering::Relaxed);
+    }
+}
+
+/// How many commits the program's gate sees if it is run on these words and reduces by three events.
+fn commits_seen(rt: &HostRuntime, words: &[&str]) -> u64 {
+    let counter = Counter {
+        commits: AtomicU64::new(0),
+    };
+    let host = Host {
+        threads: rt,
+        alloc: rt.alloc(),
+        files: rt,
+        gate: &counter,
+    };
+    let mut reader: &[u8] = b"G(x,a) = D(x,b);\n---\nreduce 3\n";
+    let mut written = Vec::new(rt.alloc());
+    let mut said = Vec::new(rt.alloc());
+    let _ = run_program(&host, words, &mut reader, &mut written, &mut said);
+    counter.commits.load(Ordering::Relaxed)
+}
+
+#[test]
+fn only_a_session_that_explains_itself_tells_of_commits(rt: HostRuntime) {
+    assert_eq!(rt; commits_seen(&rt, &["icbench"]), 0);
+    assert_eq!(rt; commits_seen(&rt, &["icbench", "--explain"]), 3);
 }
