@@ -1,5 +1,5 @@
 use ic_name::{AgentId, AgentName, Kind};
-use ic_roster::Roster;
+use ic_roster::{PlacedAgent, Roster};
 use std::alloc::Global;
 
 /// Enters an agent of the name that a text writes. It is `None` where the agent is there already, and where the text is
@@ -167,20 +167,20 @@ const IN_ORDER: [&[u8]; 5] = [
     b"7.1.2.3.0.1.2.3.0.1.2.3.0.1.2.3.0.1.3",
 ];
 
-/// Whether these are the ids of the agents of the names that the texts write, in this order.
-fn are_of(alloc: Global, roster: &Roster, ids: &[AgentId], texts: &[&[u8]]) -> bool {
-    for (id, text) in ids.iter().zip(texts) {
-        if !finds(alloc, roster, text, Some(*id)) {
+/// Whether these are the agents of the names that the texts write, in this order.
+fn are_of(alloc: Global, roster: &Roster, agents: &[PlacedAgent], texts: &[&[u8]]) -> bool {
+    for (agent, text) in agents.iter().zip(texts) {
+        if !finds(alloc, roster, text, Some(agent.id)) {
             return false;
         }
     }
-    ids.len() == texts.len()
+    agents.len() == texts.len()
 }
 
 /// Whether the agents of the names that the texts write are listed, in this order.
 fn are_listed(alloc: Global, roster: &Roster, texts: &[&[u8]]) -> bool {
     match roster.in_order(alloc) {
-        Ok(ids) => are_of(alloc, roster, ids.as_slice(), texts),
+        Ok(agents) => are_of(alloc, roster, agents.as_slice(), texts),
         Err(_) => false,
     }
 }
