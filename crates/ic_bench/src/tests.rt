@@ -411,25 +411,25 @@ impl Gate for Counter {
 }
 
 /// How many commits the program's gate sees if it is run on these words and reduces by three events.
-fn commits_seen(rt: &HostRuntime, words: &[&str]) -> u64 {
+fn commits_seen<T: Threads + Wait + Sync + Files>(rt: &T, alloc: Global, words: &[&str]) -> u64 {
     let counter = Counter {
         commits: AtomicU64::new(0),
     };
     let host = Host {
         threads: rt,
-        alloc: rt.alloc(),
+        alloc,
         files: rt,
         gate: &counter,
     };
     let mut reader: &[u8] = b"G(x,a) = D(x,b);\n---\nreduce 3\n";
-    let mut written = Vec::new(rt.alloc());
-    let mut said = Vec::new(rt.alloc());
+    let mut written = Vec::new(alloc);
+    let mut said = Vec::new(alloc);
     let _ = run_program(&host, words, &mut reader, &mut written, &mut said);
     counter.commits.load(Ordering::Relaxed)
 }
 
 #[test]
 fn only_a_session_that_explains_itself_tells_of_commits(rt: HostRuntime) {
-    assert_eq!(rt; commits_seen(&rt, &["icbench"]), 0);
-    assert_eq!(rt; commits_seen(&rt, &["icbench", "--explain"]), 3);
+    assert_eq!(rt; commits_seen(&rt, rt.alloc(), &["icbench"]), 0);
+    assert_eq!(rt; commits_seen(&rt, rt.alloc(), &["icbench", "--explain"]), 3);
 }
