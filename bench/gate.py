@@ -187,7 +187,7 @@ def print_over_budget(sums, selftests):
     """Names the parts that took more than their scaled budget, and those that have none."""
     budgets, parts = read_budgets(), collections.Counter()
     factor = selftests.factor(budgets[SELFTEST, "proof"])
-    print(f"\nbudgets times {factor:.2f}, by {len(selftests.used)} selftests beside the gate")
+    print(f"\nbudgets times {factor:.2f}; selftests beside the gate: {len(selftests.used)}")
     for (crate, part, _), used in sums.items():
         parts[crate, part] += used
     for (crate, part), used in sorted(parts.items()):
