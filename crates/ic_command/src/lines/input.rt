@@ -61,10 +61,8 @@ impl Input {
             Ok(count) => {
                 self.start = 0;
                 self.buffer.clear();
-                match self.buffer.extend_from_slice(&chunk[..count]) {
-                    Ok(()) => Ok(count > 0),
-                    Err(_) => Err(IoFault::Memory),
-                }
+                self.buffer.extend_from_slice(&chunk[..count])?;
+                Ok(count > 0)
             }
             Err(_) => {
                 self.reads = 0;
@@ -141,10 +139,7 @@ impl Input {
         if most - line.len() < count {
             return Ok(Front::TooLong);
         }
-        match line.extend_from_slice(&bytes[..count]) {
-            Ok(()) => {}
-            Err(_) => return Err(IoFault::Memory),
-        }
+        line.extend_from_slice(&bytes[..count])?;
         if found {
             self.start += count + 1;
             Ok(Front::Whole)
