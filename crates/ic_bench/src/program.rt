@@ -1,4 +1,4 @@
-ghost use Rattle.std.specs.Prelude.{◌≡◌, ◌≢◌, ◌<◌, ◌≤◌, ℕ, false, List, [], IfOk, IfSome, OnErr, map};
+ghost use Rattle.std.specs.Prelude.{◌≡◌, ◌≢◌, ℕ, false, List, [], IfOk, IfSome, OnErr, map};
 ghost use Rattle.std.specs.Io.KnownBytes.{Appends};
 ghost use Rattle.std.specs.IoError.{error_kind};
 ghost use Rattle.std.specs.declared.io.ErrorKind.TheVariants as io_kinds;
@@ -20,7 +20,7 @@ use crate::statuses::{
 use clap::Error;
 use clap::error::ErrorKind;
 use ic_command::{Input, Output, write_reply};
-use ic_session::{Fault, Gate, MAX_READS, MAX_WORKERS, NoGate, Setting, Status, run_session};
+use ic_session::{Fault, Gate, MAX_READS, NoGate, Setting, Sink, Source, Status, run_session};
 use std::alloc::Global;
 use std::convert::AsStr;
 use std::fs::Files;
@@ -37,6 +37,21 @@ pub struct Host<'a, T, G, F> {
     pub alloc: Global,
     pub files: &'a F,
     pub gate: &'a G,
+}
+
+impl<'a, T, G, F> Host<'a, T, G, F> {
+    /// How a session with these options is run, when so many lines were read ahead.
+    fn setting(&self, options: Options, ahead: u64) -> Setting<'a, T, G>
+        ensures { result.mode ≡ mode_of options }
+    {
+        Setting {
+            threads: self.threads,
+            alloc: self.alloc,
+            gate: self.gate,
+            mode: options.mode(),
+            prompts: options.prompts(ahead),
+        }
+    }
 }
 
 /// Runs the program on the words of a command line, and answers its exit status. What is said of a fault goes to
@@ -70,7 +85,6 @@ fn run_asked<R: Read, W: Write, E: Write, T: Threads + Wait + Sync, G: Gate, F: 
     writer: &mut W,
     errors: &mut E,
 ) -> u8
-    requires { (0 < asked.now.options.workers) × (asked.now.options.workers ≤ MAX_WORKERS) }
     ensures input { map (λ file. file.now) asked.now.files.items ≡ [] → RunsSession asked.now.options (R.remaining reader.old) (record { before = W.contents writer.old; after = W.contents writer.new }) (record { before = E.contents errors.old; after = E.contents errors.new }) result }
     ensures files { RunsFiles asked.now.options (map (λ file. file.now) asked.now.files.items) (record { before = W.contents writer.old; after = W.contents writer.new }) (record { before = E.contents errors.old; after = E.contents errors.new }) result }
 {
@@ -88,14 +102,14 @@ fn run_files<R: Read, W: Write, E: Write, T: Threads + Wait + Sync, G: Gate, F: 
     writer: &mut W,
     errors: &mut E,
 ) -> u8
-    requires { (0 < asked.now.options.workers) × (asked.now.options.workers ≤ MAX_WORKERS) }
     ensures { RunsFiles asked.now.options (map (λ file. file.now) asked.now.files.items) (record { before = W.contents writer.old; after = W.contents writer.new }) (record { before = E.contents errors.old; after = E.contents errors.new }) result }
 {
     let options = asked.options;
     let files = &asked.files;
     let mut sources = Sources::new(host.alloc, host.files, files, reader, options.interactive);
     let ahead = sources.read_ahead(host.alloc);
-    match session(host, options, ahead, &mut sources, writer, errors) {
+    let setting = host.setting(options, ahead);
+    match session(&setting, &mut sources, writer, errors) {
         Ok(status) => session_status(status),
         Err(fault) => {
             if fault == Fault::Read {
@@ -118,61 +132,47 @@ fn run<R: Read, W: Write, E: Write, T: Threads + Wait + Sync, G: Gate, F: Files>
     writer: &mut W,
     errors: &mut E,
 ) -> u8
-    requires { (0 < options.workers) × (options.workers ≤ MAX_WORKERS) }
     ensures { RunsSession options (R.remaining reader.old) (record { before = W.contents writer.old; after = W.contents writer.new }) (record { before = E.contents errors.old; after = E.contents errors.new }) result }
 {
-    match session(host, options, 0, reader, writer, errors) {
+    let setting = host.setting(options, 0);
+    match session(&setting, reader, writer, errors) {
         Ok(status) => session_status(status),
         Err(fault) => fail(fault, errors),
     }
 }
 
-/// Runs a session over an input, and answers how it ended. So many lines were read ahead. Only a session that explains itself is
-/// heard: it writes to `errors`, and the gate sees its commits.
-fn session<R: Read, W: Write, E: Write, T: Threads + Wait + Sync, G: Gate, F: Files>(
-    host: &Host<'_, T, G, F>,
-    options: Options,
-    ahead: u64,
+/// Runs a session over an input, and answers how it ended. Only a session that explains itself is heard: it writes to `errors`,
+/// and the gate sees its commits.
+fn session<R: Read, W: Write, E: Write, T: Threads + Wait + Sync, G: Gate>(
+    setting: &Setting<'_, T, G>,
     reader: &mut R,
     writer: &mut W,
     errors: &mut E,
 ) -> Result<Status, Fault>
-    requires { (0 < options.workers) × (options.workers ≤ MAX_WORKERS) }
-    ensures wrote { IfOk result (λ status. IfSome (R.remaining reader.old) (λ bytes. Writes (mode_of options) bytes status (W.contents writer.old) (W.contents writer.new))) }
-    ensures began { OnErr result (IfSome (R.remaining reader.old) (λ bytes. (text : List ℕ) × IsBegun (mode_of options) bytes text × Appends (W.contents writer.old) (W.contents writer.new) text)) }
-    ensures silent { (mode_of options).explains ≡ false → E.contents errors.new ≡ E.contents errors.old }
+    ensures wrote { IfOk result (λ status. IfSome (R.remaining reader.old) (λ bytes. Writes setting.now.mode bytes status (W.contents writer.old) (W.contents writer.new))) }
+    ensures began { OnErr result (IfSome (R.remaining reader.old) (λ bytes. (text : List ℕ) × IsBegun setting.now.mode bytes text × Appends (W.contents writer.old) (W.contents writer.new) text)) }
+    ensures silent { setting.now.mode.explains ≡ false → E.contents errors.new ≡ E.contents errors.old }
 {
-    let mode = options.mode();
-    let Ok(mut input) = Input::new(host.alloc, MAX_READS) else {
+    let Ok(input) = Input::new(setting.alloc, MAX_READS) else {
         return Err(Fault::Memory);
     };
-    let mut output = Output::new();
-    let setting = Setting {
-        threads: host.threads,
-        alloc: host.alloc,
-        gate: host.gate,
-        mode,
-        prompts: options.prompts(ahead),
+    let mut source = Source::new(setting.alloc, input, reader);
+    let mut sink = Sink {
+        writer,
+        output: Output::new(),
     };
-    if mode.explains {
-        return run_session(&setting, &mut input, reader, &mut output, writer, errors);
+    if setting.mode.explains {
+        return run_session(setting, &mut source, &mut sink, errors);
     }
     let silent = Setting {
-        threads: host.threads,
-        alloc: host.alloc,
+        threads: setting.threads,
+        alloc: setting.alloc,
         gate: &NoGate,
-        mode,
-        prompts: options.prompts(ahead),
+        mode: setting.mode,
+        prompts: setting.prompts,
     };
-    let mut unheard: Vec<u8> = Vec::new(host.alloc);
-    run_session(
-        &silent,
-        &mut input,
-        reader,
-        &mut output,
-        writer,
-        &mut unheard,
-    )
+    let mut unheard: Vec<u8> = Vec::new(setting.alloc);
+    run_session(&silent, &mut source, &mut sink, &mut unheard)
 }
 
 /// Says that a file can't be read, and answers the status.

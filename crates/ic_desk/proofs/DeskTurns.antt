@@ -78,12 +78,20 @@ bench_turns old new marks c text t = record {
   replies = λ st at. (let r = t.replies st.bench at.bench in (record st { bench = r.0 }, of_bench r.1, record { bench = r.2; marks = at.marks }));
 }
 
--- and what it is answered, or that there is no memory for it
-pub bench_answer : {E : Type 0} (old new : BenchView) (marks : List NamedView) (c : Command) (r : Result Answer E)
+-- the start stays, whatever the answer
+pub command_start : {E : Type 0} (old new : BenchView) (c : Command) (r : Result Answer E)
+    → MatchResult r (λ a. bench.TurnsByCommand old c (answer_text a) new) (λ _. new.start ≡ old.start) → new.start ≡ old.start
+command_start old new c (Ok a) h = h.start
+command_start old new c (Err e) h = h
+
+-- and what a desk is answered that asks for it
+pub bench_answer : {E : Type 0} (v : DeskView) (q : Request) (old new : BenchView) (marks : List NamedView) (c : Command) (r : Result Answer E) → desk_of old marks ≡ v → q ≡ Bench c
     → MatchResult r (λ a. bench.TurnsByCommand old c (answer_text a) new) (λ _. new.start ≡ old.start)
-    → MatchResult r (λ a. TurnsByRequest (desk_of old marks) (Bench c) (answer_text a) (desk_of new marks)) (λ _. new.start ≡ old.start)
-bench_answer old new marks c (Ok a) h = bench_turns old new marks c (answer_text a) h
-bench_answer old new marks c (Err e) h = h
+    → IfOk r (λ a. TurnsByRequest v q (answer_text a) (desk_of new marks))
+bench_answer v q old new marks c (Ok a) is asks h =
+    subst (λ (w : DeskView). TurnsByRequest w q (answer_text a) (desk_of new marks)) is
+    (subst (λ (p : Request). TurnsByRequest (desk_of old marks) p (answer_text a) (desk_of new marks)) (sym asks) (bench_turns old new marks c (answer_text a) h))
+bench_answer v q old new marks c (Err e) is asks h = tt
 
 module _ (v : BenchView) (marks : List NamedView) (name : List ℕ) where
   -- what stands is marked

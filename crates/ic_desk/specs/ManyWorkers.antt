@@ -19,10 +19,6 @@ pub data RepliesWith (workers : ℕ) (s : Start) (st : State) : Request → List
   swept : {most n : ℕ} {end : End} {next : machine.State} → 1 < workers → IsSwept s st.bench most n end next
       → RepliesWith workers s st (Bench (Reduce most)) (end_text n end) (record st { bench = next })
 
--- a request to reduce, which a sweep may answer
-abbrev pub IsReduction : Request → Type 0
-IsReduction r = (most : ℕ) × (r ≡ Bench (Reduce most))
-
 -- the answer to what a line asks for, and the desk after it, where there are so many workers
 pub record TurnsWith (workers : ℕ) (old : DeskView) (r : Request) (text : List ℕ) (new : DeskView) : Type 0 where
   pub start : new.bench.start ≡ old.bench.start

@@ -1,14 +1,12 @@
-ghost use Rattle.std.specs.Prelude.{◌≡◌, ◌<◌, ◌≤◌, List, length, IfErr, IfOk, MatchResult, OnErr};
+ghost use Rattle.std.specs.Prelude.{◌≡◌, ◌<◌, List, length, IfOk, OnErr};
 ghost use Rattle.ic_set.specs.Pairs.{AreActivePairs};
 ghost use Rattle.ic_set.specs.declared.pairs.ActivePair.{ActivePair as APair};
 ghost use Rattle.ic_journal.specs.Views.{set_of};
 ghost use Rattle.ic_answer.specs.Changed.{HasChanged};
-ghost use Rattle.ic_answer.specs.Longer.{IsLonger};
 ghost use Rattle.ic_answer.specs.Texts.{answer_text};
 ghost use Rattle.ic_command.specs.declared.command.Command.TheVariants.{Reduce};
 ghost use Rattle.ic_command.specs.declared.request.Request.TheVariants as request;
-ghost use Rattle.ic_desk.specs.declared.fault.DeskFault.TheVariants.{Settle};
-ghost use Rattle.ic_desk.specs.ManyWorkers.{IsReduction, TurnsWith};
+ghost use Rattle.ic_desk.specs.ManyWorkers.{TurnsWith};
 ghost use Rattle.ic_desk.specs.Views.{IsOver, TurnsByRequest};
 
 use crate::absorbing::absorb_events;
@@ -17,10 +15,10 @@ use crate::going_back::go_back;
 use crate::marking::mark_under;
 use crate::named_mark::NamedMark;
 use ic_answer::{Answer, Refused, carry_out, end_answer};
-use ic_command::{Command, Request};
+use ic_command::Request;
 use ic_journal::{Bench, Gate, LinkStore, Store};
 use ic_start::Start;
-use ic_work::{MAX_BUDGET, MAX_WORKERS, SweepFault, sweep};
+use ic_work::{SweepFault, SweepSize, sweep};
 use std::alloc::{AllocError, Global};
 use std::marker::Model;
 use std::sync::Wait;
@@ -80,13 +78,7 @@ impl<L: LinkStore> Desk<L> {
         ensures changed { OnErr result (HasChanged self.old.bench self.new.bench) }
     {
         match request {
-            Request::Bench(command) => carry_out_command(
-                alloc,
-                &mut self.bench,
-                &self.marks,
-                command,
-                gate,
-            ),
+            Request::Bench(command) => carry_out(alloc, &mut self.bench, command, gate),
             Request::Mark(name) => Ok(mark_under(alloc, &self.bench, &mut self.marks, name)),
             Request::Back(name) => go_back(alloc, &mut self.bench, &mut self.marks, &name),
             Request::Absorb(names) => absorb_events(alloc, &mut self.bench, &self.marks, &names),
@@ -95,54 +87,23 @@ impl<L: LinkStore> Desk<L> {
 }
 
 impl Desk<Store> {
-    /// Answers a request as `carry_out` does, but that a `reduce` by two workers or more, of 64 at most, is a sweep;
-    /// the desk comes back with the answer.
-    ///
-    /// `DeskFault::Memory` if other events stand than before and there is no memory for the answer. `DeskFault::Settle` if
-    /// the workers' passes aren't what the history says, which takes a `reduce` and two workers or more. The desk is gone then.
-    pub fn carry_out_with<T: Threads + Wait + Sync, G: Gate>(
-        mut self,
-        threads: &T,
-        alloc: Global,
-        workers: u32,
-        request: Request,
-        gate: &G,
-    ) -> Result<(Desk<Store>, Answer), DeskFault>
-        requires { (0 < workers) × (workers ≤ MAX_WORKERS) }
-        ensures turns { IfOk result (λ r. TurnsWith workers self request (answer_text r.1) r.0) }
-        ensures settle { IfErr result (λ fault. fault ≡ Settle → (1 < workers) × IsReduction request) }
-    {
-        match request {
-            Request::Bench(Command::Reduce(most))
-                if 1 < workers && 0 < most && most <= MAX_BUDGET => {
-                self.sweep(threads, alloc, workers, most, gate)
-            }
-            other => {
-                let answer = self.carry_out(alloc, other, gate)?;
-                Ok((self, answer))
-            }
-        }
-    }
-
-    /// Reduces the net by a sweep of so many workers, 2 to 64 of them, of at most so many events, 1 to 1,048,576; the marks
-    /// stay. If there is no memory for a sweep, the answer says so, and nothing has changed. The gate sees each commit.
+    /// Reduces the net by a sweep of this size, by two workers or more; the marks stay, and the desk comes back with the answer. If there is no memory
+    /// for a sweep, the answer says so, and nothing has changed. The gate sees each commit.
     ///
     /// `DeskFault::Memory` if events were fired and there is no memory to tell how many, and `DeskFault::Settle` if the
-    /// workers' passes aren't what the history says.
+    /// workers' passes aren't what the history says. The desk is gone then.
     pub fn sweep<T: Threads + Wait + Sync, G: Gate>(
         self,
         threads: &T,
         alloc: Global,
-        workers: u32,
-        most: u32,
+        size: SweepSize,
         gate: &G,
     ) -> Result<(Desk<Store>, Answer), DeskFault>
-        requires workers { (1 < workers) × (workers ≤ MAX_WORKERS) }
-        requires most { (0 < most) × (most ≤ MAX_BUDGET) }
-        ensures { IfOk result (λ r. TurnsWith workers self (request.Bench (Reduce most)) (answer_text r.1) r.0) }
+        requires { 1 < size.workers }
+        ensures { IfOk result (λ r. TurnsWith size.workers self (request.Bench (Reduce size.budget)) (answer_text r.1) r.0) }
     {
         let Desk { bench, marks } = self;
-        match sweep(threads, alloc, bench, workers, most, gate) {
+        match sweep(threads, alloc, bench, size, gate) {
             Ok(swept) => {
                 let answer = end_answer(alloc, swept.fired, swept.end)?;
                 let bench = swept.bench;
@@ -155,19 +116,4 @@ impl Desk<Store> {
             Err(SweepFault::Settle(_)) => Err(DeskFault::Settle),
         }
     }
-}
-
-/// Carries out a command of the bench; the marks stay.
-fn carry_out_command<L: LinkStore, G: Gate>(
-    alloc: Global,
-    bench: &mut Bench<L>,
-    marks: &[NamedMark],
-    command: Command,
-    gate: &G,
-) -> Result<Answer, AllocError>
-    ensures turns { MatchResult result (λ answer. TurnsByRequest (record { bench = bench.old; marks = marks.now }) (request.Bench command) (answer_text answer) (record { bench = bench.new; marks = marks.now })) (λ _. bench.new.start ≡ bench.old.start) }
-    ensures lines { IsLonger bench.old bench.new }
-    ensures changed { OnErr result (HasChanged bench.old bench.new) }
-{
-    carry_out(alloc, bench, command, gate)
 }

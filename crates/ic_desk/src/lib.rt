@@ -14,4 +14,4 @@ mod texts;
 pub use desk::{Desk, MAX_MARKS};
 pub use fault::DeskFault;
 pub use ic_answer::{Answer, RULES, Refused};
-pub use ic_work::{Gate, MAX_BUDGET, MAX_WORKERS, NoGate};
+pub use ic_work::{Gate, MAX_BUDGET, MAX_WORKERS, NoGate, SweepSize};

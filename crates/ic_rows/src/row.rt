@@ -1,9 +1,4 @@
-ghost use Rattle.std.specs.Prelude.{◌<◌, ◌≤◌, IfSome};
-
 use ic_session::Status;
-
-/// The most workers of a session.
-const MAX_WORKERS: u8 = 64;
 
 /// The stores over which a session is answered.
 #[derive(Clone, Copy)]
@@ -29,14 +24,13 @@ pub struct Row<'a> {
     pub status: Status,
     /// The stores over which it is answered.
     pub stores: Stores,
-    ghost in_range: { (0 < workers) × (workers ≤ 64) },
 }
 
 /// The row of a line: its columns are divided by tabs, and the one after the stores says what the session shows.
 pub fn row_of(line: &str) -> Option<Row<'_>> {
     let mut columns = line.split('\t');
     let name = columns.next()?;
-    let workers = workers_of(columns.next()?.parse::<u8>().ok()?)?;
+    let workers = columns.next()?.parse::<u8>().ok()?;
     let budget = columns.next()?.parse::<u32>().ok()?;
     let status = status_of(columns.next()?)?;
     let stores = stores_of(columns.next()?)?;
@@ -47,16 +41,6 @@ pub fn row_of(line: &str) -> Option<Row<'_>> {
         status,
         stores,
     })
-}
-
-/// This number of workers, if it is one from 1 to 64.
-fn workers_of(number: u8) -> Option<u8>
-    ensures { IfSome result (λ workers. (0 < workers) × (workers ≤ 64)) }
-{
-    if number == 0 || number > MAX_WORKERS {
-        return None;
-    }
-    Some(number)
 }
 
 /// A status, by the number with which the program ends.

@@ -15,14 +15,14 @@ use Rattle.ic_session.specs.Echoes.{WritesEcho, echoed}
 use Rattle.ic_session.specs.InputLines.{lines}
 use Rattle.ic_desk.specs.Desks.{State, initial}
 use Rattle.ic_desk.specs.Views.{DeskView, IsDeskAt, IsOver, note_of}
-use Rattle.ic_session.specs.Modes.{TakesNext, Gives, TurnsIn}
+use Rattle.ic_session.specs.Modes.{TakesNext, Gives, TurnsIn, stops_at}
 use Rattle.ic_session.specs.declared.demand.Demand.{Demand}
 use Rattle.ic_session.specs.declared.next_demand.NextDemand.{NextDemand}
 use Rattle.ic_session.specs.declared.next_demand.NextDemand.TheVariants as next_demand
 use Rattle.ic_session.specs.declared.net_session.NetEnd.{NetEnd}
 use Rattle.ic_session.specs.declared.net_session.NetEnd.TheVariants.{Another}
 use Rattle.ic_session.specs.declared.mode.Mode.{Mode}
-use Rattle.ic_session.specs.Sessions.{AreAnswered, none, AnswersNet, AnswersNext, AreAnswers, AreBegun, echoing, replying, IsAnswered, IsBrokenOff, silent, partly}
+use Rattle.ic_session.specs.Sessions.{AreAnswered, none, AnswersNet, AnswersNext, AreAnswers, AreBegun, echoing, replying}
 use Rattle.ic_session.specs.declared.session.Status.TheVariants.{Ended, Stopped}
 use Rattle.ic_session.proofs.AnswerSteps.{answered_step}
 
@@ -70,19 +70,19 @@ echo_appended m o c ys text reply before then said after e first echo last =
     Appends-trans before said after (text ++ echoed m (lines ys)) reply (Appends-trans before then said text (echoed m (lines ys)) first echo') last
 
 -- one command more was answered, and the session goes on
-pub answered_more : (s : Start) (m : Mode) (st : State) (v w : DeskView) (old now next before then said after : Option (List ℕ)) (o : NextDemand) (c : Demand) (stops : Bool)
+pub answered_more : (s : Start) (m : Mode) (st : State) (v w : DeskView) (old now next before then said after : Option (List ℕ)) (o : NextDemand) (c : Demand) (reply : List ℕ)
     → v.bench.start ≡ s → HasAnswered s m st v old now before then → o ≡ next_demand.Demand c → IfSome now (λ ys. TakesNext m o ys next) → IfSome now (λ ys. WritesEcho m o ys then said)
-    → IsAnswered m v c w stops said after → stops ≡ false
+    → TurnsIn m v c reply w → Appends said after reply → stops_at m reply ≡ false
     → HasAnswered s m st w old next before after
-answered_more s m st v w None now next before then said after o c stops i h e t k r off = tt
-answered_more s m st v w (Some xs) None next before then said after o c stops i h e t k r off = absurd h
-answered_more s m st v w (Some xs) (Some ys) None before then said after o c stops i h e t k r off = absurd (subst (λ p. TakesNext m p ys None) e t)
-answered_more s m st v w (Some xs) (Some ys) (Some zs) before then said after o c stops i h e t k r off =
-    let a = next_answered s m st v w xs ys zs before then o c r.reply i h e t r.turn in
-    let step = answered_step a.0.answered a.0.taken a.0.gives (sym r.stopping ∙ off) in
-    let text = h.2 ++ echoed m (lines ys) ++ r.reply in
-    let whole = subst (λ t. AreAnswered s m st (lines xs) (t ++ r.reply) a.0.next a.0.left) (sym a.0.said) step in
-    (a.0.next, a.1, text, echo_appended m o c ys h.2 r.reply before then said after e h.3 k r.written, subst (AreAnswered s m st (lines xs) text a.0.next) a.2 whole)
+answered_more s m st v w None now next before then said after o c reply i h e t k r added off = tt
+answered_more s m st v w (Some xs) None next before then said after o c reply i h e t k r added off = absurd h
+answered_more s m st v w (Some xs) (Some ys) None before then said after o c reply i h e t k r added off = absurd (subst (λ p. TakesNext m p ys None) e t)
+answered_more s m st v w (Some xs) (Some ys) (Some zs) before then said after o c reply i h e t k r added off =
+    let a = next_answered s m st v w xs ys zs before then o c reply i h e t r in
+    let step = answered_step a.0.answered a.0.taken a.0.gives off in
+    let text = h.2 ++ echoed m (lines ys) ++ reply in
+    let whole = subst (λ t. AreAnswered s m st (lines xs) (t ++ reply) a.0.next a.0.left) (sym a.0.said) step in
+    (a.0.next, a.1, text, echo_appended m o c ys h.2 reply before then said after e h.3 k added, subst (AreAnswered s m st (lines xs) text a.0.next) a.2 whole)
 
 -- all were answered
 pub answered_all : (s : Start) (m : Mode) (st : State) (v : DeskView) (old now next before then after : Option (List ℕ)) (o : NextDemand)
@@ -106,17 +106,17 @@ answered_renewal s m st v (Some xs) (Some ys) (Some zs) before then after o h e 
     (h.2, record { last = h.0; left = lines ys; answered = h.4; renewal = subst (λ p. TakesNext m p ys (Some zs)) e t }, subst (λ z. Appends before z h.2) (sym same) h.3)
 
 -- one command more was answered, and the session ends with that
-pub answered_last : (s : Start) (m : Mode) (st : State) (v w : DeskView) (old now next before then said after : Option (List ℕ)) (o : NextDemand) (c : Demand) (stops : Bool)
+pub answered_last : (s : Start) (m : Mode) (st : State) (v w : DeskView) (old now next before then said after : Option (List ℕ)) (o : NextDemand) (c : Demand) (reply : List ℕ)
     → v.bench.start ≡ s → HasAnswered s m st v old now before then → o ≡ next_demand.Demand c → IfSome now (λ ys. TakesNext m o ys next) → IfSome now (λ ys. WritesEcho m o ys then said)
-    → IsAnswered m v c w stops said after → stops ≡ true
+    → TurnsIn m v c reply w → Appends said after reply → stops_at m reply ≡ true
     → IfSome old (λ xs. (text : List ℕ) × AreAnswers Stopped s m st (lines xs) text × Appends before after text)
-answered_last s m st v w None now next before then said after o c stops i h e t k r on = tt
-answered_last s m st v w (Some xs) None next before then said after o c stops i h e t k r on = absurd h
-answered_last s m st v w (Some xs) (Some ys) None before then said after o c stops i h e t k r on = absurd (subst (λ p. TakesNext m p ys None) e t)
-answered_last s m st v w (Some xs) (Some ys) (Some zs) before then said after o c stops i h e t k r on =
-    let a = next_answered s m st v w xs ys zs before then o c r.reply i h e t r.turn in
+answered_last s m st v w None now next before then said after o c reply i h e t k r added on = tt
+answered_last s m st v w (Some xs) None next before then said after o c reply i h e t k r added on = absurd h
+answered_last s m st v w (Some xs) (Some ys) None before then said after o c reply i h e t k r added on = absurd (subst (λ p. TakesNext m p ys None) e t)
+answered_last s m st v w (Some xs) (Some ys) (Some zs) before then said after o c reply i h e t k r added on =
+    let a = next_answered s m st v w xs ys zs before then o c reply i h e t r in
     let text = h.2 ++ echoed m (lines ys) in
-    (text ++ r.reply, (text, r.reply, a.0, sym r.stopping ∙ on, refl), echo_appended m o c ys h.2 r.reply before then said after e h.3 k r.written)
+    (text ++ reply, (text, reply, a.0, on, refl), echo_appended m o c ys h.2 reply before then said after e h.3 k added)
 
 -- of the echo of the next line, a front was written
 pub answered_begun : (s : Start) (m : Mode) (st : State) (v : DeskView) (old now before then after : Option (List ℕ))
@@ -127,7 +127,7 @@ answered_begun s m st v (Some xs) None before then after h a = absurd h
 answered_begun s m st v (Some xs) (Some ys) before then after h a = (h.2 ++ a.front, echoing a.front a.behind h.4 a.parts, Appends-trans before then after h.2 a.front h.3 a.appended)
 
 -- its whole echo was written, and no more
-answered_silent : (s : Start) (m : Mode) (st : State) (v : DeskView) (old now before then after : Option (List ℕ)) (o : NextDemand) (c : Demand)
+pub answered_silent : (s : Start) (m : Mode) (st : State) (v : DeskView) (old now before then after : Option (List ℕ)) (o : NextDemand) (c : Demand)
     → HasAnswered s m st v old now before then → o ≡ next_demand.Demand c → IfSome now (λ ys. WritesEcho m o ys then after)
     → IfSome old (λ xs. (text : List ℕ) × AreBegun s m st (lines xs) text × Appends before after text)
 answered_silent s m st v None now before then after o c h e k = tt
@@ -137,7 +137,7 @@ answered_silent s m st v (Some xs) (Some ys) before then after o c h e k =
     (h.2 ++ echoed m (lines ys), echoing (echoed m (lines ys)) [] h.4 (sym (append-nil (echoed m (lines ys)))), Appends-trans before then after h.2 (echoed m (lines ys)) h.3 echo)
 
 -- of the answer to one command more, a front was written
-answered_front : (s : Start) (m : Mode) (st : State) (v w : DeskView) (old now next before then said after : Option (List ℕ)) (o : NextDemand) (c : Demand) (text : List ℕ)
+pub answered_front : (s : Start) (m : Mode) (st : State) (v w : DeskView) (old now next before then said after : Option (List ℕ)) (o : NextDemand) (c : Demand) (text : List ℕ)
     → v.bench.start ≡ s → HasAnswered s m st v old now before then → o ≡ next_demand.Demand c → IfSome now (λ ys. TakesNext m o ys next) → IfSome now (λ ys. WritesEcho m o ys then said)
     → TurnsIn m v c text w → AppendsFront said after text
     → IfSome old (λ xs. (text : List ℕ) × AreBegun s m st (lines xs) text × Appends before after text)
@@ -148,16 +148,6 @@ answered_front s m st v w (Some xs) (Some ys) (Some zs) before then said after o
     let n = next_answered s m st v w xs ys zs before then o c text i h e t r in
     let first = h.2 ++ echoed m (lines ys) in
     (first ++ a.front, replying a.front a.behind (subst (AnswersNext s m st (lines xs) first) a.parts n.0), echo_appended m o c ys h.2 a.front before then said after e h.3 k a.appended)
-
--- the answer to one command more broke off
-pub answered_broken : (s : Start) (m : Mode) (st : State) (v : DeskView) (old now next before then said after : Option (List ℕ)) (o : NextDemand) (c : Demand)
-    → v.bench.start ≡ s → HasAnswered s m st v old now before then → o ≡ next_demand.Demand c → IfSome now (λ ys. TakesNext m o ys next) → IfSome now (λ ys. WritesEcho m o ys then said)
-    → IsBrokenOff m v c said after
-    → IfSome old (λ xs. (text : List ℕ) × AreBegun s m st (lines xs) text × Appends before after text)
-answered_broken s m st v old now next before then said after o c i h e t k (silent same) =
-    rw same (answered_silent s m st v old now before then said o c h e k)
-answered_broken s m st v old now next before then said after o c i h e t k (partly {new = w} {reply = text} r a) =
-    answered_front s m st v w old now next before then said after o c text i h e t k r a
 
 -- whatever state the desk was in
 pub all_begun : (m : Mode) (old : Option (List ℕ)) (v : DeskView) (before after : Option (List ℕ))

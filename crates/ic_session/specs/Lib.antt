@@ -1,3 +1,4 @@
+pub mod Streams
 pub mod InputLines
 pub mod Echoes
 pub mod NetInput

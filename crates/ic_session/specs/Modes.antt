@@ -1,15 +1,18 @@
 -- How a session is run, what its lines ask for then, and what is answered.
-use Rattle.std.specs.Prelude.{◌≡◌, ◌&&◌, ℕ, nat_eq, codes, Bool, true, false, List, ◌∷◌, Option, Some, None, [], IsSomeAnd}
+use Rattle.std.specs.Prelude.{◌≡◌, ◌<◌, ◌&&◌, ℕ, min, nat_eq, codes, Bool, true, false, List, ◌∷◌, Option, Some, None, [], IsSomeAnd}
 use Rattle.std.specs.List.{starts_with}
 use Rattle.ic_theory.specs.Starts.{Start}
 use Rattle.ic_command.specs.declared.question.Question.{Question}
+use Rattle.ic_command.specs.declared.command.Command.TheVariants.{Reduce}
 use Rattle.ic_command.specs.declared.request.Request.{Request}
+use Rattle.ic_command.specs.declared.request.Request.TheVariants.{Bench}
 use Rattle.ic_command.specs.Questions.{IsNew, IsQuestion, IsQuit}
 use Rattle.ic_command.specs.Requests.{within}
 use Rattle.ic_desk.specs.Desks.{State}
 use Rattle.ic_desk.specs.ManyWorkers.{RepliesWith}
 use Rattle.ic_desk.specs.Questions.{Tells}
 use Rattle.ic_desk.specs.Views.{DeskView, IsDeskAt}
+use Rattle.ic_work.specs.declared.sweep_size.SweepSize.{SweepSize}
 use Rattle.ic_session.specs.declared.demand.Demand.{Demand}
 use Rattle.ic_session.specs.declared.demand.Demand.TheVariants as demand
 use Rattle.ic_session.specs.declared.mode.Mode.{Mode}
@@ -63,6 +66,15 @@ TakesNext m next.Done old new = IsDone m (lines old)
 pub data Gives (m : Mode) (s : Start) (st : State) : Demand → List ℕ → State → Type 0 where
   replied : {r : Request} {text : List ℕ} {next : State} → RepliesWith m.workers s st (within m.budget r) text next → Gives m s st (demand.Requests r) text next
   told : {q : Question} {text : List ℕ} {next : State} → Tells s st q text next → Gives m s st (demand.Asks q) text next
+
+-- the sweep by which a session of this mode meets a demand: by two workers or more, as many as it has, and of as many events as
+-- it is asked for within its budget
+pub record IsSweepFor (m : Mode) (d : Demand) (size : SweepSize) : Type 0 where
+  pub asked : ℕ
+  pub demanded : d ≡ demand.Requests (Bench (Reduce asked))
+  pub workers : size.workers ≡ m.workers
+  pub several : 1 < size.workers
+  pub budget : size.budget ≡ min m.budget asked
 
 -- the reply refuses what was asked for
 abbrev pub is_refusal : List ℕ → Bool

@@ -49,18 +49,6 @@ AreAnswers Ended s m st ls text = (last : State) × (left : List TextLine) × Ar
 AreAnswers Stopped s m st ls text = (before reply : List ℕ) × AnswersNext s m st ls before reply × (stops_at m reply ≡ true) × (text ≡ before ++ reply)
 AreAnswers NetRefused s m st ls text = ⊥
 
--- a demand was met, and the answer to it was written, which ends the session or doesn't
-pub record IsAnswered (m : Mode) (old : DeskView) (d : Demand) (new : DeskView) (stops : Bool) (before after : Option (List ℕ)) : Type 0 where
-  pub reply : List ℕ
-  pub turn : TurnsIn m old d reply new
-  pub written : Appends before after reply
-  pub stopping : stops ≡ stops_at m reply
-
--- nothing was written of the answer to a demand, or a front of it
-pub data IsBrokenOff (m : Mode) (old : DeskView) (d : Demand) (before after : Option (List ℕ)) : Type 0 where
-  silent : after ≡ before → IsBrokenOff m old d before after
-  partly : {new : DeskView} {reply : List ℕ} → TurnsIn m old d reply new → AppendsFront before after reply → IsBrokenOff m old d before after
-
 -- the answers to all demands of these lines before the one by which another net comes, which is in the lines behind it
 pub record AnswersToNew (s : Start) (m : Mode) (st : State) (ls : List TextLine) (text : List ℕ) (behind : List TextLine) : Type 0 where
   pub last : State

@@ -4,11 +4,13 @@ ghost use Rattle.ic_command.specs.Faults.{AppendsFront};
 ghost use Rattle.ic_command.specs.Words.{words};
 ghost use Rattle.ic_command.specs.declared.lines.piece.IoFault.TheVariants as io;
 ghost use Rattle.ic_session.specs.Echoes.{echo_in, echo_of, is_echoed, is_unanswered, say_nothing};
+ghost use Rattle.ic_session.specs.Streams.{written_to};
 
 use crate::mode::Mode;
+use crate::streams::Sink;
 use ic_command::line_form::{are_plain, is_comment, without_return};
 use ic_command::words::next_word;
-use ic_command::{IoFault, MAX_COMMAND, Output};
+use ic_command::{IoFault, MAX_COMMAND};
 use std::alloc::{AllocError, Global};
 use std::io::Write;
 
@@ -16,20 +18,20 @@ use std::io::Write;
 pub(crate) fn echo<W: Write>(
     alloc: Global,
     line: &[u8],
-    output: &mut Output,
-    writer: &mut W,
+    sink: &mut Sink<'_, W>,
     mode: Mode,
 ) -> Result<(), IoFault>
-    ensures written { OnOk result (Appends (W.contents writer.old) (W.contents writer.new) (echo_in mode line.now)) }
-    ensures front { OnErr result (AppendsFront (W.contents writer.old) (W.contents writer.new) (echo_in mode line.now)) }
+    ensures written { OnOk result (Appends (written_to W.contents sink.old) (written_to W.contents sink.new) (echo_in mode line.now)) }
+    ensures front { OnErr result (AppendsFront (written_to W.contents sink.old) (written_to W.contents sink.new) (echo_in mode line.now)) }
     ensures fault { IfErr result (λ fault. fault ≢ io.Read) }
-    ensures write { IfErr result (λ fault. fault ≡ io.Write → output.new.failed ≡ true) }
+    ensures write { IfErr result (λ fault. fault ≡ io.Write → sink.new.output.failed ≡ true) }
+    ensures same_writer { sink.new.writer.ghost_name ≡ sink.old.writer.ghost_name }
 {
     if !mode.echoes {
         return Ok(());
     }
     let text = echo_of(alloc, line)?;
-    output.reply(writer, &text)
+    sink.output.reply(sink.writer, &text)
 }
 
 /// The echo of a line: `> `, the line and a line feed; or nothing, if the line is too long or gets no answer.

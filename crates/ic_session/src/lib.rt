@@ -20,6 +20,7 @@ pub mod prompts;
 pub mod refusal;
 pub mod session;
 pub mod setting;
+pub mod streams;
 mod taken_line;
 
 pub use demand::Demand;
@@ -29,3 +30,4 @@ pub use mode::Mode;
 pub use prompts::Prompts;
 pub use session::{MAX_READS, Status, run_session};
 pub use setting::Setting;
+pub use streams::{Sink, Source};

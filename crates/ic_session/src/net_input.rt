@@ -1,11 +1,13 @@
 ghost use Rattle.std.specs.Prelude.{◌≡◌, ◌<◌, ◌≤◌, ◌++◌, true, IfErr, IfOk, IfSome, OnOk};
-ghost use Rattle.ic_command.specs.Left.{left, work};
+ghost use Rattle.ic_command.specs.Left.{work};
 ghost use Rattle.ic_command.specs.Faults.{IsReadFault};
 ghost use Rattle.ic_session.specs.InputLines.{is_bar, whole_line};
 ghost use Rattle.ic_session.specs.NetInput.{IsShort, ReadsNet, has_read_bar};
+ghost use Rattle.ic_session.specs.Streams.{left_in};
 
 use crate::prompts::{Prompts, ask_for_net};
-use ic_command::{Input, IoFault, Piece};
+use crate::streams::Source;
+use ic_command::{IoFault, Piece};
 use ic_text::grammar::limits::MAX_TEXT;
 use std::alloc::{AllocError, Global};
 use std::io::{Read, Write};
@@ -30,17 +32,16 @@ fn is_bar(line: &[u8]) -> bool
 /// reader fails or no call of it is left, `IoFault::Memory` if there is no memory.
 pub fn read_net_text<R: Read, E: Write>(
     alloc: Global,
-    input: &mut Input,
-    reader: &mut R,
+    source: &mut Source<'_, R>,
     errors: &mut E,
     prompts: Prompts,
 ) -> Result<NetInput, IoFault>
-    ensures read { IfOk result (λ net. IfSome (left input.old (R.remaining reader.old)) (λ bytes. ReadsNet net bytes (left input.new (R.remaining reader.new)))) }
+    ensures read { IfOk result (λ net. IfSome (left_in R.remaining source.old) (λ bytes. ReadsNet net bytes (left_in R.remaining source.new))) }
     ensures short { IfOk result IsShort }
-    ensures less { OnOk result (work input.new ≤ work input.old) }
-    ensures barred { IfOk result (λ net. has_read_bar net ≡ true → work input.new < work input.old) }
-    ensures fewer { input.new.reads ≤ input.old.reads }
-    ensures fault { IfErr result (IsReadFault input.new.reads) }
+    ensures less { OnOk result (work source.new.input ≤ work source.old.input) }
+    ensures barred { IfOk result (λ net. has_read_bar net ≡ true → work source.new.input < work source.old.input) }
+    ensures fewer { source.new.input.reads ≤ source.old.input.reads }
+    ensures fault { IfErr result (IsReadFault source.new.input.reads) }
 {
     let mut text = Vec::new(alloc);
     let mut line = Vec::new(alloc);
@@ -48,7 +49,7 @@ pub fn read_net_text<R: Read, E: Write>(
     loop {
         ask_for_net(errors, prompts);
         prompts = prompts.after(1);
-        match input.next_line(reader, &mut line, MAX_TEXT)? {
+        match source.input.next_line(source.reader, &mut line, MAX_TEXT)? {
             Piece::End => {
                 return Ok(NetInput::Whole {
                     text,

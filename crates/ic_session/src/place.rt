@@ -58,6 +58,7 @@ impl Place {
         self.taken = self.taken.saturating_add(1);
         self.line = self.taken;
         self.topic = Topic::TooLong;
+        self.list_fault = None;
     }
 
     /// After a line more of a list.

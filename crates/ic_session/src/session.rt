@@ -1,18 +1,15 @@
 ghost use Rattle.std.specs.Prelude.{◌≡◌, ◌<◌, ◌≤◌, ℕ, List, true, IfErr, IfOk, IfSome, OnErr};
 ghost use Rattle.std.specs.Io.KnownBytes.{Appends};
-ghost use Rattle.ic_command.specs.Left.{left};
 ghost use Rattle.ic_session.specs.Sessions.{IsBegun, Writes};
+ghost use Rattle.ic_session.specs.Streams.{left_in, written_to};
 ghost use Rattle.ic_session.specs.declared.fault.Fault.TheVariants.{Read, Settle, Write};
 
 use crate::fault::Fault;
-use crate::mode::Mode;
 use crate::net_session::{NetEnd, run_net};
 use crate::notes::explain_fault;
-use crate::place::Place;
 use crate::setting::Setting;
-use ic_command::{Input, Output};
-use ic_desk::{Gate, MAX_WORKERS};
-use std::alloc::Global;
+use crate::streams::{Sink, Source};
+use ic_desk::Gate;
 use std::io::{Read, Write};
 use std::sync::Wait;
 use std::thread::Threads;
@@ -31,8 +28,8 @@ pub enum Status {
 /// The calls of a reader's `read` that a session of the program makes, at most.
 pub const MAX_READS: u32 = 1_073_741_824;
 
-/// Runs a session: reads a net as text and commands, and writes an answer to each command. It begins with what the input has
-/// read and not yet taken, and calls the reader at most as often as the input has calls left. A `reduce` fires at most the budget,
+/// Runs a session: reads a net as text and commands, and writes an answer to each command. It begins with what the source has
+/// read and not yet taken, and calls the reader at most as often as its input has calls left. A `reduce` fires at most the budget,
 /// whatever it asks for. With two workers or more, of 64 at most, it is a sweep by so many, and the gate sees each commit.
 ///
 /// A session that explains itself answers questions, too. To `errors` it writes a sentence for each refusal and fault, with the
@@ -44,51 +41,44 @@ pub const MAX_READS: u32 = 1_073_741_824;
 /// that they did what the history doesn't say. What was written by then is a first part of what a session may write.
 pub fn run_session<R: Read, W: Write, E: Write, T: Threads + Wait + Sync, G: Gate>(
     setting: &Setting<'_, T, G>,
-    input: &mut Input,
-    reader: &mut R,
-    output: &mut Output,
-    writer: &mut W,
+    source: &mut Source<'_, R>,
+    sink: &mut Sink<'_, W>,
     errors: &mut E,
 ) -> Result<Status, Fault>
-    requires { (0 < setting.now.mode.workers) × (setting.now.mode.workers ≤ MAX_WORKERS) }
-    ensures written { IfOk result (λ status. IfSome (left input.old (R.remaining reader.old)) (λ bytes. Writes setting.now.mode bytes status (W.contents writer.old) (W.contents writer.new))) }
-    ensures begun { OnErr result (IfSome (left input.old (R.remaining reader.old)) (λ bytes. (text : List ℕ) × IsBegun setting.now.mode bytes text × Appends (W.contents writer.old) (W.contents writer.new) text)) }
-    ensures fewer { input.new.reads ≤ input.old.reads }
-    ensures read { IfErr result (λ fault. fault ≡ Read → input.new.reads ≡ 0) }
-    ensures write { IfErr result (λ fault. fault ≡ Write → output.new.failed ≡ true) }
+    ensures written { IfOk result (λ status. IfSome (left_in R.remaining source.old) (λ bytes. Writes setting.now.mode bytes status (written_to W.contents sink.old) (written_to W.contents sink.new))) }
+    ensures begun { OnErr result (IfSome (left_in R.remaining source.old) (λ bytes. (text : List ℕ) × IsBegun setting.now.mode bytes text × Appends (written_to W.contents sink.old) (written_to W.contents sink.new) text)) }
+    ensures fewer { source.new.input.reads ≤ source.old.input.reads }
+    ensures read { IfErr result (λ fault. fault ≡ Read → source.new.input.reads ≡ 0) }
+    ensures write { IfErr result (λ fault. fault ≡ Write → sink.new.output.failed ≡ true) }
     ensures settle { IfErr result (λ fault. fault ≡ Settle → 1 < setting.now.mode.workers) }
+    ensures same_writer { sink.new.writer.ghost_name ≡ sink.old.writer.ghost_name }
 {
-    let mut place = Place::first();
-    match run_over(setting, input, reader, output, writer, errors, &mut place) {
+    match run_over(setting, source, sink, errors) {
         Ok(status) => Ok(status),
         Err(fault) => {
-            tell(setting.alloc, errors, place, fault, setting.mode);
+            tell(setting, source, errors, fault);
             Err(fault)
         }
     }
 }
 
-/// Runs a session as `run_session` does: one net after the other, as long as another one comes. The place is then that of the
-/// last line that was read.
+/// Runs a session as `run_session` does: one net after the other, as long as another one comes.
 fn run_over<R: Read, W: Write, E: Write, T: Threads + Wait + Sync, G: Gate>(
     setting: &Setting<'_, T, G>,
-    input: &mut Input,
-    reader: &mut R,
-    output: &mut Output,
-    writer: &mut W,
+    source: &mut Source<'_, R>,
+    sink: &mut Sink<'_, W>,
     errors: &mut E,
-    place: &mut Place,
 ) -> Result<Status, Fault>
-    requires { (0 < setting.now.mode.workers) × (setting.now.mode.workers ≤ MAX_WORKERS) }
-    ensures written { IfOk result (λ status. IfSome (left input.old (R.remaining reader.old)) (λ bytes. Writes setting.now.mode bytes status (W.contents writer.old) (W.contents writer.new))) }
-    ensures begun { OnErr result (IfSome (left input.old (R.remaining reader.old)) (λ bytes. (text : List ℕ) × IsBegun setting.now.mode bytes text × Appends (W.contents writer.old) (W.contents writer.new) text)) }
-    ensures fewer { input.new.reads ≤ input.old.reads }
-    ensures read { IfErr result (λ fault. fault ≡ Read → input.new.reads ≡ 0) }
-    ensures write { IfErr result (λ fault. fault ≡ Write → output.new.failed ≡ true) }
+    ensures written { IfOk result (λ status. IfSome (left_in R.remaining source.old) (λ bytes. Writes setting.now.mode bytes status (written_to W.contents sink.old) (written_to W.contents sink.new))) }
+    ensures begun { OnErr result (IfSome (left_in R.remaining source.old) (λ bytes. (text : List ℕ) × IsBegun setting.now.mode bytes text × Appends (written_to W.contents sink.old) (written_to W.contents sink.new) text)) }
+    ensures fewer { source.new.input.reads ≤ source.old.input.reads }
+    ensures read { IfErr result (λ fault. fault ≡ Read → source.new.input.reads ≡ 0) }
+    ensures write { IfErr result (λ fault. fault ≡ Write → sink.new.output.failed ≡ true) }
     ensures settle { IfErr result (λ fault. fault ≡ Settle → 1 < setting.now.mode.workers) }
+    ensures same_writer { sink.new.writer.ghost_name ≡ sink.old.writer.ghost_name }
 {
     loop {
-        match run_net(setting, input, reader, output, writer, errors, place)? {
+        match run_net(setting, source, sink, errors)? {
             NetEnd::Over(status) => return Ok(status),
             NetEnd::Another => {}
         }
@@ -96,8 +86,13 @@ fn run_over<R: Read, W: Write, E: Write, T: Threads + Wait + Sync, G: Gate>(
 }
 
 /// Says after which line a session broke off, if it explains itself.
-fn tell<E: Write>(alloc: Global, errors: &mut E, place: Place, fault: Fault, mode: Mode) {
-    if mode.explains {
-        explain_fault(alloc, errors, place, fault);
+fn tell<R, E: Write, T, G>(
+    setting: &Setting<'_, T, G>,
+    source: &Source<'_, R>,
+    errors: &mut E,
+    fault: Fault,
+) {
+    if setting.mode.explains {
+        explain_fault(setting.alloc, errors, source.place, fault);
     }
 }

@@ -24,9 +24,17 @@ impl<B: Ledger> Promise<Worker<B>> for ComesHome {
     ghost kept_by = { λ p w. IsGuest p.claims.value.table w.seat w.pass };
 }
 
-/// What a crew leaves: the first worker, with the seats of the others, all their passes, and how many ran.
+/// A crew before it runs: the first worker, the others, and room for all their passes.
 #[derive(Drop)]
 pub(crate) struct Crew<B: Ledger> {
+    pub first: Worker<B>,
+    pub others: Vec<Worker<B>>,
+    pub home: Vec<Pass<B>>,
+}
+
+/// What a crew leaves: the first worker, with the seats of the others, all their passes, and how many ran.
+#[derive(Drop)]
+pub(crate) struct Returned<B: Ledger> {
     pub first: Worker<B>,
     pub home: Vec<Pass<B>>,
     pub ran: u32,
@@ -39,25 +47,27 @@ pub(crate) fn run_crew<B: Ledger + Send + Sync, G: Gate, R: Threads + Wait + Syn
     rt: &R,
     alloc: Global,
     floor: &Floor<'_, B, G>,
-    mut first: Worker<B>,
-    mut others: Vec<Worker<B>>,
-    off: &[AtomicBool],
-    mut home: Vec<Pass<B>>,
-) -> Crew<B>
-    requires first { IsFirst floor.now.claims.now.table floor.now.claims.now.budget first.seat first.pass home.items }
-    requires guests { All (λ w. IsGuest floor.now.claims.now.table w.seat w.pass) others.items }
-    requires few { vec_len others < MAX_WORKERS }
-    requires off { vec_len others ≤ length off.now }
-    requires room { vec_len home + vec_len others ≤ vec_capacity home }
+    crew: Crew<B>,
+) -> Returned<B>
+    requires first { IsFirst floor.now.claims.now.table floor.now.claims.now.budget crew.first.seat crew.first.pass crew.home.items }
+    requires guests { All (λ w. IsGuest floor.now.claims.now.table w.seat w.pass) crew.others.items }
+    requires few { vec_len crew.others < MAX_WORKERS }
+    requires off { vec_len crew.others ≤ length floor.now.off.now }
+    requires room { vec_len crew.home + vec_len crew.others ≤ vec_capacity crew.home }
     ensures first { IsFirst floor.now.claims.now.table floor.now.claims.now.budget result.first.seat result.first.pass result.home.items }
-    ensures all { vec_len result.home ≡ vec_len home + vec_len others }
-    ensures ran { (0 < result.ran) × (result.ran ≤ vec_len others + 1) }
-    ensures room { vec_capacity result.home ≡ vec_capacity home }
+    ensures all { vec_len result.home ≡ vec_len crew.home + vec_len crew.others }
+    ensures ran { (0 < result.ran) × (result.ran ≤ vec_len crew.others + 1) }
+    ensures room { vec_capacity result.home ≡ vec_capacity crew.home }
 {
+    let Crew {
+        mut first,
+        mut others,
+        mut home,
+    } = crew;
     let Ok(mut handles) = Vec::with_capacity(alloc, others.len()) else {
         take_all_in(floor.claims, &mut first, others, &mut home);
         first.work(rt, floor);
-        return Crew {
+        return Returned {
             first,
             home,
             ran: 1,
@@ -66,11 +76,11 @@ pub(crate) fn run_crew<B: Ledger + Send + Sync, G: Gate, R: Threads + Wait + Syn
     thread::scope(
         thread::scope_env(),
         rt,
-        move |scope| -> Crew<B>
+        move |scope| -> Returned<B>
             requires first { IsFirst floor.now.claims.now.table floor.now.claims.now.budget first.seat first.pass home.items }
             requires guests { All (λ w. IsGuest floor.now.claims.now.table w.seat w.pass) others.items }
             requires few { vec_len others < MAX_WORKERS }
-            requires off { vec_len others ≤ length off.now }
+            requires off { vec_len others ≤ length floor.now.off.now }
             requires handles { (vec_len handles ≡ 0) × (vec_len others ≤ vec_capacity handles) }
             requires room { vec_len home + vec_len others ≤ vec_capacity home }
             ensures first { IsFirst floor.entry.now.claims.now.table floor.entry.now.claims.now.budget result.first.seat result.first.pass result.home.items }
@@ -80,7 +90,7 @@ pub(crate) fn run_crew<B: Ledger + Send + Sync, G: Gate, R: Threads + Wait + Syn
         {
             let mut started = 0usize;
             while let Some(worker) = others.pop() {
-                let flag = &off[started];
+                let flag = &floor.off[started];
                 started += 1;
                 let comes = ComesHome {
                     claims: Snapshot::of(floor.claims),
@@ -104,7 +114,7 @@ pub(crate) fn run_crew<B: Ledger + Send + Sync, G: Gate, R: Threads + Wait + Syn
                 let worker = handle.join(rt);
                 take_in(floor.claims, &mut first, worker, &mut home);
             }
-            Crew { first, home, ran }
+            Returned { first, home, ran }
         },
     )
 }

@@ -12,6 +12,7 @@ mod hand;
 mod hints;
 mod limits;
 mod preparing;
+pub mod sweep_size;
 pub mod sweeping;
 pub mod swept;
 mod tickets;
@@ -19,5 +20,6 @@ mod worker;
 
 pub use ic_claim::{MAX_BUDGET, MAX_WORKERS};
 pub use ic_journal::{End, Gate, NoGate};
+pub use sweep_size::SweepSize;
 pub use sweeping::sweep;
 pub use swept::{SweepFault, Swept};

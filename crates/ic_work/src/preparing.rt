@@ -1,13 +1,17 @@
-ghost use Rattle.std.specs.Prelude.{◌≡◌, ◌+◌, ◌<◌, ◌≤◌, IfOk, length, vec_len, vec_capacity};
+ghost use Rattle.std.specs.Prelude.{◌≡◌, ◌+◌, ◌<◌, ◌≤◌, [], All, IfOk, length, replicate, vec_len, vec_capacity};
 ghost use Rattle.ic_claim.specs.Views.{new_view};
+ghost use Rattle.ic_shared.specs.Passes.{empty_pass};
+ghost use Rattle.ic_work.specs.Workers.{IsFirst, IsGuest};
 
 use crate::hints::Hint;
 use crate::limits::BLOCK;
+use crate::sweep_size::SweepSize;
 use crate::worker::Worker;
 use crossbeam_deque::{Stealer, Worker as Deque};
-use ic_claim::{Claims, MAX_BUDGET, MAX_WORKERS, Seat};
+use ic_claim::{Claims, MAX_WORKERS, Seat};
 use ic_shared::Pass;
 use std::alloc::{AllocError, Global};
+use std::collections::VecDeque;
 use std::sync::atomic::AtomicBool;
 use std::sync::ledger::Ledger;
 
@@ -34,23 +38,65 @@ pub(crate) struct Prepared<B: Ledger> {
     pub home: Vec<Pass<B>>,
 }
 
-/// What so many workers need. Their first hints tell the places of so many leads.
+impl<B: Ledger> Prepared<B> {
+    /// Makes a worker of each pass but the last one, with hints and a seat of its own; answers the hints and the pass of
+    /// the first one.
+    pub(crate) fn split_off_others(
+        &mut self,
+        alloc: Global,
+        mut passes: Vec<Pass<B>>,
+    ) -> (Deque<Hint>, Pass<B>)
+        requires table { self.old.seat.table ≡ self.old.claims.table }
+        requires new { self.old.seat.view ≡ new_view self.old.claims.budget 0 }
+        requires hints { vec_len self.old.hints ≡ vec_len passes }
+        requires some { (0 < vec_len passes) × (vec_len passes ≤ MAX_WORKERS) }
+        requires unused { passes.items ≡ replicate (vec_len passes) empty_pass }
+        requires room { (vec_len self.old.others ≡ 0) × (vec_len passes ≤ vec_capacity self.old.others) }
+        ensures first { IsFirst self.old.claims.table self.old.claims.budget self.new.seat result.1 [] }
+        ensures guests { All (λ w. IsGuest self.old.claims.table w.seat w.pass) self.new.others.items }
+        ensures count { vec_len self.new.others + 1 ≡ vec_len passes }
+        ensures rest { (self.new.claims ≡ self.old.claims) × (self.new.off ≡ self.old.off) × (self.new.home ≡ self.old.home) }
+    {
+        for number in 1..passes.len() {
+            let Some(own) = self.hints.pop() else {
+                unreachable!()
+            };
+            let Some(pass) = passes.pop() else {
+                unreachable!()
+            };
+            self.others.push_reserved(Worker {
+                number,
+                hints: own,
+                place: self.hints.len(),
+                near: VecDeque::new(alloc),
+                seat: self.claims.split(&mut self.seat),
+                pass,
+            });
+        }
+        let Some(own) = self.hints.pop() else {
+            unreachable!()
+        };
+        let Some(pass) = passes.pop() else {
+            unreachable!()
+        };
+        (own, pass)
+    }
+}
+
+/// What the workers of a sweep need. Their first hints tell the places of so many leads.
 pub(crate) fn prepare<B: Ledger>(
     alloc: Global,
     leads: usize,
-    workers: u32,
-    budget: u32,
+    size: SweepSize,
 ) -> Result<Prepared<B>, AllocError>
-    requires workers { (0 < workers) × (workers ≤ MAX_WORKERS) }
-    requires budget { budget ≤ MAX_BUDGET }
-    ensures seat { IfOk result (λ p. (p.seat.table ≡ p.claims.table) × (p.claims.budget ≡ budget) × (p.seat.view ≡ new_view budget 0)) }
-    ensures hints { IfOk result (λ p. vec_len p.hints ≡ workers) }
-    ensures off { IfOk result (λ p. vec_len p.off ≡ workers) }
-    ensures others { IfOk result (λ p. (vec_len p.others ≡ 0) × (workers ≤ vec_capacity p.others)) }
-    ensures home { IfOk result (λ p. (vec_len p.home ≡ 0) × (workers ≤ vec_capacity p.home)) }
+    ensures seat { IfOk result (λ p. (p.seat.table ≡ p.claims.table) × (p.claims.budget ≡ size.budget) × (p.seat.view ≡ new_view size.budget 0)) }
+    ensures hints { IfOk result (λ p. vec_len p.hints ≡ size.workers) }
+    ensures off { IfOk result (λ p. vec_len p.off ≡ size.workers) }
+    ensures others { IfOk result (λ p. (vec_len p.others ≡ 0) × (size.workers ≤ vec_capacity p.others)) }
+    ensures home { IfOk result (λ p. (vec_len p.home ≡ 0) × (size.workers ≤ vec_capacity p.home)) }
 {
-    let count = workers as usize;
-    let (claims, seat) = Claims::make(alloc, budget)?;
+    let count = size.workers as usize;
+    let (claims, seat) = Claims::make(alloc, size.budget)?;
     let mut hints = Vec::with_capacity(alloc, count)?;
     let mut stealers = Vec::with_capacity(alloc, count)?;
     let mut off = Vec::with_capacity(alloc, count)?;

@@ -1,22 +1,18 @@
-ghost use Rattle.std.specs.Prelude.{◌≡◌, ◌+◌, ◌<◌, ◌≤◌, ℕ, [], All, IfErr, IfOk, max, replicate, vec_len, vec_capacity};
-ghost use Rattle.ic_claim.specs.Views.{new_view};
+ghost use Rattle.std.specs.Prelude.{◌≡◌, ◌+◌, ◌<◌, ◌≤◌, ℕ, IfErr, IfOk, max};
 ghost use Rattle.ic_journal.specs.Reduced.{Reduces};
-ghost use Rattle.ic_shared.specs.Passes.{empty_pass};
 ghost use Rattle.ic_work.specs.Sweeps.{IsGivenBack, Sweeps};
-ghost use Rattle.ic_work.specs.Workers.{IsFirst, IsGuest};
 
-use crate::crew::{Crew, run_crew};
+use crate::crew::{Crew, Returned, run_crew};
 use crate::floor::Floor;
-use crate::hints::Hint;
 use crate::limits::MOST;
 use crate::preparing::{Prepared, prepare};
+use crate::sweep_size::SweepSize;
 use crate::swept::{SweepFault, Swept};
 use crate::worker::Worker;
-use crossbeam_deque::Worker as Deque;
-use ic_claim::{Claims, MAX_BUDGET, MAX_WORKERS, Seat};
+use ic_claim::MAX_BUDGET;
 use ic_journal::{Bench, Gate, Store, fire_least};
 use ic_name::AgentId;
-use ic_shared::{Pass, settle, share};
+use ic_shared::{settle, share};
 use std::alloc::Global;
 use std::collections::VecDeque;
 use std::marker::Brand;
@@ -24,9 +20,8 @@ use std::sync::Wait;
 use std::sync::ledger::{Blank, Ledger};
 use std::thread::Threads;
 
-/// Fires active pairs on a bench by so many workers, 1 to `MAX_WORKERS` of them. The first one is the caller. They fire at
-/// most as many events as the budget says, which is at most `MAX_BUDGET`. What the workers leave of the budget is fired
-/// in the order of one worker.
+/// Fires active pairs on a bench by so many workers as the size says. The first one is the caller. They fire at most as many
+/// events as it says. What the workers leave of that budget is fired in the order of one worker.
 ///
 /// As many workers are started as were asked for, but no more than the budget says, and the caller even if it says 0. A worker
 /// whose thread can't be started is left out, and `ran` counts the others.
@@ -44,98 +39,100 @@ pub fn sweep<G: Gate, R: Threads + Wait + Sync>(
     rt: &R,
     alloc: Global,
     bench: Bench<Store>,
-    workers: u32,
-    budget: u32,
+    size: SweepSize,
     gate: &G,
 ) -> Result<Swept, SweepFault>
-    requires workers { (0 < workers) × (workers ≤ MAX_WORKERS) }
-    requires budget { budget ≤ MAX_BUDGET }
-    ensures swept { IfOk result (λ s. Sweeps bench budget s.fired s.end s.bench) }
-    ensures ran { IfOk result (λ s. (0 < s.ran) × (s.ran ≤ workers) × (s.ran ≤ max budget 1)) }
+    ensures swept { IfOk result (λ s. Sweeps bench size.budget s.fired s.end s.bench) }
+    ensures ran { IfOk result (λ s. (0 < s.ran) × (s.ran ≤ size.workers) × (s.ran ≤ max size.budget 1)) }
     ensures fault { IfErr result (λ f. IsGivenBack bench f) }
 {
     let Ok(leads) = bench.leads() else {
         return Err(SweepFault::Memory(bench));
     };
-    let workers = workers.min(budget.max(1));
-    sweep_as::<Brand, G, R>(
-        rt,
+    let workers = size.workers.min(size.budget.max(1));
+    let budget = size.budget;
+    let plan = Plan {
         alloc,
-        bench,
-        &leads,
-        Blank::new(u64::from(workers) + 1),
-        workers,
-        budget,
+        leads: &leads,
+        size: SweepSize { workers, budget },
         gate,
-    )
+    };
+    sweep_as::<Brand, G, R>(rt, bench, Blank::new(u64::from(workers) + 1), &plan)
 }
 
-/// How many events each of so many workers fires under one lock, at most: so few that none holds much of the budget.
-fn most_in_a_run(workers: u32, budget: u32) -> usize
-    requires { (0 < workers) × (workers ≤ MAX_WORKERS) }
-{
-    (budget / (2 * workers)).clamp(1, MOST as u32) as usize
+/// How many events each worker of a sweep fires under one lock, at most: so few that none holds much of the budget.
+fn most_in_a_run(size: SweepSize) -> usize {
+    (size.budget / (2 * size.workers)).clamp(1, MOST as u32) as usize
 }
 
-/// The sweep over a ledger of its own, with these agents as the first hints.
+/// What a sweep goes by: memory, the agents that are its first hints, its size and its gate.
+#[derive(Drop)]
+struct Plan<'a, G: Gate> {
+    alloc: Global,
+    leads: &'a [AgentId],
+    size: SweepSize,
+    gate: &'a G,
+}
+
+/// The sweep over a ledger of its own.
 fn sweep_as<B: Ledger + Send + Sync, G: Gate, R: Threads + Wait + Sync>(
     rt: &R,
-    alloc: Global,
     bench: Bench<Store>,
-    leads: &[AgentId],
     blank: Blank,
-    workers: u32,
-    budget: u32,
-    gate: &G,
+    plan: &Plan<'_, G>,
 ) -> Result<Swept, SweepFault>
     requires name { blank.name ≡ B.name }
-    requires parts { (blank.parts ≡ B.parts) × (blank.parts ≡ workers + 1) }
-    requires workers { (0 < workers) × (workers ≤ MAX_WORKERS) }
-    requires budget { budget ≤ MAX_BUDGET }
-    ensures swept { IfOk result (λ s. Sweeps bench budget s.fired s.end s.bench) }
-    ensures ran { IfOk result (λ s. (0 < s.ran) × (s.ran ≤ workers)) }
+    requires parts { (blank.parts ≡ B.parts) × (blank.parts ≡ plan.now.size.workers + 1) }
+    ensures swept { IfOk result (λ s. Sweeps bench plan.now.size.budget s.fired s.end s.bench) }
+    ensures ran { IfOk result (λ s. (0 < s.ran) × (s.ran ≤ plan.now.size.workers)) }
     ensures fault { IfErr result (λ f. IsGivenBack bench f) }
 {
     bench.lawful();
     let stood = bench.standing_count();
-    let Ok(prepared) = prepare::<B>(alloc, leads.len(), workers, budget) else {
+    let Ok(mut prepared) = prepare::<B>(plan.alloc, plan.leads.len(), plan.size) else {
         return Err(SweepFault::Memory(bench));
     };
-    let Prepared {
-        claims,
-        mut seat,
-        hints,
-        stealers,
-        off,
-        mut others,
-        home,
-    } = prepared;
-    let (shared, opening, passes) = match share::<B>(alloc, bench, blank, workers) {
+    let (shared, opening, passes) = match share::<B>(plan.alloc, bench, blank, plan.size.workers) {
         Ok(all) => all,
         Err(bench) => return Err(SweepFault::Memory(bench)),
     };
-    let (hints, pass) = split_off_others(alloc, &claims, &mut seat, hints, passes, &mut others);
+    let (hints, pass) = prepared.split_off_others(plan.alloc, passes);
+    let Prepared {
+        claims,
+        seat,
+        stealers,
+        off,
+        others,
+        home,
+        ..
+    } = prepared;
+    let floor = Floor {
+        shared: &shared,
+        claims: &claims,
+        gate: plan.gate,
+        hints: stealers.as_slice(),
+        leads: plan.leads,
+        off: off.as_slice(),
+        most: most_in_a_run(plan.size),
+    };
     let first = Worker {
         number: 0,
         hints,
         place: 0,
-        near: VecDeque::new(alloc),
+        near: VecDeque::new(plan.alloc),
         seat,
         pass,
     };
-    let floor = Floor {
-        shared: &shared,
-        claims: &claims,
-        gate,
-        hints: stealers.as_slice(),
-        leads,
-        most: most_in_a_run(workers, budget),
+    let crew = Crew {
+        first,
+        others,
+        home,
     };
-    let Crew {
+    let Returned {
         first,
         mut home,
         ran,
-    } = run_crew(rt, alloc, &floor, first, others, off.as_slice(), home);
+    } = run_crew(rt, plan.alloc, &floor, crew);
     let Worker { mut seat, pass, .. } = first;
     // The step shows that there are no more tickets than the budget.
     claims.is_stopped(&mut seat);
@@ -145,57 +142,12 @@ fn sweep_as<B: Ledger + Send + Sync, G: Gate, R: Threads + Wait + Sync>(
         Ok(settled) => {
             settled.bench.lawful();
             let by_workers = (settled.bench.standing_count() - stood) as u32;
-            let swept = fire_rest(settled.bench, by_workers, budget, gate, ran);
+            let swept = fire_rest(settled.bench, by_workers, plan.size.budget, plan.gate, ran);
             swept.bench.lawful();
             Ok(swept)
         }
         Err(fault) => Err(SweepFault::Settle(fault)),
     }
-}
-
-/// Makes a worker of each pass but the last one, with hints and a seat of its own; answers the hints and the pass of
-/// the first one.
-fn split_off_others<B: Ledger>(
-    alloc: Global,
-    claims: &Claims,
-    seat: &mut Seat,
-    mut hints: Vec<Deque<Hint>>,
-    mut passes: Vec<Pass<B>>,
-    others: &mut Vec<Worker<B>>,
-) -> (Deque<Hint>, Pass<B>)
-    requires table { seat.old.table ≡ claims.now.table }
-    requires new { seat.old.view ≡ new_view claims.now.budget 0 }
-    requires hints { vec_len hints ≡ vec_len passes }
-    requires some { (0 < vec_len passes) × (vec_len passes ≤ MAX_WORKERS) }
-    requires unused { passes.items ≡ replicate (vec_len passes) empty_pass }
-    requires room { (vec_len others.old ≡ 0) × (vec_len passes ≤ vec_capacity others.old) }
-    ensures first { IsFirst claims.now.table claims.now.budget seat.new result.1 [] }
-    ensures guests { All (λ w. IsGuest claims.now.table w.seat w.pass) others.new.items }
-    ensures count { vec_len others.new + 1 ≡ vec_len passes }
-{
-    for number in 1..passes.len() {
-        let Some(own) = hints.pop() else {
-            unreachable!()
-        };
-        let Some(pass) = passes.pop() else {
-            unreachable!()
-        };
-        others.push_reserved(Worker {
-            number,
-            hints: own,
-            place: hints.len(),
-            near: VecDeque::new(alloc),
-            seat: claims.split(seat),
-            pass,
-        });
-    }
-    let Some(own) = hints.pop() else {
-        unreachable!()
-    };
-    let Some(pass) = passes.pop() else {
-        unreachable!()
-    };
-    (own, pass)
 }
 
 /// Fires what the workers left of the budget, in the order of one worker.

@@ -1,8 +1,6 @@
 // A desk whose reductions a gate sees.
-ghost use Rattle.std.specs.Prelude.{◌<◌, ◌≤◌};
-
 use ic_command::{Command, Request};
-use ic_desk::{Desk, Gate};
+use ic_desk::{Desk, Gate, SweepSize};
 use ic_journal::Store;
 use ic_text::read_net;
 use std::alloc::Global;
@@ -38,15 +36,16 @@ fn reduces<T: Threads + Wait + Sync>(
     alloc: Global,
     workers: u32,
     gate: &Counter,
-) -> Option<bool>
-    requires { (0 < workers) × (workers ≤ 64) }
-{
+) -> Option<bool> {
     let start = read_net(alloc, b"G(E,a) = D(b,E);\n").ok()?;
-    let desk: Desk<Store> = Desk::over(alloc, start).ok()?;
+    let mut desk: Desk<Store> = Desk::over(alloc, start).ok()?;
     let reduce = Request::Bench(Command::Reduce(100));
-    let (_, answer) = desk
-        .carry_out_with(threads, alloc, workers, reduce, gate)
-        .ok()?;
+    let answer = if workers > 1 {
+        let size = SweepSize::new(workers, 100)?;
+        desk.sweep(threads, alloc, size, gate).ok()?.1
+    } else {
+        desk.carry_out(alloc, reduce, gate).ok()?
+    };
     Some(answer.bytes() == b"reduced 4 normal\n".as_slice())
 }
 
@@ -56,9 +55,7 @@ fn commits<T: Threads + Wait + Sync>(
     threads: &T,
     alloc: Global,
     workers: u32,
-) -> Option<(u64, bool)>
-    requires { (0 < workers) × (workers ≤ 64) }
-{
+) -> Option<(u64, bool)> {
     let gate = Counter {
         drawn: AtomicU64::new(0),
         used: AtomicU64::new(0),

@@ -2,7 +2,7 @@ use crate::session::running::{plain, run};
 use ic_command::Input;
 use ic_session::net_input::{NetInput, read_net_text};
 use ic_session::refusal::refusal_line;
-use ic_session::{Fault, MAX_READS, Prompts};
+use ic_session::{Fault, MAX_READS, Prompts, Source};
 use ic_text::Refusal;
 use std::alloc::Global;
 use std::io;
@@ -59,9 +59,9 @@ fn a_fault_of_writing(rt: HostRuntime) -> Result<(), Fail> {
 
 /// Whether the net text in front of the bar is read so.
 fn reads_net(alloc: Global, mut reader: &[u8], text: &[u8]) -> Result<bool, Fail> {
-    let mut input = Input::new(alloc, 10)?;
+    let mut source = Source::new(alloc, Input::new(alloc, 10)?, &mut reader);
     let mut errors: Vec<u8> = Vec::new(alloc);
-    match read_net_text(alloc, &mut input, &mut reader, &mut errors, Prompts::Silent) {
+    match read_net_text(alloc, &mut source, &mut errors, Prompts::Silent) {
         Ok(NetInput::Whole { text: net, barred }) => Ok(barred && net.as_slice() == text),
         _ => Ok(false),
     }

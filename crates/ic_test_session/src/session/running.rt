@@ -1,16 +1,12 @@
-ghost use Rattle.std.specs.Prelude.{◌≡◌, ◌<◌, ◌≤◌};
-
 use ic_command::{Input, Output};
-use ic_session::{Fault, Mode, NoGate, Prompts, Setting, Status, run_session};
+use ic_session::{Fault, Mode, NoGate, Prompts, Setting, Sink, Source, Status, run_session};
 use std::alloc::Global;
 use std::io::{Read, Write};
 use std::sync::Wait;
 use std::thread::Threads;
 
 /// The mode of a session by so many workers that answers commands alone.
-pub fn plain(workers: u8) -> Mode
-    ensures { result.workers ≡ workers }
-{
+pub fn plain(workers: u8) -> Mode {
     Mode {
         workers,
         budget: 1_048_576,
@@ -29,11 +25,7 @@ pub fn run<R: Read, W: Write, T: Threads + Wait + Sync>(
     reads: u32,
     reader: &mut R,
     writer: &mut W,
-) -> Result<Status, Fault>
-    requires { (0 < mode.workers) × (mode.workers ≤ 64) }
-{
-    let mut input = Input::new(alloc, reads)?;
-    let mut output = Output::new();
+) -> Result<Status, Fault> {
     let setting = Setting {
         threads,
         alloc,
@@ -41,13 +33,11 @@ pub fn run<R: Read, W: Write, T: Threads + Wait + Sync>(
         mode,
         prompts: Prompts::Silent,
     };
-    let mut unheard: Vec<u8> = Vec::new(alloc);
-    run_session(
-        &setting,
-        &mut input,
-        reader,
-        &mut output,
+    let mut source = Source::new(alloc, Input::new(alloc, reads)?, reader);
+    let mut sink = Sink {
         writer,
-        &mut unheard,
-    )
+        output: Output::new(),
+    };
+    let mut unheard: Vec<u8> = Vec::new(alloc);
+    run_session(&setting, &mut source, &mut sink, &mut unheard)
 }

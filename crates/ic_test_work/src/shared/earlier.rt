@@ -6,7 +6,7 @@ use crate::shared::refused_growth::first_pair;
 use ic_journal::{Bench, Store};
 use ic_name::{EventId, Reply};
 use ic_shared::{Opening, Pass, Shared, settle, share};
-use ic_work::{End, NoGate, sweep};
+use ic_work::{End, NoGate, SweepSize, sweep};
 use std::alloc::Global;
 use std::marker::Brand;
 use std::sync::Wait;
@@ -101,9 +101,10 @@ fn a_history_with_every_reply_settles(rt: HostRuntime) -> Result<(), Fail> {
 
 /// What a bench shows on which sweeps of so many events each follow one another until one ends otherwise than by its budget.
 fn swept_by<R: Threads + Wait + Sync>(rt: &R, alloc: Global, budget: u32) -> Option<Vec<u8>> {
+    let size = SweepSize::new(2, budget)?;
     let mut bench = bench_over(alloc, FOUR_COPIES)?;
     for _ in 0..100 {
-        let swept = sweep(rt, alloc, bench, 2, budget.min(100), &NoGate).ok()?;
+        let swept = sweep(rt, alloc, bench, size, &NoGate).ok()?;
         bench = swept.bench;
         if swept.end != End::Budget {
             return shown(alloc, &bench);

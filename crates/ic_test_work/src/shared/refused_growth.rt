@@ -5,7 +5,7 @@ use crate::benches::{FOUR_COPIES, bench_over};
 use crate::shared::stale::settled_lines;
 use ic_journal::{Bench, FireFault, Proposal, Store};
 use ic_shared::{Pass, Shared, share};
-use ic_work::{NoGate, SweepFault, sweep};
+use ic_work::{NoGate, SweepFault, SweepSize, sweep};
 use std::alloc::Global;
 use std::marker::Brand;
 use std::sync::Wait;
@@ -99,8 +99,8 @@ fn swept<R: Threads + Wait + Sync>(
     bench: Bench<Store>,
     two: bool,
 ) -> Option<Bench<Store>> {
-    let workers = if two { 2 } else { 1 };
-    match sweep(rt, alloc, bench, workers, 100, &NoGate) {
+    let size = SweepSize::new(if two { 2 } else { 1 }, 100)?;
+    match sweep(rt, alloc, bench, size, &NoGate) {
         Ok(swept) => Some(swept.bench),
         Err(SweepFault::Memory(bench)) => Some(bench),
         Err(SweepFault::Settle(..)) => None,

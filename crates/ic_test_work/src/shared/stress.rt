@@ -6,7 +6,7 @@ use ic_journal::{Bench, Proposal, Store};
 use ic_name::{Call, Event, EventId, Line};
 use ic_shared::{Pass, Shared, settle, share};
 use ic_undo::undo_all;
-use ic_work::{End, NoGate, sweep};
+use ic_work::{End, NoGate, SweepSize, sweep};
 use std::alloc::Global;
 use std::marker::Brand;
 use std::sync::Wait;
@@ -139,7 +139,7 @@ fn sweeps_and_clears<R: Threads + Wait + Sync>(
     alloc: Global,
     bench: Bench<Store>,
 ) -> Option<bool> {
-    let mut swept = sweep(rt, alloc, bench, 4, 1_048_576, &NoGate).ok()?;
+    let mut swept = sweep(rt, alloc, bench, SweepSize::new(4, 1_048_576)?, &NoGate).ok()?;
     let text = shown(alloc, &swept.bench)?;
     let whole = swept.end == End::Normal && text.as_slice() == FOUR_COPIES_SWEPT;
     Some(whole && clears(alloc, &mut swept.bench)?)

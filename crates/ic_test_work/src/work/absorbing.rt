@@ -3,7 +3,7 @@ use crate::benches::{FOUR_COPIES, bench_over, shown};
 use ic_journal::{Bench, Store};
 use ic_name::EventName;
 use ic_undo::absorb;
-use ic_work::{End, NoGate, sweep};
+use ic_work::{End, NoGate, SweepSize, sweep};
 use std::alloc::Global;
 use std::sync::Wait;
 use std::test::Fail;
@@ -15,11 +15,9 @@ fn bench_swept<R: Threads + Wait + Sync>(
     alloc: Global,
     budget: u32,
 ) -> Option<Bench<Store>> {
-    if budget > 1_048_576 {
-        return None;
-    }
+    let size = SweepSize::new(2, budget)?;
     let bench = bench_over(alloc, FOUR_COPIES)?;
-    let swept = sweep(rt, alloc, bench, 2, budget, &NoGate).ok()?;
+    let swept = sweep(rt, alloc, bench, size, &NoGate).ok()?;
     if swept.fired != budget || swept.end != End::Budget {
         return None;
     }

@@ -1,5 +1,5 @@
 use crate::benches::{FOUR_COPIES, bench_over};
-use ic_work::{End, Gate, MAX_BUDGET, MAX_WORKERS, sweep};
+use ic_work::{End, Gate, SweepSize, sweep};
 use std::alloc::Global;
 use std::sync::Wait;
 use std::sync::atomic::{AtomicBool, AtomicU64, Ordering};
@@ -116,12 +116,10 @@ fn fires_all<R: Threads + Wait + Sync>(
     hold: Hold,
     gate: &HoldsFirst,
 ) -> Result<bool, Fail> {
-    if hold.held >= MAX_WORKERS || hold.budget > MAX_BUDGET {
-        return Ok(false);
-    }
-    let workers = hold.held + 1;
+    let workers = hold.held.saturating_add(1);
+    let size = SweepSize::new(workers, hold.budget).ok_or("a size within its limits")?;
     let bench = bench_over(alloc, text).ok_or("a bench")?;
-    let swept = sweep(rt, alloc, bench, workers, hold.budget, gate)
+    let swept = sweep(rt, alloc, bench, size, gate)
         .ok()
         .ok_or("a sweep that settles")?;
     let whole = swept.fired == hold.events && swept.end == End::Normal;

@@ -1,7 +1,7 @@
 use crate::benches::{ENDLESS, FOUR_COPIES, FOUR_COPIES_SWEPT, bench_over, shown};
 use crate::work::random_nets::{Numbers, some_net};
 use ic_journal::{Bench, Store};
-use ic_work::{End, NoGate, Swept, sweep};
+use ic_work::{End, NoGate, SweepSize, Swept, sweep};
 use std::alloc::Global;
 use std::sync::Wait;
 use std::test::Fail;
@@ -15,11 +15,9 @@ fn swept<R: Threads + Wait + Sync>(
     workers: u32,
     budget: u32,
 ) -> Option<Swept> {
-    if workers == 0 || workers > 64 || budget > 1_048_576 {
-        return None;
-    }
+    let size = SweepSize::new(workers, budget)?;
     let bench = bench_over(alloc, text)?;
-    sweep(rt, alloc, bench, workers, budget, &NoGate).ok()
+    sweep(rt, alloc, bench, size, &NoGate).ok()
 }
 
 /// What a sweep tells, and what its bench shows.

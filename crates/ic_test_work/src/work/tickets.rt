@@ -1,6 +1,6 @@
 // Which tickets a gate is asked of and told of.
 use crate::benches::{ENDLESS, FOUR_COPIES, bench_over};
-use ic_work::{Gate, sweep};
+use ic_work::{Gate, SweepSize, sweep};
 use std::alloc::{AllocError, Global};
 use std::sync::Wait;
 use std::sync::atomic::{AtomicU64, Ordering};
@@ -73,11 +73,9 @@ fn fired<R: Threads + Wait + Sync>(
     gate: &Notes,
 ) -> Option<u32> {
     let (workers, budget) = limits;
-    if workers == 0 || workers > 64 || budget > 1_000 {
-        return None;
-    }
+    let size = SweepSize::new(workers, budget)?;
     let bench = bench_over(alloc, text)?;
-    let swept = sweep(rt, alloc, bench, workers, budget, gate).ok()?;
+    let swept = sweep(rt, alloc, bench, size, gate).ok()?;
     Some(swept.fired)
 }
 

@@ -30,11 +30,11 @@ invariant_of-result-in-Err-Memory g c =
 
 pub returns-in_ok-answer-in-Ok : goal.returns-in_ok-answer-in-Ok
 returns-in_ok-answer-in-Ok g c =
-    subst (λ (v : DeskView). TurnsWith c.args.workers v (Bench (Reduce c.args.most)) (answer_text c.in_ok-answer-in-Ok.answer) (desk_of c.in-Ok.swept.bench c.self.inside.marks.items)) c.self.view_is
-    (sweep_told c.args.workers c.self.inside.bench c.in-Ok.swept.bench c.self.inside.marks.items c.args.most c.in-Ok.swept.fired c.in-Ok.swept.end c.in_ok-answer-in-Ok.answer
-    c.requires.workers.0 c.in-Ok.ensures.swept c.in_ok-answer-in-Ok.ensures.answer)
+    subst (λ (v : DeskView). TurnsWith c.args.size.workers v (Bench (Reduce c.args.size.budget)) (answer_text c.in_ok-answer-in-Ok.answer) (desk_of c.in-Ok.swept.bench c.self.inside.marks.items)) c.self.view_is
+    (sweep_told c.args.size.workers c.self.inside.bench c.in-Ok.swept.bench c.self.inside.marks.items c.args.size.budget c.in-Ok.swept.fired c.in-Ok.swept.end c.in_ok-answer-in-Ok.answer
+    c.requires c.in-Ok.ensures.swept c.in_ok-answer-in-Ok.ensures.answer)
 
 pub returns-in-Err-Memory : goal.returns-in-Err-Memory
 returns-in-Err-Memory g c =
-    rw c.in-Err-Memory.field-0-is (subst (λ (v : DeskView). TurnsWith c.args.workers v (Bench (Reduce c.args.most)) (refusal_text MemoryBeforeReduce) (desk_of c.in-Err-Memory.bench c.self.inside.marks.items)) c.self.view_is
-    (wanting_turns c.args.workers c.self.inside.bench c.in-Err-Memory.bench c.self.inside.marks.items c.args.most (given_back g c)))
+    rw c.in-Err-Memory.field-0-is (subst (λ (v : DeskView). TurnsWith c.args.size.workers v (Bench (Reduce c.args.size.budget)) (refusal_text MemoryBeforeReduce) (desk_of c.in-Err-Memory.bench c.self.inside.marks.items)) c.self.view_is
+    (wanting_turns c.args.size.workers c.self.inside.bench c.in-Err-Memory.bench c.self.inside.marks.items c.args.size.budget (given_back g c)))

@@ -19,6 +19,18 @@ job-worker-requires-after_bounds g c κs within =
     let rest = All-pop P c.loop-worker.others.items c.pop.new.self.items (Some c.in-Some.worker) c.in-Some.ensures.items c.loop-worker.invariant.guests in
     rw c.in-Err.ensures.err rest.1
 
+pub offset_bounds-floor-started : goal.offset_bounds-floor-started
+offset_bounds-floor-started g c =
+    let begun = c.loop-worker.invariant.begun in
+    let few = c.requires.few in
+    omega (arith, begun, few)
+
+pub overflow_add-started : goal.overflow_add-started
+overflow_add-started g c =
+    let begun = c.loop-worker.invariant.begun in
+    let few = c.requires.few in
+    omega (arith, begun, few)
+
 pub loop-worker-preserved-in-Ok : goal.loop-worker-preserved-in-Ok
 loop-worker-preserved-in-Ok g c =
     let P : Worker g.row.B.Denot → Type 0 = λ w. IsGuest c.captures.floor.now.claims.now.table w.seat w.pass in
@@ -29,6 +41,7 @@ loop-worker-preserved-in-Ok g c =
     let one_more = c.push_reserved.ensures.len in
     let capacity = c.push_reserved.ensures.capacity in
     let one_less = c.in-Some.ensures.cases in
+    let begun = i.begun in
     let off = i.off in
     let handles = i.handles in
     let few = i.few in
@@ -36,6 +49,7 @@ loop-worker-preserved-in-Ok g c =
       first = i.first;
       guests = rest.0;
       promised = All-same Q c.push_reserved.new.self.items _ c.push_reserved.ensures.items more;
+      begun = omega arith;
       off = omega arith;
       handles = omega arith;
       few = omega arith;
@@ -52,6 +66,7 @@ loop-worker-preserved g c =
     let one_home = c.take_in.ensures.one in
     let same_room = c.take_in.ensures.room in
     let one_less = c.in-Some.ensures.cases in
+    let begun = i.begun in
     let off = i.off in
     let handles = i.handles in
     let few = i.few in
@@ -60,6 +75,7 @@ loop-worker-preserved g c =
       first = c.take_in.ensures.first;
       guests = rest.0;
       promised = i.promised;
+      begun = omega arith;
       off = omega arith;
       handles = omega arith;
       few = omega arith;

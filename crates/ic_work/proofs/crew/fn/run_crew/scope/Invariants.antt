@@ -7,7 +7,8 @@ invariant-loop-worker g l = record {
   first : IsFirst l.floor.claims.now.table l.floor.claims.now.budget l.first.seat l.first.pass l.home.items;
   guests : All (λ w. IsGuest l.floor.claims.now.table w.seat w.pass) l.others.items;
   promised : All (λ h. h.promise.claims.value.table ≡ l.floor.claims.now.table) l.handles.items;
-  off : l.started + vec_len l.others ≤ length l.off;
+  begun : l.started + vec_len l.others ≡ vec_len l.initial.others;
+  off : l.started + vec_len l.others ≤ length l.floor.off.now;
   handles : vec_len l.handles + vec_len l.others ≤ vec_capacity l.handles;
   few : vec_len l.handles + vec_len l.others ≤ vec_len l.initial.others;
   all : vec_len l.home + vec_len l.handles + vec_len l.others ≡ vec_len l.initial.home + vec_len l.initial.others;

@@ -3,12 +3,12 @@ use Rattle.std.proofs.lemmas.List.Elements.{All-pop, All-push}
 use Rattle.ic_shared.specs.Passes.{PassView, added_by, empty_pass}
 use Rattle.ic_work.specs.Workers.{IsGuest}
 use Rattle.ic_work.specs.declared.worker.Worker.{Worker}
-use Rattle.ic_work.proofs.sweeping.split_off_others.Goals as goal
+use Rattle.ic_work.proofs.preparing.Prepared.split_off_others.Goals as goal
 
 pub loop-number-preserved : goal.loop-number-preserved
 loop-number-preserved g c =
     let P : PassView → Type 0 = λ p. p ≡ empty_pass in
-    let Q : Worker g.row.B.Denot → Type 0 = λ w. IsGuest c.args.claims.now.table w.seat w.pass in
+    let Q : Worker g.row.B.Denot → Type 0 = λ w. IsGuest c.args.self.now.claims.table w.seat w.pass in
     let i = c.loop-number.invariant in
     let rest = All-pop P c.loop-number.passes.items c.pop-in-loop-number.new.self.items (Some c.in-Some-pop.pass) c.in-Some-pop.ensures.items i.9 in
     let counted = c.split.ensures.counted in
@@ -24,7 +24,7 @@ loop-number-preserved g c =
     let len = c.push_reserved.ensures.len in
     let cap = c.push_reserved.ensures.capacity in
     let number = ap (λ v. v.number) next in
-    let guest : IsGuest c.args.claims.now.table c.split.result c.in-Some-pop.pass = record {
+    let guest : IsGuest c.args.self.now.claims.table c.split.result c.in-Some-pop.pass = record {
       seated = record { placed = c.split.ensures.tables.1 ∙ i.0; free = ap (λ v. v.held) next };
       later = λ e. (let n = sym number ∙ e in absurd (omega (arith, n)));
       spent = (let none = ap added_by rest.1 in omega arith);
@@ -40,7 +40,10 @@ loop-number-preserved g c =
       omega arith,
       omega arith,
       rest.0,
-      subst (All Q) (sym {A = List (Worker g.row.B.Denot)} c.push_reserved.ensures.items) (All-push Q c.loop-number.others.items _ i.10 guest),
+      subst (All Q) (sym {A = List (Worker g.row.B.Denot)} c.push_reserved.ensures.items) (All-push Q c.loop-number.self.others.items _ i.10 guest),
+      i.11,
+      i.12,
+      i.13,
     )
 
 pub returns-clause-first : goal.returns-clause-first
