@@ -33,51 +33,46 @@ fn port_of(alloc: Global, agents: usize, names: usize, spot: Spot) -> Port
     }
 }
 
-/// The partner of a start agent's port, by a table of far ends.
-fn partner_of(
-    alloc: Global,
+/// A table of far ends, for so many agents and names.
+#[derive(Clone, Copy)]
+struct FarEnds<'a> {
     agents: usize,
     names: usize,
-    ends: &[Spot],
-    number: u32,
-    port: u8,
-) -> Port
-    requires table { IsFarTable agents names ends.now }
-    requires few { agents ≤ 65535 }
-    requires names { names ≤ 2 ^ 32 }
-    requires number { number < agents }
+    ends: &'a [Spot],
+}
+
+/// The partner of a start agent's port, by a table of far ends.
+fn partner_of(alloc: Global, table: &FarEnds<'_>, number: u32, port: u8) -> Port
+    requires table { IsFarTable table.now.agents table.now.names table.now.ends.now }
+    requires few { table.now.agents ≤ 65535 }
+    requires names { table.now.names ≤ 2 ^ 32 }
+    requires number { number < table.now.agents }
     requires port { port ≤ 2 }
-    ensures { result ≡ agent_partner agents ends.now number port }
+    ensures { result ≡ agent_partner table.now.agents table.now.ends.now number port }
 {
     let agent = AgentId {
         slot: number,
         serial: 0,
     };
-    let end = end_of(ends, agents, names, Spot::Agent(agent, port));
-    port_of(alloc, agents, names, end)
+    let spot = Spot::Agent(agent, port);
+    let end = end_of(table.ends, table.agents, table.names, spot);
+    port_of(alloc, table.agents, table.names, end)
 }
 
 /// The partners of a start agent's ports, by a table of far ends.
-fn partners_of(
-    alloc: Global,
-    agents: usize,
-    names: usize,
-    ends: &[Spot],
-    number: u32,
-    kind: Kind,
-) -> Partners
-    requires table { IsFarTable agents names ends.now }
-    requires few { agents ≤ 65535 }
-    requires names { names ≤ 2 ^ 32 }
-    requires number { number < agents }
-    ensures { partner_list result ≡ at_ports kind (agent_partner agents ends.now number) }
+fn partners_of(alloc: Global, table: &FarEnds<'_>, number: u32, kind: Kind) -> Partners
+    requires table { IsFarTable table.now.agents table.now.names table.now.ends.now }
+    requires few { table.now.agents ≤ 65535 }
+    requires names { table.now.names ≤ 2 ^ 32 }
+    requires number { number < table.now.agents }
+    ensures { partner_list result ≡ at_ports kind (agent_partner table.now.agents table.now.ends.now number) }
 {
     match kind {
-        Kind::Eps => Partners::One([partner_of(alloc, agents, names, ends, number, 0)]),
+        Kind::Eps => Partners::One([partner_of(alloc, table, number, 0)]),
         Kind::Gamma | Kind::Delta => Partners::Three([
-            partner_of(alloc, agents, names, ends, number, 0),
-            partner_of(alloc, agents, names, ends, number, 1),
-            partner_of(alloc, agents, names, ends, number, 2),
+            partner_of(alloc, table, number, 0),
+            partner_of(alloc, table, number, 1),
+            partner_of(alloc, table, number, 2),
         ]),
     }
 }
@@ -97,10 +92,15 @@ pub(crate) fn agents_of(
 {
     let mut agents = BTreeMap::new(alloc);
     let count = kinds.len();
+    let table = FarEnds {
+        agents: count,
+        names,
+        ends,
+    };
     for number in 0..count {
         let kind = kinds[number];
         let name = AgentName::start(alloc, number as u16).unwrap();
-        let partners = partners_of(alloc, count, names, ends, number as u32, kind);
+        let partners = partners_of(alloc, &table, number as u32, kind);
         let _ = agents.insert(name, NetAgent { kind, partners })?;
     }
     Ok(agents)
