@@ -7,9 +7,8 @@ use crate::agent_records::AgentRecords;
 use crate::dependents::{put_at_each, reserve_places, take_at_each};
 use crate::event_record::EventRecord;
 use crate::events::{GoneEvent, StandingEntry};
-use crate::interaction::Interaction;
 use crate::reserving::reserve_slot;
-use ic_name::{AgentId, EventId};
+use ic_name::EventId;
 use ic_names::NameId;
 use ic_slots::SlotIndex;
 use slab::Slab;
@@ -143,36 +142,30 @@ impl EventRecords {
 
     /// One event more, fired in this line, with its direct causes, which stand, in constant time for each but for growth. At an
     /// error nothing changes.
-    pub fn insert(
-        &mut self,
-        interaction: Interaction,
-        line: u32,
-        rank: u32,
-        born: &[AgentId],
-        causes: &[EventId],
-    ) -> Result<EventId, AllocError>
-        requires is_new { IsNewKey self.old line interaction.lead.place }
-        requires kept { AreKept self.old causes.now }
-        requires once { IsOnce causes.now }
-        ensures entered { IfOk result (λ id. (id.line ≡ line) × Alike (record { id = id; interaction = interaction; rank = rank; born = born.now; causes = causes.now } ∷ self.old) self.new) }
+    pub fn insert(&mut self, line: u32, event: &StandingEntry<'_>) -> Result<EventId, AllocError>
+        requires is_new { IsNewKey self.old line event.now.interaction.lead.place }
+        requires kept { AreKept self.old event.now.causes.now }
+        requires once { IsOnce event.now.causes.now }
+        ensures entered { IfOk result (λ id. (id.line ≡ line) × Alike (record { id = id; interaction = event.now.interaction; rank = event.now.rank; born = event.now.born.now; causes = event.now.causes.now } ∷ self.old) self.new) }
         ensures unchanged { OnErr result (self.new ≡ self.old) }
     {
-        let born = SmallVec::from_slice(self.alloc, born)?;
-        let its_causes = SmallVec::from_slice(self.alloc, causes)?;
-        reserve_places(&mut self.records, causes)?;
+        let interaction = event.interaction;
+        let born = SmallVec::from_slice(self.alloc, event.born)?;
+        let its_causes = SmallVec::from_slice(self.alloc, event.causes)?;
+        reserve_places(&mut self.records, event.causes)?;
         let slot = reserve_slot(&mut self.records)?;
         self.leads.reserve(interaction.lead.place)?;
         self.leads.put(interaction.lead.place, slot);
         self.records.insert_reserved(EventRecord {
             interaction,
             line,
-            rank,
+            rank: event.rank,
             born,
             causes: its_causes,
             dependents: SmallVec::new(self.alloc),
         });
         let id = EventId { slot, line };
-        put_at_each(&mut self.records, causes, id);
+        put_at_each(&mut self.records, event.causes, id);
         Ok(id)
     }
 

@@ -12,7 +12,7 @@ use ic_names::NameId;
 use smallvec::SmallVec;
 use std::alloc::{AllocError, Global};
 
-/// A standing event, to be read, with the ids of its children and of its direct causes.
+/// A standing event, with the ids of its children and of its direct causes.
 #[derive(Clone, Copy)]
 pub struct StandingEntry<'a> {
     pub interaction: Interaction,
@@ -105,22 +105,19 @@ impl Roster {
     /// error nothing changes.
     pub fn insert_event(
         &mut self,
-        interaction: Interaction,
         line: u32,
-        rank: u32,
-        born: &[AgentId],
-        causes: &[EventId],
+        event: &StandingEntry<'_>,
     ) -> Result<EventId, AllocError>
-        requires named { IsNamed self.old.names interaction }
-        requires is_new { IsNewEvent self.old.events line (event_in self.old.names interaction) }
-        requires standing { All (Stands self.old.events) causes.now }
-        requires once { IsOnce causes.now }
-        ensures entered { IfOk result (λ id. (id.line ≡ line) × Alike (record { id = id; event = event_in self.old.names interaction; rank = rank; born = born.now; causes = causes.now } ∷ self.old.events) self.new.events) }
+        requires named { IsNamed self.old.names event.now.interaction }
+        requires is_new { IsNewEvent self.old.events line (event_in self.old.names event.now.interaction) }
+        requires standing { All (Stands self.old.events) event.now.causes.now }
+        requires once { IsOnce event.now.causes.now }
+        ensures entered { IfOk result (λ id. (id.line ≡ line) × Alike (record { id = id; event = event_in self.old.names event.now.interaction; rank = event.now.rank; born = event.now.born.now; causes = event.now.causes.now } ∷ self.old.events) self.new.events) }
         ensures names { self.new.names ≡ self.old.names }
         ensures agents { self.new.agents ≡ self.old.agents }
         ensures unchanged { OnErr result (self.new ≡ self.old) }
     {
-        self.events.insert(interaction, line, rank, born, causes)
+        self.events.insert(line, event)
     }
 
     /// The event under the id goes, if it stands, and what was kept of it is handed out; `None` where none stands under the

@@ -19,28 +19,16 @@ ghost use Rattle.ic_set.specs.Removal.{Stands};
 
 use crate::bare::BareSet;
 use crate::entering::{NewAgent, children_of, enter_all, remove_all};
+use crate::firing::Firing;
 use crate::joining::{MAX_JOINS, add_made};
 use crate::pairs::ActivePair;
 use ic_cause::{direct_causes, rank_with};
 use ic_link::{LinkStore, Principals};
-use ic_name::{AgentId, EventId, Kind, RuleEnd};
-use ic_roster::{Interaction, Roster};
+use ic_name::{EventId, Kind};
+use ic_roster::{Interaction, Roster, StandingEntry};
 use ic_start::outcome;
 use smallvec::SmallVec;
 use std::alloc::{AllocError, Global};
-
-/// What comes with an event: its two agents with their names, its line and rank, its children, the ends of its links, and
-/// its direct causes.
-#[derive(Clone, Copy)]
-struct Firing<'a> {
-    interaction: Interaction,
-    line: u32,
-    rank: u32,
-    pair: ActivePair,
-    born: &'a [AgentId],
-    ends: &'a [(RuleEnd, RuleEnd)],
-    causes: &'a [EventId],
-}
 
 impl<L: LinkStore> BareSet<L> {
     /// One event more, that of an active pair, under an id with this line, which no standing event has: with it its
@@ -180,13 +168,13 @@ fn put_event<L: LinkStore>(
     ensures names { roster.new.names ≡ roster.old.names }
 {
     roster.lawful();
-    let id = roster.insert_event(
-        firing.interaction,
-        firing.line,
-        firing.rank,
-        firing.born,
-        firing.causes,
-    )?;
+    let event = StandingEntry {
+        interaction: firing.interaction,
+        rank: firing.rank,
+        born: firing.born,
+        causes: firing.causes,
+    };
+    let id = roster.insert_event(firing.line, &event)?;
     roster.lawful();
     let Ok(()) = put_links(store, id, firing, joins) else {
         roster.remove_event(id);
@@ -211,7 +199,7 @@ fn put_links<L: LinkStore>(
     ensures joins { OnOk result (AreJoins (L.links store.old) (made_links event firing.now.pair firing.now.born.now 0 firing.now.ends.now) joins.new) }
     ensures unchanged { OnErr result (Alike (L.links store.old) (L.links store.new)) }
 {
-    let Ok(()) = add_made(store, firing.ends, event, firing.pair, firing.born, joins) else {
+    let Ok(()) = add_made(store, event, firing, joins) else {
         store.take_of(event);
         return Err(AllocError);
     };

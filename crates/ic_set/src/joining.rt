@@ -5,6 +5,7 @@ ghost use Rattle.ic_path.specs.Links.{IsSlim};
 ghost use Rattle.ic_link.specs.Links.{shape, HaveOwnIds};
 ghost use Rattle.ic_set.specs.Joining.{moved_spot as spot_moved, moved_link, made_links, spot_of as spot_at, AreJoins, HasDigit, HaveDigits, HasNumber, HaveNumbers};
 
+use crate::firing::Firing;
 use crate::pairs::ActivePair;
 use ic_link::{LinkStore, Principals};
 use ic_name::{AgentId, EventId, Link, LinkId, MakerId, RuleEnd, Spot};
@@ -44,31 +45,29 @@ pub(crate) const MAX_JOINS: usize = 4;
 /// principal ports the first of them join. At an error some of them may have been put in, from the first one on.
 pub(crate) fn add_made<L: LinkStore>(
     store: &mut L,
-    ends: &[(RuleEnd, RuleEnd)],
     event: EventId,
-    pair: ActivePair,
-    born: &[AgentId],
+    firing: &Firing<'_>,
     joins: &mut [Option<Principals>; MAX_JOINS],
 ) -> Result<(), AllocError>
-    requires digits { HaveDigits born.now ends.now }
-    requires few { length ends.now ≤ 8 }
-    requires slim { IsSlim shape (made_links event pair born.now 0 ends.now ++ L.links store.old) }
-    requires own_ids { HaveOwnIds (made_links event pair born.now 0 ends.now ++ L.links store.old) }
-    ensures added { OnOk result (Alike (made_links event pair born.now 0 ends.now ++ L.links store.old) (L.links store.new)) }
-    ensures joins { OnOk result (AreJoins (L.links store.old) (made_links event pair born.now 0 ends.now) joins.new) }
-    ensures some { OnErr result ((front back : List ALink) × (made_links event pair born.now 0 ends.now ≡ front ++ back) × Alike (front ++ L.links store.old) (L.links store.new)) }
+    requires digits { HaveDigits firing.now.born.now firing.now.ends.now }
+    requires few { length firing.now.ends.now ≤ 8 }
+    requires slim { IsSlim shape (made_links event firing.now.pair firing.now.born.now 0 firing.now.ends.now ++ L.links store.old) }
+    requires own_ids { HaveOwnIds (made_links event firing.now.pair firing.now.born.now 0 firing.now.ends.now ++ L.links store.old) }
+    ensures added { OnOk result (Alike (made_links event firing.now.pair firing.now.born.now 0 firing.now.ends.now ++ L.links store.old) (L.links store.new)) }
+    ensures joins { OnOk result (AreJoins (L.links store.old) (made_links event firing.now.pair firing.now.born.now 0 firing.now.ends.now) joins.new) }
+    ensures some { OnErr result ((front back : List ALink) × (made_links event firing.now.pair firing.now.born.now 0 firing.now.ends.now ≡ front ++ back) × Alike (front ++ L.links store.old) (L.links store.new)) }
 {
     *joins = [None; MAX_JOINS];
-    for place in 0..ends.len() {
-        let (a, b) = ends[place];
+    for place in 0..firing.ends.len() {
+        let (a, b) = firing.ends[place];
         let id = LinkId {
             maker: MakerId::Event(event),
             place: place as u32,
         };
         let link = Link {
             id,
-            a: spot_of(pair, born, a),
-            b: spot_of(pair, born, b),
+            a: spot_of(firing.pair, firing.born, a),
+            b: spot_of(firing.pair, firing.born, b),
         };
         if place < MAX_JOINS {
             joins[place] = store.join(link)?;

@@ -5,6 +5,7 @@ pub mod admission;
 pub mod bare;
 mod by_rank;
 mod entering;
+mod firing;
 mod joining;
 pub mod kinds;
 pub mod nets;

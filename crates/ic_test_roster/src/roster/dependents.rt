@@ -5,7 +5,7 @@ ghost use Rattle.ic_path.specs.Orders.{IsOnce};
 
 use crate::roster::standing::{have_all, interaction, line_is_new, take_out};
 use ic_name::EventId;
-use ic_roster::Roster;
+use ic_roster::{Roster, StandingEntry};
 use std::alloc::Global;
 
 /// Enters the event of two start agents after these causes. It is `None` where one of this line or this lead stands.
@@ -29,7 +29,15 @@ fn stand_after(
     }
     match roster.led_by(interaction.lead) {
         Some(_) => None,
-        None => roster.insert_event(interaction, line, 0, &[], causes).ok(),
+        None => {
+            let event = StandingEntry {
+                interaction,
+                rank: 0,
+                born: &[],
+                causes,
+            };
+            roster.insert_event(line, &event).ok()
+        }
     }
 }
 

@@ -5,7 +5,7 @@ ghost use Rattle.ic_roster.specs.Rosters.{Stander, IsNamed};
 
 use crate::name::event_name;
 use ic_name::{AgentId, AgentName, EventId, Kind};
-use ic_roster::{GoneEvent, Interaction, Roster};
+use ic_roster::{GoneEvent, Interaction, Roster, StandingEntry};
 use std::alloc::Global;
 use std::cmp::Ordering;
 
@@ -81,7 +81,15 @@ fn stand(
     }
     match roster.led_by(interaction.lead) {
         Some(_) => None,
-        None => roster.insert_event(interaction, line, 7, born, &[]).ok(),
+        None => {
+            let event = StandingEntry {
+                interaction,
+                rank: 7,
+                born,
+                causes: &[],
+            };
+            roster.insert_event(line, &event).ok()
+        }
     }
 }
 

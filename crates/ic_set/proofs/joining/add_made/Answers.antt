@@ -60,31 +60,31 @@ pub loop-place-init : goal.loop-place-init
 loop-place-init g c = (alike_self _, noted_none _ _)
 
 pub spot_of-requires : goal.spot_of-requires
-spot_of-requires g c = (c.requires.digits _ (in_at c.args.ends.now c.loop-place.place _ c.loop-place-test.true)).0
+spot_of-requires g c = (c.requires.digits _ (in_at c.args.firing.now.ends.now c.loop-place.place _ c.loop-place-test.true)).0
 
 pub spot_of-requires-in-loop-place : goal.spot_of-requires-in-loop-place
-spot_of-requires-in-loop-place g c = (c.requires.digits _ (in_at c.args.ends.now c.loop-place.place _ c.loop-place-test.true)).1
+spot_of-requires-in-loop-place g c = (c.requires.digits _ (in_at c.args.firing.now.ends.now c.loop-place.place _ c.loop-place-test.true)).1
 
 pub join-requires : goal.join-requires
 join-requires g c =
     rw (c.spot_of.ensures, c.spot_of-in-loop-place.ensures)
-    (can_add c.args.event c.args.pair c.args.born.now c.args.ends.now _ _ c.loop-place.place c.loop-place-test.true c.requires.slim c.requires.own_ids c.loop-place.invariant.0)
+    (can_add c.args.event c.args.firing.now.pair c.args.firing.now.born.now c.args.firing.now.ends.now _ _ c.loop-place.place c.loop-place-test.true c.requires.slim c.requires.own_ids c.loop-place.invariant.0)
 
 pub add-requires : goal.add-requires
 add-requires g c =
     rw (c.spot_of.ensures, c.spot_of-in-loop-place.ensures)
-    (can_add c.args.event c.args.pair c.args.born.now c.args.ends.now _ _ c.loop-place.place c.loop-place-test.true c.requires.slim c.requires.own_ids c.loop-place.invariant.0)
+    (can_add c.args.event c.args.firing.now.pair c.args.firing.now.born.now c.args.firing.now.ends.now _ _ c.loop-place.place c.loop-place-test.true c.requires.slim c.requires.own_ids c.loop-place.invariant.0)
 
 pub returns-in_err-joins-clause-some : goal.returns-in_err-joins-clause-some
 returns-in_err-joins-clause-some g c =
     let i = c.loop-place.place in
-    let made = made_links c.args.event c.args.pair c.args.born.now 0 c.args.ends.now in
+    let made = made_links c.args.event c.args.firing.now.pair c.args.firing.now.born.now 0 c.args.firing.now.ends.now in
     at_error c.from_residual.result (take i made, drop i made, sym (take-append-drop i made), rw c.in_err-joins.ensures.err c.loop-place.invariant.0)
 
 pub returns-in_err-add-clause-some : goal.returns-in_err-add-clause-some
 returns-in_err-add-clause-some g c =
     let i = c.loop-place.place in
-    let made = made_links c.args.event c.args.pair c.args.born.now 0 c.args.ends.now in
+    let made = made_links c.args.event c.args.firing.now.pair c.args.firing.now.born.now 0 c.args.firing.now.ends.now in
     at_error c.from_residual-in_err-add.result (take i made, drop i made, sym (take-append-drop i made), rw c.in_err-add.ensures.err c.loop-place.invariant.0)
 
 pub loop-place-preserved : goal.loop-place-preserved
@@ -98,26 +98,26 @@ loop-place-preserved g c =
           let put = rw (c.spot_of.ensures, c.spot_of-in-loop-place.ensures) at w.in_ok-joins.ensures.ok in
           let joins = rw (c.spot_of.ensures, c.spot_of-in-loop-place.ensures) at w.in_ok-joins.ensures.joined in
           rw (w.store-is, w.joins-is) (
-            one_more c.args.event c.args.pair c.args.born.now c.args.ends.now old now _ place c.loop-place-test.true held.0 put,
-            note c.args.event c.args.pair c.args.born.now c.args.ends.now old now place c.loop-place.joins _ c.loop-place-test.true w.if-place-lt-MAX_JOINS.true c.requires.slim c.requires.own_ids held.0 held.1 joins,
+            one_more c.args.event c.args.firing.now.pair c.args.firing.now.born.now c.args.firing.now.ends.now old now _ place c.loop-place-test.true held.0 put,
+            note c.args.event c.args.firing.now.pair c.args.firing.now.born.now c.args.firing.now.ends.now old now place c.loop-place.joins _ c.loop-place-test.true w.if-place-lt-MAX_JOINS.true c.requires.slim c.requires.own_ids held.0 held.1 joins,
           ))
       | else-place-lt-MAX_JOINS+in_ok-add w ↦ (
           let put = rw (c.spot_of.ensures, c.spot_of-in-loop-place.ensures) at w.in_ok-add.ensures.ok in
-          let made = made_links c.args.event c.args.pair c.args.born.now 0 c.args.ends.now in
+          let made = made_links c.args.event c.args.firing.now.pair c.args.firing.now.born.now 0 c.args.firing.now.ends.now in
           rw (w.store-is, w.joins-is) (
-            one_more c.args.event c.args.pair c.args.born.now c.args.ends.now old now _ place c.loop-place-test.true held.0 put,
-            noted_later old made place c.loop-place.joins held.1 (below c.args.event c.args.pair c.args.born.now c.args.ends.now old place c.loop-place-test.true) w.if-place-lt-MAX_JOINS.false,
+            one_more c.args.event c.args.firing.now.pair c.args.firing.now.born.now c.args.firing.now.ends.now old now _ place c.loop-place-test.true held.0 put,
+            noted_later old made place c.loop-place.joins held.1 (below c.args.event c.args.firing.now.pair c.args.firing.now.born.now c.args.firing.now.ends.now old place c.loop-place-test.true) w.if-place-lt-MAX_JOINS.false,
           ))
     ]
 
 pub returns-clause-added : goal.returns-clause-added
 returns-clause-added g c =
-    let made = made_links c.args.event c.args.pair c.args.born.now 0 c.args.ends.now in
-    let over : length made ≤ c.loop-place.place = rw (length_made c.args.event c.args.pair c.args.born.now 0 c.args.ends.now) c.loop-place-test.false in
+    let made = made_links c.args.event c.args.firing.now.pair c.args.firing.now.born.now 0 c.args.firing.now.ends.now in
+    let over : length made ≤ c.loop-place.place = rw (length_made c.args.event c.args.firing.now.pair c.args.firing.now.born.now 0 c.args.firing.now.ends.now) c.loop-place-test.false in
     rw (take_all c.loop-place.place made over) at c.loop-place.invariant.0
 
 pub returns-clause-joins : goal.returns-clause-joins
 returns-clause-joins g c =
-    let made = made_links c.args.event c.args.pair c.args.born.now 0 c.args.ends.now in
-    let over : length made ≤ c.loop-place.place = rw (length_made c.args.event c.args.pair c.args.born.now 0 c.args.ends.now) c.loop-place-test.false in
+    let made = made_links c.args.event c.args.firing.now.pair c.args.firing.now.born.now 0 c.args.firing.now.ends.now in
+    let over : length made ≤ c.loop-place.place = rw (length_made c.args.event c.args.firing.now.pair c.args.firing.now.born.now 0 c.args.firing.now.ends.now) c.loop-place-test.false in
     noted_all _ made c.loop-place.place c.loop-place.joins c.loop-place.invariant.1 over

@@ -6,5 +6,5 @@ use Rattle.ic_set.proofs.joining.add_made.Given as goal
 
 abbrev pub invariant-loop-place : goal.invariant-loop-place
 invariant-loop-place g l =
-    Alike (take l.place (made_links l.event l.pair l.born 0 l.ends) ++ g.L.LinkStore.links l.initial.store) (g.L.LinkStore.links l.store)
-    × Noted (g.L.LinkStore.links l.initial.store) (made_links l.event l.pair l.born 0 l.ends) l.place l.joins
+    Alike (take l.place (made_links l.event l.firing.pair l.firing.born.now 0 l.firing.ends.now) ++ g.L.LinkStore.links l.initial.store) (g.L.LinkStore.links l.store)
+    × Noted (g.L.LinkStore.links l.initial.store) (made_links l.event l.firing.pair l.firing.born.now 0 l.firing.ends.now) l.place l.joins

@@ -10,18 +10,18 @@ use Rattle.ic_roster.proofs.roster.Roster.insert_event.Goals as goal
 
 pub insert-requires-clause-is_new : goal.insert-requires-clause-is_new
 insert-requires-clause-is_new c =
-    let fresh : IsNewEvent (map (stander_in c.self.inside.names) c.self.inside.events) c.args.line (event_in c.self.inside.names c.args.interaction) = rw (← c.self.view_is) at c.requires.is_new in
-    new_key c.self.inside.names c.self.inside.events c.args.line c.args.interaction fresh
+    let fresh : IsNewEvent (map (stander_in c.self.inside.names) c.self.inside.events) c.args.line (event_in c.self.inside.names c.args.event.now.interaction) = rw (← c.self.view_is) at c.requires.is_new in
+    new_key c.self.inside.names c.self.inside.events c.args.line c.args.event.now.interaction fresh
 
 pub insert-requires-clause-kept : goal.insert-requires-clause-kept
 insert-requires-clause-kept c =
-    let standing : All (Stands (map (stander_in c.self.inside.names) c.self.inside.events)) c.args.causes.now = rw (← c.self.view_is) at c.requires.standing in
-    all_kept c.self.inside.names c.self.inside.events c.args.causes.now standing
+    let standing : All (Stands (map (stander_in c.self.inside.names) c.self.inside.events)) c.args.event.now.causes.now = rw (← c.self.view_is) at c.requires.standing in
+    all_kept c.self.inside.names c.self.inside.events c.args.event.now.causes.now standing
 
 pub invariant_of-self : goal.invariant_of-self
 invariant_of-self c =
-    let named : IsNamed c.self.inside.names c.args.interaction = rw (← c.self.view_is) at c.requires.named in
-    event_named c.self.inside.names c.self.inside.agents c.self.inside.events c.insert.new.self (λ id. record { id = id; interaction = c.args.interaction; rank = c.args.rank; born = c.args.born.now; causes = c.args.causes.now }) c.insert.result c.self.invariant
+    let named : IsNamed c.self.inside.names c.args.event.now.interaction = rw (← c.self.view_is) at c.requires.named in
+    event_named c.self.inside.names c.self.inside.agents c.self.inside.events c.insert.new.self (λ id. record { id = id; interaction = c.args.event.now.interaction; rank = c.args.event.now.rank; born = c.args.event.now.born.now; causes = c.args.event.now.causes.now }) c.insert.result c.self.invariant
     (λ id. named) (if_ok c.insert.result (λ id h. h.1) c.insert.ensures.entered) c.insert.ensures.unchanged
 
 pub returns-clause-entered : goal.returns-clause-entered
