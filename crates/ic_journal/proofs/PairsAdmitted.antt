@@ -71,6 +71,6 @@ module _ (v w : NamedView) (e : Event) (line : ℕ) (d : EventId) (a : Admits v.
   ]
 
   -- the pair at the front is active still, where another one was fired
-  pub front_stays : IsStandingSet v.set → IsStandingSet w.set → (p : ActivePair) → IsPairOf v.set e p → (front : Option ActivePair) → IsFront v.set front → IfSome front (λ q. q.lead ≢ p.lead → IsActivePair w.set q)
-  front_stays set set' p pair None front = tt
-  front_stays set set' p pair (Some q) front = λ other. (let l = front.0 in (l.event, stays v.set w.set set set' e a.entry.born grown p pair l.event q l.pair other))
+  pub front_stays : IsStandingSet v.set → IsStandingSet w.set → (p : ActivePair) → IsPairOf v.set e p → (front before : Option ActivePair) → IsFront v.set front → IfSome before (λ q. (front ≡ Some q) × (q.lead ≢ p.lead)) → IfSome before (IsActivePair w.set)
+  front_stays set set' p pair front None leads other = tt
+  front_stays set set' p pair front (Some q) leads other = let l = (subst (IsFront v.set) other.0 leads).0 in (l.event, stays v.set w.set set set' e a.entry.born grown p pair l.event q l.pair other.1)

@@ -11,7 +11,7 @@ ghost use Rattle.ic_set.specs.Pairs.{IsPairOf, IsActivePair, Awakes};
 ghost use Rattle.ic_set.specs.Removal.{Stands, IsFree};
 
 use crate::standing::StandingSet;
-use crate::standing::front::front_after;
+use crate::standing::front::{besides, front_after};
 use crate::standing::queue::{drop_stale, put_leads, put_start_leads};
 use crate::standing::renewing::MAX_CHILDREN;
 use ic_link::LinkStore;
@@ -49,12 +49,12 @@ impl<L: LinkStore> StandingSet<L> {
         let id = self.bare.admit(pair, event, line, awoken)?;
         self.bare.lawful();
         put_leads(&mut self.queue, &self.bare, &*awoken);
+        let before = besides(self.front, pair.lead);
         self.front = front_after(
             self.alloc,
             &mut self.queue,
             &self.bare,
-            self.front,
-            pair.lead,
+            before,
             &mut self.passed_over,
         );
         Ok(id)

@@ -64,7 +64,7 @@ front_after-self-inside-requires-clause-active g c =
     let a = (rw c.deref_mut.ensures.value at c.in_ok-id.ensures.admitted) e active in
     let before : IsStandingSet c.self.inside.bare.value.set = rw c.deref.ensures at c.lawful.ensures.set in
     let after : IsStandingSet c.admit.new.self.set = rw c.deref-3.ensures at c.lawful-2.ensures.set in
-    rw c.deref-5.ensures (front_stays c.self.inside.bare.value c.admit.new.self e c.args.line c.in_ok-id.id a before after c.args.pair active c.self.inside.front c.self.invariant.front)
+    rw c.deref-5.ensures (front_stays c.self.inside.bare.value c.admit.new.self e c.args.line c.in_ok-id.id a before after c.args.pair active c.self.inside.front c.besides-before.result c.self.invariant.front c.besides-before.ensures)
 
 pub invariant_of-self-2 : goal.invariant_of-self-2
 invariant_of-self-2 g c =
