@@ -44,14 +44,11 @@ impl<B: Ledger> Locked<B> {
         let number = self.bench.lines();
         let answer = self.bench.fire(proposal);
         let reply = reply_of_firing(&answer);
-        note(
-            &mut self.book,
-            share,
-            receipts,
+        let made = MadeCall {
             number,
-            Call::Fire(event),
-            reply,
-        );
+            call: Call::Fire(event),
+        };
+        note(&mut self.book, share, receipts, made, reply);
         answer
     }
 
@@ -103,16 +100,20 @@ impl<B: Ledger> Locked<B> {
         let number = self.bench.lines();
         let answer = self.bench.undo(id);
         let reply = reply_of_undo(&answer);
-        note(
-            &mut self.book,
-            share,
-            receipts,
+        let made = MadeCall {
             number,
-            Call::Undo(id.line),
-            reply,
-        );
+            call: Call::Undo(id.line),
+        };
+        note(&mut self.book, share, receipts, made, reply);
         answer
     }
+}
+
+/// A call that was made, with the number of its line, if it has one.
+#[derive(Drop)]
+struct MadeCall {
+    number: u32,
+    call: Call,
 }
 
 /// If the call has a reply, enters its line in the book and gives a receipt for it. It takes no memory.
@@ -120,23 +121,22 @@ fn note<B: Ledger>(
     book: &mut Book<B>,
     share: &mut Share<B>,
     receipts: &mut Vec<Receipt>,
-    number: u32,
-    call: Call,
+    made: MadeCall,
     reply: Option<Reply>,
 )
     requires part { 0 < share.old.parts }
     requires room { vec_len receipts.old < vec_capacity receipts.old }
-    ensures total { book.new.total ≡ book.old.total + length (lines_of call reply) }
+    ensures total { book.new.total ≡ book.old.total + length (lines_of made.call reply) }
     ensures parts { share.new.parts ≡ share.old.parts }
-    ensures amount { share.new.amount ≡ share.old.amount + length (lines_of call reply) }
-    ensures receipts { receipts.new.items ≡ receipts.old.items ++ receipts_of number (lines_of call reply) }
+    ensures amount { share.new.amount ≡ share.old.amount + length (lines_of made.call reply) }
+    ensures receipts { receipts.new.items ≡ receipts.old.items ++ receipts_of made.number (lines_of made.call reply) }
     ensures room { vec_capacity receipts.new ≡ vec_capacity receipts.old }
 {
     if let Some(reply) = reply {
         book.add(share, 1);
         receipts.push_reserved(Receipt {
-            number,
-            call,
+            number: made.number,
+            call: made.call,
             reply,
         });
     }
