@@ -8,6 +8,8 @@ pub mod WordsListed
 pub mod WordsAbsorbing
 pub mod RequestWords
 pub mod AskedWords
+pub mod PlainWords
+pub mod AskedLines
 pub mod PlacesNamed
 pub mod WordsQuestioned
 pub mod FirstLines

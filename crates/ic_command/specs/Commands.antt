@@ -23,6 +23,10 @@ is_plain b = (nat_le 32 b && nat_le b 126) || (b == 9)
 abbrev pub is_well_formed : List ℕ → Bool
 is_well_formed line = nat_le (length line) MAX_COMMAND && list_all is_plain line
 
+-- no word has other bytes
+abbrev pub are_plain_words : List (List ℕ) → Bool
+are_plain_words ws = list_all (list_all is_plain) ws
+
 -- a word that begins a comment
 abbrev pub is_comment : List ℕ → Bool
 is_comment [] = false

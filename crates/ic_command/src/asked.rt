@@ -1,10 +1,13 @@
-ghost use Rattle.std.specs.Prelude.{◌≡◌, ◌∷◌, IfOk, false};
+ghost use Rattle.std.specs.Prelude.{◌≡◌, ◌∷◌, ◌⊎◌, IfOk, false, true};
 ghost use Rattle.ic_command.specs.Asked.{AreAskedWords, IsAsked};
-ghost use Rattle.ic_command.specs.Commands.{deed_word, is_paired};
+ghost use Rattle.ic_command.specs.Commands.{are_plain_words, deed_word, is_paired};
+ghost use Rattle.ic_command.specs.declared.asked.Asked.TheVariants.{Alone};
+ghost use Rattle.ic_command.specs.declared.command.Command.TheVariants.{Malformed};
+ghost use Rattle.ic_command.specs.declared.request.Request.TheVariants.{Bench};
 ghost use Rattle.ic_command.specs.Words.{words};
 
-use crate::command::{Command, Deed, alone_in, event_in, number_in};
-use crate::line_form::{is_well_formed, without_return};
+use crate::command::{Command, Deed, MAX_COMMAND, alone_in, event_in, number_in};
+use crate::line_form::{are_plain, without_return};
 use crate::request::{Request, only_name_in};
 use crate::words::next_word;
 use ic_name::limits::{MAX_ABSORBED, MAX_LINES};
@@ -24,22 +27,27 @@ pub fn asked_of(alloc: Global, line: &[u8]) -> Result<Asked, AllocError>
     ensures { IfOk result (λ asked. IsAsked line.now asked) }
 {
     let body = without_return(line);
-    if !is_well_formed(body) {
+    if body.len() > MAX_COMMAND {
         return Ok(Asked::Alone(Request::Bench(Command::Malformed)));
     }
     let Some((word, behind)) = next_word(body) else {
         return Ok(Asked::Alone(Request::Bench(Command::Nothing)));
     };
-    match Deed::of(word) {
-        Some(deed) => deed_in(alloc, deed, behind),
-        None => other_in(alloc, word, behind),
+    // (the names of agents have no bytes that a command may not have)
+    if let Some(deed) = Deed::of(word) {
+        return deed_in(alloc, deed, behind);
     }
+    if !are_plain(body) {
+        return Ok(Asked::Alone(Request::Bench(Command::Malformed)));
+    }
+    other_in(alloc, word, behind)
 }
 
 /// What the word of a deed and those after it ask for.
 #[inline(never)]
 fn deed_in(alloc: Global, deed: Deed, behind: &[u8]) -> Result<Asked, AllocError>
-    ensures { IfOk result (λ asked. AreAskedWords (deed_word deed ∷ words behind.now) asked) }
+    ensures asked { IfOk result (λ asked. AreAskedWords (deed_word deed ∷ words behind.now) asked) }
+    ensures plain { IfOk result (λ asked. (asked ≡ Alone (Bench Malformed)) ⊎ (are_plain_words (words behind.now) ≡ true)) }
 {
     match event_in(alloc, behind)? {
         Some(event) => Ok(Asked::Alone(Request::Bench(deed.with(event)))),

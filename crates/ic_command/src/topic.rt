@@ -1,3 +1,5 @@
+use crate::command::MAX_COMMAND;
+use crate::line_form::without_return;
 use crate::words::next_word;
 
 /// What a line is about, by its first word.
@@ -38,6 +40,9 @@ const MARKED: [&str; 2] = ["mark", "back"];
 
 /// What a line is about.
 pub fn topic_of(line: &[u8]) -> Topic {
+    if without_return(line).len() > MAX_COMMAND {
+        return Topic::TooLong;
+    }
     let Some((word, _)) = next_word(line) else {
         return Topic::Unknown;
     };
