@@ -87,8 +87,8 @@ impl<L: LinkStore> Desk<L> {
 }
 
 impl Desk<Store> {
-    /// Reduces the net by a sweep of this size, by two workers or more; the marks stay, and the desk comes back with the answer. If there is no memory
-    /// for a sweep, the answer says so, and nothing has changed. The gate sees each commit.
+    /// Reduces the net by a sweep of this size, by two workers or more; the marks stay, and the desk comes back with the answer.
+    /// If there is no memory for a sweep, the answer says so, and nothing has changed. The gate sees each commit.
     ///
     /// `DeskFault::Memory` if events were fired and there is no memory to tell how many, and `DeskFault::Settle` if the
     /// workers' passes aren't what the history says. The desk is gone then.

@@ -9,8 +9,8 @@ use ic_text::Refusal;
 use std::alloc::{AllocError, Global};
 use std::io::Write;
 
-/// If the request was refused by this answer, says why, and what would be right, with the reason that the answer tells. The line is the one that asked, unless it listed events on further lines. If memory runs out or the writer
-/// fails, nothing is said.
+/// If the request was refused by this answer, says why, and what would be right, with the reason that the answer tells. The line
+/// is the one that asked, unless it listed events on further lines. If memory runs out or the writer fails, nothing is said.
 pub(crate) fn explain_answer<E: Write>(
     alloc: Global,
     errors: &mut E,
