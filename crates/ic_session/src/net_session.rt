@@ -208,6 +208,7 @@ fn stops_at(mode: Mode, answer: &[u8]) -> bool
 
 /// Meets a demand: by a sweep, if it asks for a reduction and there are two workers or more, and else by one worker. The desk
 /// comes back with the answer.
+#[inline(always)]
 fn meet<T: Threads + Wait + Sync, G: Gate>(
     setting: &Setting<'_, T, G>,
     mut desk: Desk<Store>,

@@ -110,6 +110,7 @@ fn demand_at<R: Read>(
 }
 
 /// The question of a line, if it asks one in a session of this mode.
+#[inline(always)]
 fn question_at(alloc: Global, line: &[u8], mode: Mode) -> Result<Option<Question>, AllocError>
     ensures { IfOk result (λ question. IsQuestionAt mode line.now question) }
 {
