@@ -5,10 +5,16 @@ use Rattle.std.specs.Io.BufRead.{strip_last}
 use Rattle.ic_name.specs.declared.limits.TheConstants.{MAX_ABSORBED}
 use Rattle.ic_command.specs.declared.asked.Asked.{Asked}
 use Rattle.ic_command.specs.declared.asked.Asked.TheVariants.{Alone, Absorb}
+use Rattle.ic_command.specs.declared.command.Command.TheVariants.{Malformed}
 use Rattle.ic_command.specs.declared.request.Request.{Request}
+use Rattle.ic_command.specs.declared.request.Request.TheVariants.{Bench}
 use Rattle.ic_command.specs.Commands.{is_well_formed}
 use Rattle.ic_command.specs.Requests.{AreRequestWords, IsRequest}
 use Rattle.ic_command.specs.Words.{words}
+
+-- what a line asks for that is no command
+abbrev pub malformed : Asked
+malformed = Alone (Bench Malformed)
 
 -- the words ask to absorb so many events: a decimal number without leading zeros
 pub data AsksAbsorb : List (List ℕ) → ℕ → Type 0 where

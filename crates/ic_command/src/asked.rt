@@ -1,9 +1,6 @@
 ghost use Rattle.std.specs.Prelude.{◌≡◌, ◌∷◌, ◌⊎◌, IfOk, false, true};
-ghost use Rattle.ic_command.specs.Asked.{AreAskedWords, IsAsked};
+ghost use Rattle.ic_command.specs.Asked.{AreAskedWords, IsAsked, malformed};
 ghost use Rattle.ic_command.specs.Commands.{are_plain_words, deed_word, is_paired};
-ghost use Rattle.ic_command.specs.declared.asked.Asked.TheVariants.{Alone};
-ghost use Rattle.ic_command.specs.declared.command.Command.TheVariants.{Malformed};
-ghost use Rattle.ic_command.specs.declared.request.Request.TheVariants.{Bench};
 ghost use Rattle.ic_command.specs.Words.{words};
 
 use crate::command::{Command, Deed, MAX_COMMAND, alone_in, event_in, number_in};
@@ -47,7 +44,7 @@ pub fn asked_of(alloc: Global, line: &[u8]) -> Result<Asked, AllocError>
 #[inline(never)]
 fn deed_in(alloc: Global, deed: Deed, behind: &[u8]) -> Result<Asked, AllocError>
     ensures asked { IfOk result (λ asked. AreAskedWords (deed_word deed ∷ words behind.now) asked) }
-    ensures plain { IfOk result (λ asked. (asked ≡ Alone (Bench Malformed)) ⊎ (are_plain_words (words behind.now) ≡ true)) }
+    ensures plain { IfOk result (λ asked. (asked ≡ malformed) ⊎ (are_plain_words (words behind.now) ≡ true)) }
 {
     match event_in(alloc, behind)? {
         Some(event) => Ok(Asked::Alone(Request::Bench(deed.with(event)))),

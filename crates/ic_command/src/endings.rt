@@ -12,8 +12,7 @@ pub fn is_quit(line: &[u8]) -> bool
     is_word_alone(line, b"quit".as_slice())
 }
 
-/// Whether a line without its line feed ends what such a session does with one net, so that another net comes after it: it
-/// is the word `new` alone.
+/// Whether after a line without its line feed another net comes in such a session: it is the word `new` alone.
 pub fn is_new(line: &[u8]) -> bool
     ensures { IsTrue result ↔ IsNew line.now }
 {

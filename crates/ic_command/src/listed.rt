@@ -11,8 +11,7 @@ use std::alloc::{AllocError, Global};
 /// The greatest rank of seven digits.
 const MAX_RANK: u32 = 9_999_999;
 
-/// The event that a line without its line feed lists; `None` if it lists none. An error if there is no memory for
-/// the names in it.
+/// The event that a line without its line feed lists; `None` if it lists none. An error if memory runs out for its names.
 pub fn listed_of(alloc: Global, line: &[u8]) -> Result<Option<EventName>, AllocError>
     ensures { IfOk result (λ event. IsListedIn line.now event) }
 {

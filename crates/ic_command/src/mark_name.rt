@@ -8,8 +8,7 @@ use ic_text::grammar::limits::MAX_NAME;
 use std::alloc::{AllocError, Global};
 use std::marker::Model;
 
-/// The name of a mark. It has the form of a name of a net text: a small letter or `_`, then small letters, digits and
-/// `_`, at most 32 bytes in all.
+/// The name of a mark. It has the form of a name of a net text: at most 32 lower-case letters, digits and `_`, no digit first.
 #[derive(Drop)]
 pub struct MarkName {
     bytes: Vec<u8>,

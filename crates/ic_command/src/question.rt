@@ -10,8 +10,7 @@ use ic_name::EventName;
 use ic_name::limits::MAX_LINES;
 use std::alloc::{AllocError, Global};
 
-/// What a line of a session that explains itself may ask beside the requests of any session. Only `Step`, `Steps`
-/// and `Unstep` change something.
+/// What a line may ask of a session that explains itself alone. Only `Step`, `Steps` and `Unstep` change something.
 #[derive(Drop)]
 pub enum Question {
     /// Which line of the printed net is which agent's.
@@ -38,8 +37,7 @@ pub enum Question {
     Unstep(u32),
 }
 
-/// The question of a line without its line feed; `None` if it asks none. An error if there is no memory for the
-/// names in it.
+/// The question of a line without its line feed; `None` if it asks none. An error if memory runs out for its names.
 pub fn question_of(alloc: Global, line: &[u8]) -> Result<Option<Question>, AllocError>
     ensures { IfOk result (λ question. IsQuestionIn line.now question) }
 {

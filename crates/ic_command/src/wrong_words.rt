@@ -1,4 +1,4 @@
-use crate::line_form::is_plain;
+use crate::line_form::{is_plain, without_return};
 use crate::topic::Topic;
 use crate::words::next_word;
 use ic_name::{AgentName, NameFault};
@@ -13,7 +13,7 @@ pub fn wrong_in(alloc: Global, topic: Topic, line: &[u8]) -> Result<Option<Strin
     if topic == Topic::List {
         return Ok(None);
     }
-    let body = line.strip_suffix(b"\r").unwrap_or(line);
+    let body = without_return(line);
     if let Some(offset) = body.iter().position(|byte| !is_plain(*byte)) {
         return Ok(Some(format!(in alloc;
             "column {}: a command is written in ASCII, with blanks and tabs alone between its words",

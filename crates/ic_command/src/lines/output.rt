@@ -5,8 +5,7 @@ ghost use Rattle.ic_command.specs.Faults.{AppendsFront};
 use crate::lines::IoFault;
 use std::io::Write;
 
-/// Writes all bytes, and flushes. A write that fails, of whatever kind, or takes no byte is a fault: then a front of the
-/// bytes was written.
+/// Writes all bytes, and flushes. A write that fails or takes no byte is a fault: then a first part of the bytes was written.
 pub fn write_reply<W: Write>(writer: &mut W, bytes: &[u8]) -> Result<(), IoFault>
     ensures written { OnOk result (Appends (W.contents writer.old) (W.contents writer.new) bytes.now) }
     ensures front { OnErr result (AppendsFront (W.contents writer.old) (W.contents writer.new) bytes.now) }
