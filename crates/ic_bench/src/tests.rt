@@ -242,17 +242,15 @@ fn a_net_that_is_refused_is_explained(rt: HostRuntime) {
 
 #[test]
 fn a_line_too_long_is_told_of_after_a_wrong_list(rt: HostRuntime) -> Result<(), Fail> {
+    let mut input = Vec::from_slice(rt.alloc(), b"---\nabsorb 1\nx\n")?;
+    for _byte in 0..131_074 {
+        input.push(b'a')?;
+    }
     let output = b"refused 40 command\nrefused 40 command\n";
     let errors =
         b"line 2: line 3 lists no event; expected there: the names of two different agents, such as 0 and 0.2, or a line of a journal\nline 4: a line has at most 131072 bytes\n";
     let words = ["icbench", "--explain"];
-    for length in [131_073, 131_074] {
-        let mut input = Vec::from_slice(rt.alloc(), b"---\nabsorb 1\nx\n")?;
-        for _byte in 0..length {
-            input.push(b'a')?;
-        }
-        assert!(rt; runs(&rt, rt.alloc(), &words, &input, 0, output, errors));
-    }
+    assert!(rt; runs(&rt, rt.alloc(), &words, &input, 0, output, errors));
     Ok(())
 }
 
