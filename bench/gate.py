@@ -10,9 +10,9 @@ The parts of a crate are its proof, its tests (which prove the crate's own funct
 which is a check of the crate. What `rt ci` prints is written to standard output first. Its processes are looked at four
 times a second, so that each may lose a quarter of a second at its end; the sum in the last line is exact.
 
-A part that takes more than its budget in `budgets.tsv` is named at the end. Budgets are processor seconds of a machine on which
-`rt selftest` takes as many as the first row tells. The same work takes more on another machine, or beside other work. So
-`rt selftest` is run beside the gate, now and then, and the budgets are scaled by what it takes.
+A part that takes more than its budget in `budgets.tsv` is named at the end. The same work takes more seconds on a slower machine,
+and more when parts run side by side. So budgets are scaled by what the crate `ic_claim` takes in the same run: it stands on no
+other crate and has all three parts.
 """
 
 import collections
@@ -31,9 +31,8 @@ ROOT = pathlib.Path(__file__).resolve().parent.parent
 BUDGETS = ROOT / "bench/budgets.tsv"
 TICKS = os.sysconf("SC_CLK_TCK")
 PAUSE = 0.25
-# The seconds before the first selftest, and between two.
-FIRST_SELFTEST, NEXT_SELFTEST = 120, 900
-SELFTEST = "(selftest)"
+# The crate whose parts say how fast the machine is.
+YARDSTICK = "ic_claim"
 MOST = 20
 PARTS = ("proof", "tests", "edits")
 # What an edit's check shows where no edit is applied: the last look over the crate.
@@ -137,28 +136,6 @@ class Meter:
         return sums
 
 
-class Selftests:
-    """Processor seconds of `rt selftest`, run beside the gate."""
-
-    def __init__(self, ended):
-        self.ended = ended
-        self.used = []
-
-    def run(self):
-        """Runs it again and again until the end."""
-        wait = FIRST_SELFTEST
-        while not self.ended.wait(wait):
-            with subprocess.Popen(["rt", "selftest"], stdout=subprocess.DEVNULL, stderr=subprocess.DEVNULL) as test:
-                _, status, used = os.wait4(test.pid, 0)
-                test.returncode = os.waitstatus_to_exitcode(status)
-            self.used.append(used.ru_utime + used.ru_stime)
-            wait = NEXT_SELFTEST
-
-    def factor(self, told):
-        """By what the budgets are scaled: how many times as many seconds a selftest took as the budgets are told for."""
-        return sum(self.used) / len(self.used) / told if self.used else 1.0
-
-
 def print_table(sums):
     """Prints a row for each crate, the dearest first, and the dearest edits."""
     parts = collections.Counter()
@@ -183,38 +160,44 @@ def read_budgets():
         return {(row["crate"], part): int(row[part]) for row in csv.DictReader(file, delimiter="\t") for part in PARTS}
 
 
-def print_over_budget(sums, selftests):
+def scale(parts, budgets):
+    """How many times its budget the yardstick took, over its parts that were measured; 1 if there are none."""
+    measured = [part for part in PARTS if parts[YARDSTICK, part]]
+    told = sum(budgets[YARDSTICK, part] for part in measured)
+    return sum(parts[YARDSTICK, part] for part in measured) / told if told else 1.0
+
+
+def print_over_budget(sums):
     """Names the parts that took more than their scaled budget, and those that have none."""
     budgets, parts = read_budgets(), collections.Counter()
-    factor = selftests.factor(budgets[SELFTEST, "proof"])
-    print(f"\nbudgets times {factor:.2f}; selftests beside the gate: {len(selftests.used)}")
     for (crate, part, _), used in sums.items():
         parts[crate, part] += used
+    factor = scale(parts, budgets)
+    print(f"\nbudgets times {factor:.2f}, as {YARDSTICK} took")
     for (crate, part), used in sorted(parts.items()):
         budget = budgets.get((crate, part))
         if budget is None:
             print(f"no budget: {crate} {part}, {used:.0f} s")
         elif used > budget * factor:
             print(f"over budget: {crate} {part}, {used:.0f} s of {budget * factor:.0f} s")
+    told = sum(budgets[it] for it in parts if it in budgets)
+    print(f"all parts: {sum(parts.values()):.0f} s of {told * factor:.0f} s")
 
 
 def measure_gate(crates):
     """Runs the gate, or its part for some crates, and prints what its parts took. Answers the gate's status."""
     meter, begun = Meter(), time.time()
-    selftests = Selftests(meter.ended)
-    watching = [threading.Thread(target=meter.watch), threading.Thread(target=selftests.run)]
-    for thread in watching:
-        thread.start()
+    watching = threading.Thread(target=meter.watch)
+    watching.start()
     try:
         status = subprocess.run(["rt", "ci", *crates], cwd=ROOT, check=False).returncode
     finally:
         meter.ended.set()
-        for thread in watching:
-            thread.join()
+        watching.join()
     print_table(meter.seconds())
-    print_over_budget(meter.seconds(), selftests)
+    print_over_budget(meter.seconds())
     used = resource.getrusage(resource.RUSAGE_CHILDREN)
-    minutes = (used.ru_utime + used.ru_stime - sum(selftests.used)) / 60
+    minutes = (used.ru_utime + used.ru_stime) / 60
     whole = (time.time() - begun) / 60
     print(f"\nrt ci: {whole:.1f} min, {minutes:.1f} min of processor time, status {status}")
     return status
