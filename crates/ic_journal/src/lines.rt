@@ -43,8 +43,8 @@ impl<L: LinkStore> Bench<L> {
         Some(id)
     }
 
-    /// The id of the event that was fired in the line of this id, if it stands. It mostly lies in the slot of this id, so that is
-    /// looked at first. It takes no memory.
+    /// The id of the event that was fired in the line of this id; `None` if it doesn't stand. The slot of this id is looked at
+    /// first, because the event mostly lies there. It takes no memory.
     pub(crate) fn standing_under(&self, id: EventId) -> Option<EventId>
         ensures found { IfSome result (λ standing. (x : Stander) × IsIn x self.now.events × (x.id ≡ standing) × (standing.line ≡ id.line)) }
         ensures absent { IfNone result ((x : Stander) → IsIn x self.now.events → x.id.line ≢ id.line) }

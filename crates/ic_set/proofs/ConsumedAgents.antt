@@ -4,7 +4,6 @@ use Rattle.std.proofs.lemmas.Bool.{eq-eqb, ne_eqb}
 use Rattle.ic_name.specs.Names.{Name}
 use Rattle.ic_name.specs.Events.{Event}
 use Rattle.ic_name.specs.declared.kinds.Kind.{Kind}
-use Rattle.ic_name.specs.declared.ids.AgentId.{AgentId}
 use Rattle.ic_name.specs.declared.ids.Link.{Link}
 use Rattle.ic_name.specs.declared.ids.Spot.TheVariants as spot
 use Rattle.ic_name.specs.declared.ports.Port.TheVariants.{Of}
@@ -29,7 +28,6 @@ use Rattle.ic_path.proofs.InLists.{in-map, map_cases}
 use Rattle.ic_roster.specs.Rosters.{Member, Stander, IsNewName}
 use Rattle.ic_set.specs.Views.{SetView, standing, agent_of}
 use Rattle.ic_set.specs.Sets.{IsStandingSet, IsKept}
-use Rattle.ic_set.proofs.Namings.{same_member}
 use Rattle.ic_set.proofs.Partners.{LeadsNone, path_far, named_far}
 
 -- a count that isn't other than 0 is 0
@@ -79,10 +77,6 @@ module _ (v : SetView) (set : IsStandingSet v) where
       by None h = sym h
       by (Some kind) h = let p = kind_parts v.start (standing v) n kind h in let m = member_of n kind p.0 in absurd (new m.0 m.1 m.2)
 
--- ends at two agents are equal only where the agents are
-pub far_agent : {a b : AgentId} → ◌≡◌ {A = Far} (far.End (spot.Agent a 0)) (far.End (spot.Agent b 0)) → a ≡ b
-far_agent e = cc
-
 module _ (v : SetView) (ls : List Link) (k : IsKept v ls) (m : Member) (there : IsIn m v.agents) (f : Far) (is : IsFar ls (spot.Agent m.id 0) f) where
   -- the far end of a consumed agent that leads no event is an agent that leads one
   pub led_far : LeadsNone v m.name → consumed_times m.name (standing v) ≢ 0 → (n : Member) × IsIn n v.agents × (f ≡ far.End (spot.Agent n.id 0)) × ((x : Stander) × IsIn x v.events × (x.event.lead ≡ n.name))
@@ -119,11 +113,3 @@ module _ (v : SetView) (ls : List Link) (k : IsKept v ls) (m : Member) (there : 
       let some = consumed_other its.1 in
       let equal = ap (λ y. consumed_times y (standing v)) same in
       omega (arith, some, equal, z)
-
-  -- so an agent that leads no event, nor does the one at its far end, isn't consumed
-  pub unled_far : LeadsNone v m.name → (n : Member) → IsIn n v.agents → f ≡ far.End (spot.Agent n.id 0) → LeadsNone v n.name → consumed_times m.name (standing v) ≢ 0 → ⊥
-  unled_far free n i h none some =
-      let o = led_far free some in
-      let ids : o.0.id ≡ n.id = far_agent (sym o.2 ∙ h) in
-      let same : o.0 ≡ n = same_member v.agents o.0 n k.set.own_names o.1 i (inl ids) in
-      none o.3.0 o.3.1 (o.3.2 ∙ ap (λ (y : Member). y.name) same)

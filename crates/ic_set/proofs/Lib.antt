@@ -60,6 +60,7 @@ pub mod LastNames
 pub mod ReadNets
 pub mod WirePaths
 pub mod LooseSpots
+pub mod PrincipalEnds
 pub mod OverLinks
 pub mod LinkPlaces
 pub mod BornPairs

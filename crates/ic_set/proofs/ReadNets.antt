@@ -198,11 +198,6 @@ pub none_unless : {X : Type 0} (o : Option X) → ((x : X) → o ≡ Some x → 
 none_unless None h = refl
 none_unless (Some x) h = absurd (h x refl)
 
--- a number that isn't other than zero is zero
-pub zero_unless : (n : ℕ) → (n ≢ 0 → ⊥) → n ≡ 0
-zero_unless zero h = refl
-zero_unless (suc n) h = absurd (h (λ e. cc))
-
 -- the agents that came so far, of those under these ids
 pub record HaveCome (v : SetView) (ids : List AgentId) (as' : List Listed) : Type 0 where
   pub only : (n : Name) (a : Listed) → agent_among n as' ≡ Some a → (kind_of v.start (standing v) n ≡ Some a.kind) × ArePartners v n a.partners

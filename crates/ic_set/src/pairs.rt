@@ -230,7 +230,7 @@ impl<L: LinkStore> BareSet<L> {
 }
 
 /// The agent at whose principal port a path ends, if it ends at one.
-pub(crate) fn principal_end(far: Far) -> Option<AgentId>
+fn principal_end(far: Far) -> Option<AgentId>
     ensures found { IfSome result (λ agent. far ≡ End (Agent agent 0)) }
     ensures absent { IfNone result ((agent : AnAgentId) → far ≢ End (Agent agent 0)) }
 {

@@ -1,21 +1,24 @@
-ghost use Rattle.std.specs.Prelude.{◌≡◌, ◌≤◌, ◌<◌, [], length, map, option_map, All, Some, IfOk, IfSome, OnOk};
+ghost use Rattle.std.specs.Prelude.{◌≡◌, ◌≢◌, ◌≤◌, ◌<◌, ◌↔◌, [], length, map, option_map, All, Some, IfOk, IfSome, IfNone, IsTrue, OnOk};
 ghost use Rattle.ic_name.specs.Kinds.{arity};
 ghost use Rattle.ic_name.specs.Names.{Name as AName};
 ghost use Rattle.ic_name.specs.declared.kinds.Kind.{Kind as AKind};
 ghost use Rattle.ic_name.specs.declared.ports.Port.{Port as APort};
 ghost use Rattle.ic_name.specs.declared.ports.Port.TheVariants as port_variants;
+ghost use Rattle.ic_names.specs.Tables.{name_at};
 ghost use Rattle.ic_net.specs.Makings.{IsLastName};
 ghost use Rattle.ic_net.specs.Placed.{port_at, placed_list, IsPortInside};
 ghost use Rattle.ic_path.specs.Orders.{IsIn};
 ghost use Rattle.ic_roster.specs.Placed.{member_in};
+ghost use Rattle.ic_theory.specs.Sets.{consumed_times};
 ghost use Rattle.ic_theory.specs.Wires.{IsWire};
-ghost use Rattle.ic_set.specs.Reading.{net_in, IsPortAt, IsLiving, ArePartners, AreNetAgents, AreNetFrees, IsPut};
+ghost use Rattle.ic_set.specs.Reading.{net_in, IsPortAt, IsLeadPort, IsLiving, ArePartners, IsPrincipalPartner, AreNetAgents, AreNetFrees, IsPut};
 ghost use Rattle.ic_set.specs.Views.{standing};
 ghost use Rattle.ic_set.specs.Wires.{IsLooseSpot};
 
 use crate::bare::BareSet;
 use ic_link::{Far, LinkStore};
 use ic_name::{AgentId, Kind, Port, Spot};
+use ic_names::NameId;
 use ic_net::{NetMaker, PlacedPartners, PlacedPort};
 use ic_roster::PlacedAgent;
 use std::alloc::AllocError;
@@ -69,28 +72,63 @@ impl<L: LinkStore> BareSet<L> {
         ensures profile { OnOk result (maker.new.profile ≡ maker.old.profile) }
     {
         self.lawful();
-        if self.is_consumed(agent.id, agent.name) {
+        let Some(first) = self.principal_partner(agent.id, agent.name) else {
             return Ok(());
-        }
-        let partners = self.partners(agent.id, agent.kind);
+        };
+        let partners = self.partners(agent, first);
         maker.push_agent(agent.name, agent.kind, partners)
     }
 
-    /// The partners of the ports of an agent that isn't consumed. It takes no memory.
-    fn partners(&self, agent: AgentId, kind: Kind) -> PlacedPartners
-        requires { (n : AName) × IsLiving self.now.set agent n kind }
-        ensures partners { (n : AName) → IsLiving self.now.set agent n kind → ArePartners self.now.set n (map (port_at self.now.names) (placed_list result)) }
+    /// The partners of the ports of an agent that isn't consumed. That of its principal port is known. It takes no memory.
+    fn partners(&self, agent: PlacedAgent, first: PlacedPort) -> PlacedPartners
+        requires living { IsLiving self.now.set agent.id (name_at self.now.names agent.name.place) agent.kind }
+        requires first { IsPrincipalPartner self.now agent.name first }
+        requires inside { IsPortInside self.now.names first }
+        ensures partners { ArePartners self.now.set (name_at self.now.names agent.name.place) (map (port_at self.now.names) (placed_list result)) }
         ensures inside { All (IsPortInside self.now.names) (placed_list result) }
     {
         self.lawful();
-        let first = self.partner_at(agent, 0);
-        match kind {
+        match agent.kind {
             Kind::Eps => PlacedPartners::One([first]),
             Kind::Gamma | Kind::Delta => {
-                let second = self.partner_at(agent, 1);
-                let third = self.partner_at(agent, 2);
+                let second = self.partner_at(agent.id, 1);
+                let third = self.partner_at(agent.id, 2);
                 PlacedPartners::Three([first, second, third])
             }
+        }
+    }
+
+    /// The partner of the principal port of the agent whose id and whose name's place these are; `None` exactly if a standing
+    /// event consumed the agent. It takes no memory.
+    pub(crate) fn principal_partner(&self, agent: AgentId, name: NameId) -> Option<PlacedPort>
+        requires inside { name.place < length self.now.names }
+        requires there { (kind : AKind) × IsIn (record { id = agent; name = name_at self.now.names name.place; kind = kind }) self.now.set.agents }
+        ensures consumed { IfNone result (consumed_times (name_at self.now.names name.place) (standing self.now.set) ≢ 0) }
+        ensures living { IfSome result (λ _. consumed_times (name_at self.now.names name.place) (standing self.now.set) ≡ 0) }
+        ensures partner { IfSome result (IsPrincipalPartner self.now name) }
+        ensures inside { IfSome result (IsPortInside self.now.names) }
+    {
+        if self.roster.is_lead(name) {
+            return None;
+        }
+        let Far::End(end) = self.store.far(Spot::Agent(agent, 0)) else {
+            unreachable!()
+        };
+        let partner = self.port_of(end);
+        if self.is_lead_port(partner) {
+            return None;
+        }
+        Some(partner)
+    }
+
+    /// Whether this is the principal port of an agent that leads a standing event. It takes no memory.
+    fn is_lead_port(&self, port: PlacedPort) -> bool
+        requires { IsPortInside self.now.names port }
+        ensures { IsTrue result ↔ IsLeadPort self.now.set (port_at self.now.names port) }
+    {
+        match port {
+            PlacedPort::Of(name, number) => number == 0 && self.roster.is_lead(name),
+            PlacedPort::Name(_) => false,
         }
     }
 

@@ -54,9 +54,8 @@ impl<L: LinkStore> BareSet<L> {
         if number > entry.kind.arity() {
             return None;
         }
-        if self.is_consumed(agent, entry.name) {
-            return None;
-        }
+        // There is none exactly if a standing event consumed the agent.
+        self.principal_partner(agent, entry.name)?;
         Some(Spot::Agent(agent, number))
     }
 
