@@ -2,7 +2,7 @@
 """Where the gate's time goes: processor seconds by crate and part, and the dearest functions and edits.
 
     python3 bench/gate.py                      runs `rt ci` at the top of the repository, and says what each part took
-    python3 bench/gate.py CRATE..              the same for these crates and those below them
+    python3 bench/gate.py CRATE..              the same for these crates and those below them, if this rt ci takes names
     python3 bench/gate.py --functions CRATE..  checks these crates with their tests from nothing, and says what each
                                                function took (in a copy below /tmp; what lies in out/ stays)
 
@@ -10,9 +10,9 @@ The parts of a crate are its proof, its tests (which prove the crate's own funct
 which is a check of the crate. What `rt ci` prints is written to standard output first. Its processes are looked at four
 times a second, so that each may lose a quarter of a second at its end; the sum in the last line is exact.
 
-A part that takes more than its budget in `budgets.tsv` is named at the end. The same work takes more seconds on a slower machine,
-and more when parts run side by side. So budgets are scaled by what the crate `ic_claim` takes in the same run: it stands on no
-other crate and has all three parts.
+A part that takes more processor seconds than its budget in `budgets.tsv` is named at the end. The same work takes more seconds on a
+slower machine, and more when parts run side by side. So budgets are scaled by what `ic_claim` takes in the same run: it uses no other
+crate of this repository and has all three parts.
 """
 
 import collections
@@ -160,28 +160,35 @@ def read_budgets():
         return {(row["crate"], part): int(row[part]) for row in csv.DictReader(file, delimiter="\t") for part in PARTS}
 
 
-def scale(parts, budgets):
-    """How many times its budget the yardstick took, over its parts that were measured; 1 if there are none."""
-    measured = [part for part in PARTS if parts[YARDSTICK, part]]
-    told = sum(budgets[YARDSTICK, part] for part in measured)
-    return sum(parts[YARDSTICK, part] for part in measured) / told if told else 1.0
+def budget_factor(parts, budgets):
+    """How many times its budgets the yardstick took; None if one of its parts was not measured or has no budget."""
+    its = [(YARDSTICK, part) for part in PARTS]
+    if not all(parts[it] and budgets.get(it) for it in its):
+        return None
+    return sum(parts[it] for it in its) / sum(budgets[it] for it in its)
 
 
 def print_over_budget(sums):
-    """Names the parts that took more than their scaled budget, and those that have none."""
+    """Names the parts that took more than their scaled budget, and those that have none, and compares the sums."""
     budgets, parts = read_budgets(), collections.Counter()
     for (crate, part, _), used in sums.items():
         parts[crate, part] += used
-    factor = scale(parts, budgets)
-    print(f"\nbudgets times {factor:.2f}, as {YARDSTICK} took")
+    factor = budget_factor(parts, budgets)
+    if factor is None:
+        print(f"\nbudgets as they are: {YARDSTICK} was not measured whole")
+        factor = 1.0
+    else:
+        print(f"\nbudgets times {factor:.2f}, as {YARDSTICK} took")
     for (crate, part), used in sorted(parts.items()):
         budget = budgets.get((crate, part))
+        if crate == YARDSTICK:
+            continue
         if budget is None:
             print(f"no budget: {crate} {part}, {used:.0f} s")
         elif used > budget * factor:
             print(f"over budget: {crate} {part}, {used:.0f} s of {budget * factor:.0f} s")
-    told = sum(budgets[it] for it in parts if it in budgets)
-    print(f"all parts: {sum(parts.values()):.0f} s of {told * factor:.0f} s")
+    known = [it for it in parts if it in budgets]
+    print(f"all parts with a budget: {sum(parts[it] for it in known):.0f} s of {sum(budgets[it] for it in known) * factor:.0f} s")
 
 
 def measure_gate(crates):
