@@ -158,7 +158,7 @@ impl<L: LinkStore> Bench<L> {
         let Ok(()) = self.history.reserve(1) else {
             return Err(UndoFault::Memory);
         };
-        let Some(standing) = self.standing_under(id) else {
+        let Some(standing) = self.standing_of(id.line) else {
             self.history.note(KeptLine::NotStanding(id.line));
             return Err(UndoFault::NotStanding);
         };

@@ -43,18 +43,6 @@ impl<L: LinkStore> Bench<L> {
         Some(id)
     }
 
-    /// The id of the event that was fired in the line of this id; `None` if it doesn't stand. The slot of this id is looked at
-    /// first, because the event mostly lies there. It takes no memory.
-    pub(crate) fn standing_under(&self, id: EventId) -> Option<EventId>
-        ensures found { IfSome result (λ standing. (x : Stander) × IsIn x self.now.events × (x.id ≡ standing) × (standing.line ≡ id.line)) }
-        ensures absent { IfNone result ((x : Stander) → IsIn x self.now.events → x.id.line ≢ id.line) }
-    {
-        match self.set.bare().roster().event(id) {
-            Some(_) => Some(id),
-            None => self.standing_of(id.line),
-        }
-    }
-
     /// Whether the history has a line with this number, and it is this call with this reply. It takes no memory.
     pub fn line_is(&self, number: u32, call: &Call, reply: Reply) -> bool
         ensures { IsTrue result ↔ (slice_get self.now.lines number ≡ Some (record { call = call.now; reply = reply })) }

@@ -164,7 +164,7 @@ impl<L: LinkStore> Bench<L> {
     pub fn event_of(&self, id: EventId) -> Result<Option<Event>, AllocError>
         ensures { IfOk result (λ event. IsEventUnder self.now id event) }
     {
-        let Some(standing) = self.standing_under(id) else {
+        let Some(standing) = self.standing_of(id.line) else {
             return Ok(None);
         };
         let roster = self.set.bare().roster();
@@ -179,7 +179,7 @@ impl<L: LinkStore> Bench<L> {
     pub fn rank(&self, id: EventId) -> Option<u32>
         ensures { IsRankOf self.now id result }
     {
-        let Some(standing) = self.standing_under(id) else {
+        let Some(standing) = self.standing_of(id.line) else {
             return None;
         };
         let set = self.set.bare();
@@ -218,7 +218,7 @@ impl<L: LinkStore> Bench<L> {
     pub fn causes(&self, id: EventId) -> Result<Option<Vec<EventId>>, AllocError>
         ensures { IfOk result (λ causes. AreCausesOf self.now id (option_map (λ ids. ids.items) causes)) }
     {
-        match self.standing_under(id) {
+        match self.standing_of(id.line) {
             Some(standing) => Ok(Some(self.set.bare().causes(standing)?)),
             None => Ok(None),
         }
@@ -228,7 +228,7 @@ impl<L: LinkStore> Bench<L> {
     pub fn dependents(&self, id: EventId) -> Result<Option<Vec<EventId>>, AllocError>
         ensures { IfOk result (λ dependents. AreDependentsOf self.now id (option_map (λ ids. ids.items) dependents)) }
     {
-        match self.standing_under(id) {
+        match self.standing_of(id.line) {
             Some(standing) => Ok(Some(self.set.bare().dependents(standing)?)),
             None => Ok(None),
         }

@@ -12,20 +12,20 @@ use Rattle.ic_journal.proofs.MachineSteps.{absent_answer, held_answer}
 use Rattle.ic_journal.proofs.KeptBenches.{refused_kept, refuses, undone_steps, undone_kept}
 use Rattle.ic_journal.proofs.bench.Bench.undo.Goals as goal
 
-pub invariant_of-self-in_default-standing_under : goal.invariant_of-self-in_default-standing_under
-invariant_of-self-in_default-standing_under g c =
+pub invariant_of-self-in_default-standing_of : goal.invariant_of-self-in_default-standing_of
+invariant_of-self-in_default-standing_of g c =
     let s = c.self.inside.set in
     let h = c.self.inside.history in
     let more : c.note.new.self.lines ≡ h.lines ++ seen.NotStanding c.args.id.line ∷ [] = rw c.reserve.ensures.lines at c.note.ensures.lines in
-    let none : (x : Stander) → IsIn x s.set.events → x.id.line ≢ c.args.id.line = c.in_default-standing_under.ensures.absent in
+    let none : (x : Stander) → IsIn x s.set.events → x.id.line ≢ c.args.id.line = c.in_default-standing_of.ensures.absent in
     refused_kept s h c.note.new.self c.self.invariant _ (Undo c.args.id.line) reply.NotStanding more tt refl (absent_answer (view_of s h) c.args.id.line none) c.note.ensures.few
 
-pub returns-in_default-standing_under : goal.returns-in_default-standing_under
-returns-in_default-standing_under g c =
+pub returns-in_default-standing_of : goal.returns-in_default-standing_of
+returns-in_default-standing_of g c =
     let s = c.self.inside.set in
     let h = c.self.inside.history in
     let more : c.note.new.self.lines ≡ h.lines ++ seen.NotStanding c.args.id.line ∷ [] = rw c.reserve.ensures.lines at c.note.ensures.lines in
-    let none : (x : Stander) → IsIn x s.set.events → x.id.line ≢ c.args.id.line = c.in_default-standing_under.ensures.absent in
+    let none : (x : Stander) → IsIn x s.set.events → x.id.line ≢ c.args.id.line = c.in_default-standing_of.ensures.absent in
     let up = c.reserve.ensures.more in
     let down = c.note.ensures.room in
     rw (← c.self.view_is) (refuses s h c.note.new.self c.self.invariant _ (Undo c.args.id.line) reply.NotStanding more tt refl (absent_answer (view_of s h) c.args.id.line none) (omega (arith, up, down)))
