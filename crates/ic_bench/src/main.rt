@@ -1,17 +1,10 @@
 //! The program icbench: a session over standard input and output.
 #![tactic(auto)]
 
-mod help;
-mod options;
-mod program;
 mod progress;
-mod sources;
-mod statuses;
-#[cfg(test)]
-mod tests;
 
-use crate::program::{Host, refuse_words, run_program};
 use crate::progress::Progress;
+use ic_program::{Host, refuse_words, run_program};
 use std::process::ExitCode;
 use std::{env, io};
 

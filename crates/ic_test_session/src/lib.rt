@@ -1,4 +1,4 @@
-//! Tests of public calls: lines and commands, desks with marks, sessions and their faults, and laws. A folder is named after the crate whose calls its modules test.
+//! Tests of public calls: lines and commands, desks with marks, sessions and their faults, the program, and laws. A folder is named after the crate whose calls its modules test.
 #![tactic(auto)]
 
 #[cfg(test)]
@@ -7,5 +7,7 @@ mod command;
 mod desk;
 #[cfg(test)]
 mod laws;
+#[cfg(test)]
+mod program;
 #[cfg(test)]
 mod session;

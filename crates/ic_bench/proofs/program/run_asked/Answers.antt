@@ -1,6 +1,0 @@
-use Rattle.ic_bench.specs.Runs.RunsFiles.{over}
-use Rattle.ic_bench.proofs.RunInputs.{unknown}
-use Rattle.ic_bench.proofs.program.run_asked.Goals as goal
-
-pub returns-then-is_empty-clause-files : goal.returns-then-is_empty-clause-files
-returns-then-is_empty-clause-files g c = over (unknown c.run.ensures)

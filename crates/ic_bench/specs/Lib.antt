@@ -1,3 +1,0 @@
-pub mod CommandLine
-pub mod Statuses
-pub mod Runs

@@ -1,0 +1,7 @@
+//! Tests of `ic_program`.
+
+mod command_lines;
+mod failures;
+mod gates;
+mod running;
+mod sessions;
