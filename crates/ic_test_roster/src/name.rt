@@ -38,18 +38,11 @@ const BAD_NAMES: [(&[u8], usize); 13] = [
     (b"655340", 5),
 ];
 
-/// How the names of two start agents compare, if there are such agents.
-fn compared(alloc: Global, a: u16, b: u16) -> Option<Ordering> {
+/// How the names of two start agents compare, and whether they are one, if there are such agents.
+fn compared(alloc: Global, a: u16, b: u16) -> Option<(Ordering, bool)> {
     let first = AgentName::start(alloc, a)?;
     let second = AgentName::start(alloc, b)?;
-    Some(first.cmp(&second))
-}
-
-/// Whether the names of two start agents are one, if there are such agents.
-fn are_one(alloc: Global, a: u16, b: u16) -> Option<bool> {
-    let first = AgentName::start(alloc, a)?;
-    let second = AgentName::start(alloc, b)?;
-    Some(first.is(&second))
+    Some((first.cmp(&second), first.is(&second)))
 }
 
 /// Whether the name of a start agent is that of its copy.
@@ -60,11 +53,10 @@ fn is_its_copy(alloc: Global, number: u16) -> Option<bool> {
 }
 
 #[test]
-fn start_names_are_compared(rt: HostRuntime) -> Result<(), Fail> {
-    assert_eq!(rt; compared(rt.alloc(), 0, 65_534), Some(Ordering::Less));
+fn start_names_are_compared(rt: HostRuntime) {
+    let compared = compared(rt.alloc(), 0, 65_534);
+    assert_eq!(rt; compared, Some((Ordering::Less, false)));
     assert_eq!(rt; is_its_copy(rt.alloc(), 0), Some(true));
-    assert_eq!(rt; are_one(rt.alloc(), 0, 65_534), Some(false));
-    Ok(())
 }
 
 /// The number and the depth that the name of a start agent has.
@@ -88,67 +80,56 @@ fn the_last_start_name_has_the_number_65534(rt: HostRuntime) {
     assert_eq!(rt; has_start_text(rt.alloc(), 65_534, b"65534"), Some(true));
 }
 
-/// The start numbers in the copy of the name of the event of two start agents, the lead's first.
-fn numbers_of_event_name(alloc: Global, a: u16, b: u16) -> Option<(u16, u16)> {
-    let name = event_name(alloc, a, b)?;
+/// The start numbers in the copy of the name of an event, the lead's first.
+fn numbers_of_the_copy(name: &EventName) -> Option<(u16, u16)> {
     let copy = name.copy().ok()?;
     Some((copy.lead().start_number(), copy.other().start_number()))
 }
 
-/// Whether a start agent has no event with itself.
-fn meets_no_self(alloc: Global, number: u16) -> Option<bool> {
-    let name = AgentName::start(alloc, number)?;
-    let again = AgentName::start(alloc, number)?;
-    Some(EventName::of(name, again).is_none())
+/// The same of the event of two start agents, if they have an event.
+fn numbers_of_event_name(alloc: Global, a: u16, b: u16) -> Option<(u16, u16)> {
+    let name = event_name(alloc, a, b)?;
+    numbers_of_the_copy(&name)
 }
 
 #[test]
-fn names_of_events_have_the_lesser_agent_first(rt: HostRuntime) -> Result<(), Fail> {
+fn names_of_events_have_the_lesser_agent_first(rt: HostRuntime) {
     assert_eq!(rt; numbers_of_event_name(rt.alloc(), 7, 3), Some((3, 7)));
-    assert_eq!(rt; meets_no_self(rt.alloc(), 3), Some(true));
-    Ok(())
+    assert_eq!(rt; numbers_of_event_name(rt.alloc(), 3, 3), None);
 }
 
-/// What stands in an event of two start agents.
-#[derive(Clone, Copy, Debug, PartialEq, Eq)]
-struct Parts {
-    lead: u16,
-    lead_kind: Kind,
-    other: u16,
-    other_kind: Kind,
+/// The start numbers and the kinds of the lead and the other agent of an event.
+pub(crate) fn agents_of(event: &Event) -> (u16, Kind, u16, Kind) {
+    (
+        event.lead().start_number(),
+        event.lead_kind(),
+        event.other().start_number(),
+        event.other_kind(),
+    )
 }
 
-/// What stands in an event.
-fn parts_of(event: &Event) -> Parts {
-    Parts {
-        lead: event.lead().start_number(),
-        lead_kind: event.lead_kind(),
-        other: event.other().start_number(),
-        other_kind: event.other_kind(),
-    }
-}
-
-/// What stands in the copy of the event of two start agents, the first a gamma and the second an epsilon.
-fn parts_of_the_copy(alloc: Global, a: u16, b: u16) -> Option<Parts> {
-    let event = event(alloc, a, b)?;
+/// The same of the copy of an event.
+fn agents_of_the_copy(event: &Event) -> Option<(u16, Kind, u16, Kind)> {
     let copy = event.copy().ok()?;
-    Some(parts_of(&copy))
+    Some(agents_of(&copy))
+}
+
+/// The same of the event of two start agents, the first a gamma and the second an epsilon.
+fn agents_of_event(alloc: Global, a: u16, b: u16) -> Option<(u16, Kind, u16, Kind)> {
+    let event = event(alloc, a, b)?;
+    agents_of_the_copy(&event)
 }
 
 #[test]
-fn events_have_the_lesser_agent_first(rt: HostRuntime) -> Result<(), Fail> {
-    let parts = parts_of_the_copy(rt.alloc(), 7, 3).ok_or("an event")?;
-    assert_eq!(rt; parts.lead, 3);
-    assert_eq!(rt; parts.other, 7);
-    assert_eq!(rt; parts.lead_kind, Kind::Eps);
-    assert_eq!(rt; parts.other_kind, Kind::Gamma);
-    Ok(())
+fn events_have_the_lesser_agent_first(rt: HostRuntime) {
+    let agents = agents_of_event(rt.alloc(), 7, 3);
+    assert_eq!(rt; agents, Some((3, Kind::Eps, 7, Kind::Gamma)));
 }
 
 #[test]
 fn kinds_have_arities(rt: HostRuntime) {
-    assert_eq!(rt; Kind::Eps.arity(), 0);
-    assert_eq!(rt; Kind::Gamma.arity(), 2);
+    let arities = [Kind::Eps.arity(), Kind::Gamma.arity()];
+    assert_eq!(rt; arities, [0, 2]);
 }
 
 /// Whether the text of a name is read, and written again as it was.
@@ -189,7 +170,7 @@ fn other_texts_are_bad_where_no_name_goes_on(rt: HostRuntime) {
 }
 
 /// The deepest descendant of start agent 7 by children 2.
-fn deepest_name(alloc: Global) -> Option<AgentName> {
+pub(crate) fn deepest_name(alloc: Global) -> Option<AgentName> {
     let mut name = AgentName::start(alloc, 7)?;
     for _ in 0..MAX_DEPTH {
         let Ok(child) = name.child(2) else {
@@ -224,11 +205,10 @@ fn depth_and_fault(alloc: Global) -> Option<(usize, ChildFault)> {
     Some((name.depth(), name.child(0).err()?))
 }
 
-/// Whether the deepest name is read from its text.
-fn deepest_is_read(alloc: Global) -> Option<bool> {
-    let text = deepest_text(alloc).ok()?;
+/// Whether the deepest name is read from a text.
+fn is_deepest(alloc: Global, text: &[u8]) -> Option<bool> {
     let name = deepest_name(alloc)?;
-    Some(reads_as(alloc, text.as_slice(), &name))
+    Some(reads_as(alloc, text, &name))
 }
 
 #[test]
@@ -237,12 +217,12 @@ fn children_end_at_the_greatest_depth(rt: HostRuntime) {
         depth_and_fault(rt.alloc()),
         Some((MAX_DEPTH, ChildFault::Deep))
     );
-    assert_eq!(rt; deepest_is_read(rt.alloc()), Some(true));
 }
 
 #[test]
 fn texts_end_at_the_greatest_depth(rt: HostRuntime) -> Result<(), Fail> {
     let mut text = deepest_text(rt.alloc())?;
+    assert!(rt; is_deepest(rt.alloc(), text.as_slice()) == Some(true));
     text.extend_from_slice(b".0")?;
     assert_eq!(rt;
         AgentName::read(rt.alloc(), text.as_slice()).err(),
@@ -255,11 +235,14 @@ fn texts_end_at_the_greatest_depth(rt: HostRuntime) -> Result<(), Fail> {
 
 #[test]
 fn faults_have_numbers(rt: HostRuntime) {
-    assert_eq!(rt; NameFault::BadName(3).number(), 11);
-    assert_eq!(rt; NameFault::Deep.number(), 22);
-    assert_eq!(rt; NameFault::Memory.number(), 25);
-    assert_eq!(rt; ChildFault::Deep.number(), 22);
-    assert_eq!(rt; ChildFault::Memory.number(), 25);
+    let numbers = [
+        NameFault::BadName(3).number(),
+        NameFault::Deep.number(),
+        NameFault::Memory.number(),
+        ChildFault::Deep.number(),
+        ChildFault::Memory.number(),
+    ];
+    assert_eq!(rt; numbers, [11, 22, 25, 22, 25]);
 }
 
 #[test]

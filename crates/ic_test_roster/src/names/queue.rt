@@ -147,14 +147,9 @@ fn starts_with(alloc: Global, waiting: &Waiting, text: &[u8], count: usize) -> b
 }
 
 #[test]
-fn a_new_queue_is_empty(rt: HostRuntime) {
-    let mut waiting = Waiting::new(rt.alloc());
-    assert!(rt; waiting.is_empty());
-}
-
-#[test]
 fn names_are_taken_in_order(rt: HostRuntime) {
     let mut waiting = Waiting::new(rt.alloc());
+    assert!(rt; waiting.is_empty());
     for step in &STEPS {
         for count in 0..19 {
             assert!(rt; put_step(rt.alloc(), &mut waiting, *step, count));
@@ -166,52 +161,72 @@ fn names_are_taken_in_order(rt: HostRuntime) {
     }
 }
 
-/// Names, each of which belongs at an end of the run but the last two. These belong between others, so they go into the heap.
-const ENDS_AND_BETWEEN: [&[u8]; 5] = [b"3.0", b"0", b"8.1", b"7", b"300"];
-
-#[test]
-fn names_of_the_heap_are_taken_in_their_turn(rt: HostRuntime) {
-    let mut waiting = Waiting::new(rt.alloc());
-    for text in &ENDS_AND_BETWEEN {
-        assert!(rt; put(rt.alloc(), &mut waiting, text));
-    }
-    assert!(rt; starts_with(rt.alloc(), &waiting, b"0", 5));
-    assert!(rt; takes(rt.alloc(), &mut waiting, b"0"));
-    assert!(rt; put(rt.alloc(), &mut waiting, b"3"));
-    assert!(rt; put(rt.alloc(), &mut waiting, b"65534"));
-    assert!(rt; starts_with(rt.alloc(), &waiting, b"3", 6));
-    for text in [b"3".as_slice(), b"7", b"300", b"65534", b"3.0", b"8.1"] {
-        assert!(rt; takes(rt.alloc(), &mut waiting, text));
-    }
-    assert!(rt; waiting.is_empty());
+/// What is done to a queue, or asked of it.
+#[derive(Clone, Copy)]
+enum Step {
+    Put(&'static [u8]),
+    Takes(&'static [u8]),
+    StartsWith(&'static [u8], usize),
+    Has(usize),
+    IsEmpty,
 }
 
-/// Texts of names, of which two stand twice.
-const TWICE: [&[u8]; 5] = [b"5", b"4.1", b"5", b"4", b"4.1"];
+/// Names that come and go. Of the first five each belongs at an end of the run but the last two. These belong between others, so
+/// they go into the heap. Then two names are put in that stand there already, and one comes again that went.
+const COMINGS: [Step; 34] = [
+    Step::Put(b"3.0"),
+    Step::Put(b"0"),
+    Step::Put(b"8.1"),
+    Step::Put(b"7"),
+    Step::Put(b"300"),
+    Step::StartsWith(b"0", 5),
+    Step::Takes(b"0"),
+    Step::Put(b"3"),
+    Step::Put(b"65534"),
+    Step::StartsWith(b"3", 6),
+    Step::Takes(b"3"),
+    Step::Takes(b"7"),
+    Step::Takes(b"300"),
+    Step::Takes(b"65534"),
+    Step::Takes(b"3.0"),
+    Step::Takes(b"8.1"),
+    Step::IsEmpty,
+    Step::Put(b"5"),
+    Step::Put(b"4.1"),
+    Step::Put(b"5"),
+    Step::Put(b"4"),
+    Step::Put(b"4.1"),
+    Step::Has(3),
+    Step::Takes(b"4"),
+    Step::Takes(b"5"),
+    Step::Takes(b"4.1"),
+    Step::IsEmpty,
+    Step::Put(b"8"),
+    Step::Put(b"6"),
+    Step::Takes(b"6"),
+    Step::Put(b"6"),
+    Step::Takes(b"6"),
+    Step::Takes(b"8"),
+    Step::IsEmpty,
+];
 
-#[test]
-fn a_name_stands_once(rt: HostRuntime) {
-    let mut waiting = Waiting::new(rt.alloc());
-    for text in &TWICE {
-        assert!(rt; put(rt.alloc(), &mut waiting, text));
+/// Whether a step can be done, or what it asks is so.
+fn is_done(alloc: Global, waiting: &mut Waiting, step: Step) -> bool {
+    match step {
+        Step::Put(text) => put(alloc, waiting, text),
+        Step::Takes(text) => takes(alloc, waiting, text),
+        Step::StartsWith(text, count) => starts_with(alloc, waiting, text, count),
+        Step::Has(count) => waiting.queue.len() == count,
+        Step::IsEmpty => waiting.is_empty(),
     }
-    assert_eq!(rt; waiting.queue.len(), 3);
-    for text in [b"4".as_slice(), b"5", b"4.1"] {
-        assert!(rt; takes(rt.alloc(), &mut waiting, text));
-    }
-    assert!(rt; waiting.is_empty());
 }
 
 #[test]
-fn a_name_that_went_comes_again(rt: HostRuntime) {
+fn a_name_stands_once_and_comes_again_and_those_of_the_heap_go_in_their_turn(rt: HostRuntime) {
     let mut waiting = Waiting::new(rt.alloc());
-    assert!(rt; put(rt.alloc(), &mut waiting, b"8"));
-    assert!(rt; put(rt.alloc(), &mut waiting, b"6"));
-    assert!(rt; takes(rt.alloc(), &mut waiting, b"6"));
-    assert!(rt; put(rt.alloc(), &mut waiting, b"6"));
-    assert!(rt; takes(rt.alloc(), &mut waiting, b"6"));
-    assert!(rt; takes(rt.alloc(), &mut waiting, b"8"));
-    assert!(rt; waiting.is_empty());
+    for (place, step) in COMINGS.iter().enumerate() {
+        assert!(rt; is_done(rt.alloc(), &mut waiting, *step), "at step {place}");
+    }
 }
 
 /// Puts in the name of the start agent of this number. It is `false` where it can't.

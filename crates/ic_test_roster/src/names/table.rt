@@ -1,22 +1,10 @@
-ghost use Rattle.std.specs.Prelude.{◌<◌};
+ghost use Rattle.std.specs.Prelude.{◌<◌, length, IfSome};
 
+use crate::name::deepest_name;
 use ic_name::limits::MAX_DEPTH;
 use ic_name::{AgentName, ChildFault};
 use ic_names::{NameId, NameTable};
 use std::alloc::Global;
-use std::test::Fail;
-
-/// The deepest descendant of start agent 7 by children 2.
-fn deepest_name(alloc: Global) -> Option<AgentName> {
-    let mut name = AgentName::start(alloc, 7)?;
-    for _ in 0..MAX_DEPTH {
-        let Ok(child) = name.child(2) else {
-            return None;
-        };
-        name = child;
-    }
-    Some(name)
-}
 
 /// Texts of names of several depths, of which many share their first 17 digits, and some their first 32 or more.
 const NAMES: [&[u8]; 27] = [
@@ -50,31 +38,28 @@ const NAMES: [&[u8]; 27] = [
 ];
 
 /// Where the name that a text writes is entered.
-fn entered(alloc: Global, table: &mut NameTable, text: &[u8]) -> Option<NameId> {
+fn entered(alloc: Global, table: &mut NameTable, text: &[u8]) -> Option<NameId>
+    ensures { IfSome result (λ id. id.place < length table.new) }
+{
     let name = AgentName::read(alloc, text).ok()?;
     table.enter(&name).ok()
 }
 
-/// A table of the names.
-fn table_of_names(alloc: Global) -> Option<NameTable> {
-    let mut table = NameTable::new(alloc);
+/// Enters the names. It is `false` where one can't be entered.
+fn enter_all(alloc: Global, table: &mut NameTable) -> bool {
     for text in &NAMES {
-        entered(alloc, &mut table, text)?;
+        if entered(alloc, table, text).is_none() {
+            return false;
+        }
     }
-    Some(table)
+    true
 }
 
-/// Whether the name that a text writes is there.
-fn is_found(alloc: Global, table: &NameTable, text: &[u8]) -> Option<bool> {
-    let name = AgentName::read(alloc, text).ok()?;
-    let id = table.find(&name)?;
-    Some(table.is(id, &name))
-}
-
-/// Whether a text is that of the name at the place where the name that it writes is found.
+/// Whether the name that a text writes stands where it is found, and is read back from there as that text.
 fn is_read_back(alloc: Global, table: &NameTable, text: &[u8]) -> Option<bool> {
     let name = AgentName::read(alloc, text).ok()?;
-    has_text(alloc, table, table.find(&name)?, text)
+    let id = table.find(&name)?;
+    Some(table.is(id, &name) && has_text(alloc, table, id, text) == Some(true))
 }
 
 /// Whether this is the text of the name at a place.
@@ -86,20 +71,13 @@ fn has_text(alloc: Global, table: &NameTable, id: NameId, text: &[u8]) -> Option
 }
 
 /// Whether all names are found in a table and read back, and no other one is found.
-fn are_read_back(alloc: Global, table: &NameTable) -> Option<bool> {
+fn are_read_back(alloc: Global, table: &NameTable) -> bool {
     for text in &NAMES {
-        if !is_found(alloc, table, text)? || !is_read_back(alloc, table, text)? {
-            return Some(false);
+        if is_read_back(alloc, table, text) != Some(true) {
+            return false;
         }
     }
-    Some(is_found(alloc, table, b"7.1.3").is_none())
-}
-
-#[test]
-fn names_are_found_and_read_back(rt: HostRuntime) -> Result<(), Fail> {
-    let table = table_of_names(rt.alloc()).ok_or("a table")?;
-    assert_eq!(rt; are_read_back(rt.alloc(), &table), Some(true));
-    Ok(())
+    is_read_back(alloc, table, b"7.1.3").is_none()
 }
 
 /// Texts of names of 0, 1, 16, 17, 32, 33 and 70 digits.
@@ -113,31 +91,20 @@ const WRITTEN_NAMES: [&[u8]; 7] = [
     b"12.2.2.0.3.1.0.1.0.2.3.1.3.0.1.0.1.3.2.1.3.1.0.1.3.1.1.0.0.1.1.1.1.2.2.1.1.1.1.3.2.0.2.3.1.1.2.0.2.2.0.2.0.2.2.2.3.2.1.3.3.1.0.2.0.2.3.0.3.2.3",
 ];
 
-/// Whether a name is written from its place in the table as this text, after what stands there already.
-fn is_written(alloc: Global, table: &mut NameTable, name: &AgentName, text: &[u8]) -> Option<bool> {
-    let Ok(id) = table.enter(name) else {
-        return None;
-    };
+/// Whether the name that a text writes is entered, and written from its place as this text, after what stands there already.
+fn is_written(alloc: Global, table: &mut NameTable, text: &[u8]) -> Option<bool> {
+    let id = entered(alloc, table, text)?;
     let mut written = vec![in alloc; b'>'; 1].ok()?;
     table.write_to(id, &mut written).ok()?;
     Some(written.strip_prefix(b">") == Some(text))
 }
 
-/// Whether the names that these texts write are written from their places in one table as the same texts.
-fn are_written(alloc: Global) -> Option<bool> {
-    let mut table = NameTable::new(alloc);
-    for text in &WRITTEN_NAMES {
-        let name = AgentName::read(alloc, text).ok()?;
-        if !is_written(alloc, &mut table, &name, text)? {
-            return Some(false);
-        }
-    }
-    Some(true)
-}
-
 #[test]
 fn names_are_written_from_their_places(rt: HostRuntime) {
-    assert_eq!(rt; are_written(rt.alloc()), Some(true));
+    let mut table = NameTable::new(rt.alloc());
+    for text in &WRITTEN_NAMES {
+        assert_eq!(rt; is_written(rt.alloc(), &mut table, text), Some(true));
+    }
 }
 
 /// Whether the names that two texts write compare in the table as they do by themselves.
@@ -154,26 +121,27 @@ fn compares_alike(table: &NameTable, first: &AgentName, second: &AgentName) -> O
     Some(table.cmp(one, other) == first.cmp(second))
 }
 
-#[test]
-fn names_compare_as_by_themselves(rt: HostRuntime) -> Result<(), Fail> {
-    let table = table_of_names(rt.alloc()).ok_or("a table")?;
+/// Whether all names compare in the table as they do by themselves.
+fn all_compare_alike(alloc: Global, table: &NameTable) -> bool {
     for a in &NAMES {
         for b in &NAMES {
-            assert_eq!(rt; compare_alike(rt.alloc(), &table, a, b), Some(true));
+            if compare_alike(alloc, table, a, b) != Some(true) {
+                return false;
+            }
         }
     }
-    Ok(())
+    true
 }
 
 #[test]
-fn names_are_entered_once(rt: HostRuntime) -> Result<(), Fail> {
-    let mut table = table_of_names(rt.alloc()).ok_or("a table")?;
+fn names_are_entered_once_and_read_back_and_compare_as_by_themselves(rt: HostRuntime) {
+    let mut table = NameTable::new(rt.alloc());
+    assert!(rt; enter_all(rt.alloc(), &mut table));
     let names = table.len();
-    for text in &NAMES {
-        assert!(rt; entered(rt.alloc(), &mut table, text).is_some());
-    }
+    assert!(rt; enter_all(rt.alloc(), &mut table));
     assert_eq!(rt; table.len(), names);
-    Ok(())
+    assert!(rt; are_read_back(rt.alloc(), &table));
+    assert!(rt; all_compare_alike(rt.alloc(), &table));
 }
 
 /// The place where the name that a text writes is entered.
@@ -241,20 +209,26 @@ fn comes_in(table: &mut NameTable, name: &AgentName, digit: u8, child: &AgentNam
     Some(absent && table.find(child) == Some(id))
 }
 
+/// How many names a table has once each child of agent 7 came into it, if each came once.
+fn len_of_children(alloc: Global, table: &mut NameTable) -> Option<usize> {
+    for digit in 0..4 {
+        if !child_comes(alloc, table, digit)? || child_comes(alloc, table, digit)? {
+            return None;
+        }
+    }
+    Some(table.len())
+}
+
 #[test]
 fn children_come_once(rt: HostRuntime) {
     let mut table = NameTable::new(rt.alloc());
-    for digit in 0..4 {
-        assert_eq!(rt; child_comes(rt.alloc(), &mut table, digit), Some(true));
-        assert_eq!(rt; child_comes(rt.alloc(), &mut table, digit), Some(false));
-    }
-    assert_eq!(rt; table.len(), 5);
+    assert_eq!(rt; len_of_children(rt.alloc(), &mut table), Some(5));
 }
 
-/// The depth of a name in a table of its own, and why it has no child 0 there.
-fn depth_and_fault(alloc: Global, name: &AgentName) -> Option<(usize, ChildFault)> {
-    let mut table = NameTable::new(alloc);
-    let Ok(id) = table.enter(name) else {
+/// The depth of the deepest name in a table, and why it has no child 0 there.
+fn depth_and_fault(alloc: Global, table: &mut NameTable) -> Option<(usize, ChildFault)> {
+    let name = deepest_name(alloc)?;
+    let Ok(id) = table.enter(&name) else {
         return None;
     };
     let depth = table.depth(id);
@@ -263,11 +237,10 @@ fn depth_and_fault(alloc: Global, name: &AgentName) -> Option<(usize, ChildFault
 }
 
 #[test]
-fn children_in_a_table_end_at_the_greatest_depth(rt: HostRuntime) -> Result<(), Fail> {
-    let name = deepest_name(rt.alloc()).ok_or("the deepest name")?;
+fn children_in_a_table_end_at_the_greatest_depth(rt: HostRuntime) {
+    let mut table = NameTable::new(rt.alloc());
     assert_eq!(rt;
-        depth_and_fault(rt.alloc(), &name),
+        depth_and_fault(rt.alloc(), &mut table),
         Some((MAX_DEPTH, ChildFault::Deep))
     );
-    Ok(())
 }

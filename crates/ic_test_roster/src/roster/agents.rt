@@ -1,4 +1,7 @@
+ghost use Rattle.std.specs.Prelude.{◌<◌, length, IfSome};
+
 use ic_name::{AgentId, AgentName, Kind};
+use ic_names::NameId;
 use ic_roster::{PlacedAgent, Roster};
 use std::alloc::Global;
 
@@ -29,13 +32,6 @@ fn finds(alloc: Global, roster: &Roster, text: &[u8], id: Option<AgentId>) -> bo
     }
 }
 
-#[test]
-fn no_agents_at_first(rt: HostRuntime) {
-    let roster = Roster::new(rt.alloc());
-    assert_eq!(rt; roster.agent_count(), 0);
-    assert!(rt; finds(rt.alloc(), &roster, b"7", None));
-}
-
 /// Agents by the texts of their names, with their kinds and serial numbers. The first 17 digits of two are the same.
 const AGENTS: [(&[u8], Kind, u32); 5] = [
     (b"7", Kind::Gamma, 0),
@@ -45,23 +41,22 @@ const AGENTS: [(&[u8], Kind, u32); 5] = [
     (b"7.1.2.3.0.1.2.3.0.1.2.3.0.1.2.3.0.1.0", Kind::Gamma, 9),
 ];
 
-/// Whether an agent is found as soon as it is entered.
+/// Whether an agent is found as soon as it is entered, and is not entered a second time.
 fn is_found(alloc: Global, roster: &mut Roster, text: &[u8], kind: Kind, serial: u32) -> bool {
     match enter(alloc, roster, text, kind, serial) {
-        Some(id) => id.serial == serial && finds(alloc, roster, text, Some(id)),
+        Some(id) => {
+            id.serial == serial
+                && finds(alloc, roster, text, Some(id))
+                && enter(alloc, roster, text, Kind::Delta, 1).is_none()
+        }
         None => false,
     }
-}
-
-/// Whether an agent is entered a second time.
-fn is_entered_again(alloc: Global, roster: &mut Roster, text: &[u8]) -> bool {
-    enter(alloc, roster, text, Kind::Delta, 1).is_some()
 }
 
 /// Whether each agent of the table is found as soon as it is entered, and none is entered a second time.
 fn are_found(alloc: Global, roster: &mut Roster) -> bool {
     for (text, kind, serial) in &AGENTS {
-        if !is_found(alloc, roster, text, *kind, *serial) || is_entered_again(alloc, roster, text) {
+        if !is_found(alloc, roster, text, *kind, *serial) {
             return false;
         }
     }
@@ -69,32 +64,21 @@ fn are_found(alloc: Global, roster: &mut Roster) -> bool {
     roster.agent_count() == 5
 }
 
-#[test]
-fn agents_are_found(rt: HostRuntime) {
-    let mut roster = Roster::new(rt.alloc());
-    assert!(rt; are_found(rt.alloc(), &mut roster));
-}
-
-/// The kind and the serial number that are read of the agent of the name that a text writes.
-fn read_again(alloc: Global, roster: &Roster, text: &[u8]) -> Option<(Kind, u32)> {
-    let name = AgentName::read(alloc, text).ok()?;
-    let id = roster.find(&name)?;
+/// The kind and the serial number that are read of the agent of this name.
+fn read(roster: &Roster, name: &AgentName) -> Option<(Kind, u32)> {
+    let id = roster.find(name)?;
     let entry = roster.agent(id)?;
-    if roster.names().is(entry.name, &name) {
+    if roster.names().is(entry.name, name) {
         Some((entry.kind, id.serial))
     } else {
         None
     }
 }
 
-/// Enters the agents of the table. It is `false` where one can't be entered.
-fn enter_all(alloc: Global, roster: &mut Roster) -> bool {
-    for (text, kind, serial) in &AGENTS {
-        if enter(alloc, roster, text, *kind, *serial).is_none() {
-            return false;
-        }
-    }
-    true
+/// The same of the name that a text writes.
+fn read_again(alloc: Global, roster: &Roster, text: &[u8]) -> Option<(Kind, u32)> {
+    let name = AgentName::read(alloc, text).ok()?;
+    read(roster, &name)
 }
 
 /// Whether the agents of the table are read as they were entered.
@@ -105,12 +89,6 @@ fn are_read(alloc: Global, roster: &Roster) -> bool {
         }
     }
     true
-}
-
-#[test]
-fn agents_are_read(rt: HostRuntime) {
-    let mut roster = Roster::new(rt.alloc());
-    assert!(rt; enter_all(rt.alloc(), &mut roster) && are_read(rt.alloc(), &roster));
 }
 
 /// Enters the agent 1, with the serial number 6, and lets it go again.
@@ -125,12 +103,6 @@ fn left_of_one(alloc: Global, roster: &mut Roster) -> Option<(bool, usize, usize
     let id = enter_and_remove(alloc, roster)?;
     let gone = roster.agent(id).is_none() && finds(alloc, roster, b"1", None);
     Some((gone, roster.agent_count(), roster.names().len()))
-}
-
-#[test]
-fn an_agent_goes(rt: HostRuntime) {
-    let mut roster = Roster::new(rt.alloc());
-    assert_eq!(rt; left_of_one(rt.alloc(), &mut roster), Some((true, 0, 1)));
 }
 
 /// Enters an agent in the slot of one that went, whose id removes none. Whether that id holds no more.
@@ -150,8 +122,9 @@ fn left_of_two(alloc: Global, roster: &mut Roster) -> Option<(bool, usize, (Kind
 }
 
 #[test]
-fn an_id_holds_no_more_once_its_slot_is_filled_again(rt: HostRuntime) {
+fn an_agent_goes_and_its_id_holds_no_more_once_its_slot_is_filled_again(rt: HostRuntime) {
     let mut roster = Roster::new(rt.alloc());
+    assert_eq!(rt; left_of_one(rt.alloc(), &mut roster), Some((true, 0, 1)));
     assert_eq!(rt;
         left_of_two(rt.alloc(), &mut roster),
         Some((true, 1, (Kind::Gamma, 4)))
@@ -185,23 +158,40 @@ fn are_listed(alloc: Global, roster: &Roster, texts: &[&[u8]]) -> bool {
     }
 }
 
+/// Whether no agent is found or listed where none was entered.
+fn is_empty(alloc: Global, roster: &Roster) -> bool {
+    roster.agent_count() == 0 && finds(alloc, roster, b"7", None) && are_listed(alloc, roster, &[])
+}
+
 #[test]
-fn agents_are_listed_by_name(rt: HostRuntime) {
+fn agents_are_found_and_read_and_listed_by_name(rt: HostRuntime) {
     let mut roster = Roster::new(rt.alloc());
-    assert!(rt; are_listed(rt.alloc(), &roster, &[]));
-    assert!(rt; enter_all(rt.alloc(), &mut roster));
+    assert!(rt; is_empty(rt.alloc(), &roster));
+    assert!(rt; are_found(rt.alloc(), &mut roster));
+    assert!(rt; are_read(rt.alloc(), &roster));
     assert!(rt; are_listed(rt.alloc(), &roster, &IN_ORDER));
+}
+
+/// The place of the name of agent 7, which is entered.
+fn enter_parent(alloc: Global, roster: &mut Roster) -> Option<NameId>
+    ensures { IfSome result (λ id. id.place < length roster.new.names) }
+{
+    let name = AgentName::start(alloc, 7)?;
+    roster.enter(&name).ok()
+}
+
+/// The place where the name of child 2 of agent 7 is found.
+fn place_of_child(alloc: Global, roster: &Roster) -> Option<NameId> {
+    let name = AgentName::start(alloc, 7)?;
+    let child = name.child(2).ok()?;
+    roster.names().find(&child)
 }
 
 /// Whether the name of child 2 of agent 7 is entered, and then the one that is found.
 fn child_is_entered(alloc: Global, roster: &mut Roster) -> Option<bool> {
-    let name = AgentName::start(alloc, 7)?;
-    let child = name.child(2).ok()?;
-    let Ok(parent) = roster.enter(&name) else {
-        return None;
-    };
+    let parent = enter_parent(alloc, roster)?;
     let id = roster.enter_child(parent, 2).ok()?;
-    Some(roster.names().find(&child) == Some(id))
+    Some(place_of_child(alloc, roster) == Some(id))
 }
 
 /// Whether that is so twice, and how many names and agents there are then.

@@ -1,9 +1,9 @@
 ghost use Rattle.std.specs.Prelude.{◌≡◌, ◌≢◌, All, IsTrue, IfSome};
-ghost use Rattle.ic_path.specs.Orders.{IsIn};
+ghost use Rattle.ic_path.specs.Orders.{IsIn, IsOnce};
 ghost use Rattle.ic_name.specs.declared.ids.EventId.{EventId as AnEventId};
-ghost use Rattle.ic_roster.specs.Rosters.{Stander, IsNamed};
+ghost use Rattle.ic_roster.specs.Rosters.{Stander, Stands, IsNamed};
 
-use crate::name::event_name;
+use crate::name::{agents_of, event_name};
 use ic_name::{AgentId, AgentName, EventId, Kind};
 use ic_roster::{GoneEvent, Interaction, Roster, StandingEntry};
 use std::alloc::Global;
@@ -66,14 +66,22 @@ fn are_elsewhere(ids: &[EventId], line: u32) -> bool
     ids.iter().all(|id| id.line != line)
 }
 
-/// Enters the event of two start agents, without causes, with rank 7. It is `None` where one of this line or this lead stands.
-fn stand(
+/// Enters the event of two start agents after these causes, with rank 7. It is `None` where one of this line or this lead
+/// stands.
+pub(crate) fn stand_after(
     alloc: Global,
     roster: &mut Roster,
     agents: (u16, u16),
     line: u32,
     born: &[AgentId],
-) -> Option<EventId> {
+    causes: &[EventId],
+) -> Option<EventId>
+    requires standing { All (Stands roster.old.events) causes.now }
+    requires once { IsOnce causes.now }
+    ensures there { IfSome result (λ id. Stands roster.new.events id) }
+    ensures in_line { IfSome result (λ id. id.line ≡ line) }
+    ensures kept { (d : AnEventId) → Stands roster.old.events d → Stands roster.new.events d }
+{
     let interaction = interaction(alloc, roster, agents.0, agents.1)?;
     let new = line_is_new(alloc, roster, line)?;
     if !new {
@@ -86,11 +94,22 @@ fn stand(
                 interaction,
                 rank: 7,
                 born,
-                causes: &[],
+                causes,
             };
             roster.insert_event(line, &event).ok()
         }
     }
+}
+
+/// The same without causes.
+fn stand(
+    alloc: Global,
+    roster: &mut Roster,
+    agents: (u16, u16),
+    line: u32,
+    born: &[AgentId],
+) -> Option<EventId> {
+    stand_after(alloc, roster, agents, line, born, &[])
 }
 
 /// Whether this is the id found for the event of two start agents, or none is found where none is given.
@@ -115,87 +134,25 @@ fn at_first(alloc: Global, roster: &Roster) -> Option<(usize, bool)> {
     Some((roster.event_count(), none && line_is_new(alloc, roster, 0)?))
 }
 
-#[test]
-fn no_events_at_first(rt: HostRuntime) {
-    let roster = Roster::new(rt.alloc());
-    assert_eq!(rt; at_first(rt.alloc(), &roster), Some((0, true)));
-}
+/// What is read of an event: its agents and their kinds, the lead's first, and its rank.
+type Read = ((u16, Kind, u16, Kind), u32);
 
-/// Enters the event of the agents 3 and 9 in line 4. Its line, if it is found then, and how many events there are.
-fn line_of_one(alloc: Global, roster: &mut Roster) -> Option<(u32, usize)> {
-    let id = stand(alloc, roster, (3, 9), 4, &[])?;
-    roster.lawful();
-    if finds(alloc, roster, 3, 9, Some(id)) && roster.event(id).is_some() {
-        Some((id.line, roster.event_count()))
-    } else {
-        None
-    }
-}
-
-/// The same, and whether the lines 4 and 5 are new then.
-fn lines_of_one(alloc: Global, roster: &mut Roster) -> Option<((u32, usize), bool, bool)> {
-    let found = line_of_one(alloc, roster)?;
-    let same = line_is_new(alloc, roster, 4)?;
-    let other = line_is_new(alloc, roster, 5)?;
-    Some((found, same, other))
-}
-
-#[test]
-fn an_event_has_its_line(rt: HostRuntime) {
-    let mut roster = Roster::new(rt.alloc());
-    assert_eq!(rt;
-        lines_of_one(rt.alloc(), &mut roster),
-        Some(((4, 1), false, true))
-    );
-}
-
-/// Whether the event of the agents 3 and 9 is found by its agents in another order, and no other event is.
-fn is_found(alloc: Global, roster: &mut Roster) -> Option<bool> {
-    let id = stand(alloc, roster, (3, 9), 4, &[])?;
-    Some(finds(alloc, roster, 9, 3, Some(id)) && finds(alloc, roster, 3, 2, None))
-}
-
-#[test]
-fn an_event_is_found_by_its_name(rt: HostRuntime) {
-    let mut roster = Roster::new(rt.alloc());
-    assert_eq!(rt; is_found(rt.alloc(), &mut roster), Some(true));
-}
-
-/// Whether an event stands, and then neither another one in its line nor one with its lead.
-fn stands_alone(alloc: Global, roster: &mut Roster) -> bool {
-    stand(alloc, roster, (3, 9), 4, &[]).is_some()
-        && stand(alloc, roster, (5, 9), 4, &[]).is_none()
-        && stand(alloc, roster, (3, 5), 6, &[]).is_none()
-        && roster.event_count() == 1
-}
-
-#[test]
-fn a_line_and_a_lead_are_taken_once(rt: HostRuntime) {
-    let mut roster = Roster::new(rt.alloc());
-    assert!(rt; stands_alone(rt.alloc(), &mut roster));
-}
-
-/// The start numbers of the lead and the other agent, and their kinds, of the event under an id.
-fn agents_read(roster: &Roster, id: EventId) -> Option<(u16, Kind, u16, Kind)> {
+/// What is read of the event under an id.
+fn read(roster: &Roster, id: EventId) -> Option<Read> {
     let entry = roster.event(id)?;
     let event = roster.read(entry.interaction).ok()?;
-    Some((
-        event.lead().start_number(),
-        event.lead_kind(),
-        event.other().start_number(),
-        event.other_kind(),
-    ))
+    Some((agents_of(&event), entry.rank))
 }
 
-/// The rank of the event under an id.
-fn rank(roster: &Roster, id: EventId) -> Option<u32> {
-    Some(roster.event(id)?.rank)
-}
-
-/// Whether these are the agents born of the event under an id.
-fn are_born(roster: &Roster, id: EventId, agents: &[AgentId]) -> bool {
+/// Whether these are the children and the causes of the event under an id.
+pub(crate) fn has_parts(
+    roster: &Roster,
+    id: EventId,
+    born: &[AgentId],
+    causes: &[EventId],
+) -> bool {
     match roster.event(id) {
-        Some(entry) => entry.born == agents,
+        Some(entry) => entry.born == born && entry.causes == causes,
         None => false,
     }
 }
@@ -206,21 +163,37 @@ const BORN: [AgentId; 2] = [
     AgentId { slot: 0, serial: 5 },
 ];
 
-/// What is read of the event of the agents 3 and 9: its agents, its rank, and whether these agents are born of it.
-fn read_of_one(alloc: Global, roster: &mut Roster) -> Option<((u16, Kind, u16, Kind), u32, bool)> {
+/// Enters the event of the agents 3 and 9 in line 4, of which two agents are born. Its line, how many events there are then,
+/// what is read of it, and whether it is found by its agents in either order, and no other event is.
+fn told_of_one(alloc: Global, roster: &mut Roster) -> Option<(u32, usize, Read, bool)> {
     let id = stand(alloc, roster, (3, 9), 4, &BORN)?;
-    let agents = agents_read(roster, id)?;
-    Some((agents, rank(roster, id)?, are_born(roster, id, &BORN)))
+    roster.lawful();
+    let found = has_parts(roster, id, &BORN, &[])
+        && finds(alloc, roster, 3, 9, Some(id))
+        && finds(alloc, roster, 9, 3, Some(id))
+        && finds(alloc, roster, 3, 2, None);
+    Some((id.line, roster.event_count(), read(roster, id)?, found))
+}
+
+/// Whether neither another event in line 4 stands then nor one with the lead 3.
+fn stands_alone(alloc: Global, roster: &mut Roster) -> bool {
+    stand(alloc, roster, (5, 9), 4, &[]).is_none()
+        && stand(alloc, roster, (3, 5), 6, &[]).is_none()
+        && roster.event_count() == 1
 }
 
 #[test]
-fn an_event_is_read(rt: HostRuntime) {
+fn an_event_is_found_and_read_and_takes_its_line_and_its_lead(rt: HostRuntime) {
     let mut roster = Roster::new(rt.alloc());
-    let agents = (3, Kind::Gamma, 9, Kind::Eps);
+    assert_eq!(rt; at_first(rt.alloc(), &roster), Some((0, true)));
+    let read = ((3, Kind::Gamma, 9, Kind::Eps), 7);
     assert_eq!(rt;
-        read_of_one(rt.alloc(), &mut roster),
-        Some((agents, 7, true))
+        told_of_one(rt.alloc(), &mut roster),
+        Some((4, 1, read, true))
     );
+    assert_eq!(rt; line_is_new(rt.alloc(), &roster, 4), Some(false));
+    assert_eq!(rt; line_is_new(rt.alloc(), &roster, 5), Some(true));
+    assert!(rt; stands_alone(rt.alloc(), &mut roster));
 }
 
 /// Whether the event under an id goes, and hands out a lead of this start number, and these agents as born of it.
@@ -249,12 +222,6 @@ fn goes_once(alloc: Global, roster: &mut Roster) -> Option<(bool, usize)> {
     Some((goes, roster.event_count()))
 }
 
-#[test]
-fn an_event_that_goes_is_handed_out(rt: HostRuntime) {
-    let mut roster = Roster::new(rt.alloc());
-    assert_eq!(rt; goes_once(rt.alloc(), &mut roster), Some((true, 0)));
-}
-
 /// Whether an event goes, stands again in the same slot, and is found by its new id alone.
 fn stands_again(alloc: Global, roster: &mut Roster) -> Option<bool> {
     let old = stand(alloc, roster, (1, 2), 0, &[])?;
@@ -265,48 +232,43 @@ fn stands_again(alloc: Global, roster: &mut Roster) -> Option<bool> {
 }
 
 #[test]
-fn an_event_id_holds_no_more_once_its_slot_is_filled_again(rt: HostRuntime) {
+fn an_event_that_goes_is_handed_out_and_its_slot_is_filled_again(rt: HostRuntime) {
     let mut roster = Roster::new(rt.alloc());
+    assert_eq!(rt; goes_once(rt.alloc(), &mut roster), Some((true, 0)));
     assert_eq!(rt; stands_again(rt.alloc(), &mut roster), Some(true));
 }
 
-/// Enters the event of the agents 3 and 9 in line 4, and that of the agents 5 and 9 in line 6.
-fn stand_two(alloc: Global, roster: &mut Roster) -> Option<(EventId, EventId)> {
-    let first = stand(alloc, roster, (3, 9), 4, &[])?;
-    let second = stand(alloc, roster, (5, 9), 6, &[])?;
-    Some((first, second))
+/// Whether the ids are those that are listed, each of which is listed once, in whatever order.
+pub(crate) fn are_alike(listed: &[EventId], ids: &[EventId]) -> bool {
+    for id in ids {
+        if !listed.contains(id) {
+            return false;
+        }
+    }
+    listed.len() == ids.len()
 }
 
-/// How many events there are, and whether each of two is found by its name, and no other event is.
-fn found_of_two(alloc: Global, roster: &mut Roster) -> Option<(usize, bool)> {
-    let (first, second) = stand_two(alloc, roster)?;
-    let found = finds(alloc, roster, 3, 9, Some(first))
+/// Whether these are the ids of all events, each once, in whatever order.
+fn are_ids(alloc: Global, roster: &Roster, ids: &[EventId]) -> bool {
+    match roster.event_ids(alloc) {
+        Ok(listed) => are_alike(&listed, ids),
+        Err(_) => false,
+    }
+}
+
+/// Whether the events of the agents 3 and 9 and of 5 and 9 have these ids, by their names and the second by its lead, and no
+/// other event is found.
+fn are_found(alloc: Global, roster: &Roster, first: EventId, second: EventId) -> Option<bool> {
+    let found = are_ids(alloc, roster, &[first, second])
+        && finds(alloc, roster, 3, 9, Some(first))
         && finds(alloc, roster, 5, 9, Some(second))
         && finds(alloc, roster, 5, 3, None);
-    Some((roster.event_count(), found))
+    let led = is_led(alloc, roster, 5, Some(second))? && is_led(alloc, roster, 9, None)?;
+    Some(found && led)
 }
 
-#[test]
-fn events_are_found_by_their_names(rt: HostRuntime) {
-    let mut roster = Roster::new(rt.alloc());
-    assert_eq!(rt; found_of_two(rt.alloc(), &mut roster), Some((2, true)));
-}
-
-/// Whether the second of two events is found by its lead, and none by its other agent.
-fn second_is_led(alloc: Global, roster: &mut Roster) -> Option<bool> {
-    let (_, second) = stand_two(alloc, roster)?;
-    Some(is_led(alloc, roster, 5, Some(second))? && is_led(alloc, roster, 9, None)?)
-}
-
-#[test]
-fn events_are_found_by_their_leads(rt: HostRuntime) {
-    let mut roster = Roster::new(rt.alloc());
-    assert_eq!(rt; second_is_led(rt.alloc(), &mut roster), Some(true));
-}
-
-/// Whether the first of two events goes, and is then found no more by its id, its name or its lead, and its line is new.
-fn first_goes(alloc: Global, roster: &mut Roster) -> Option<bool> {
-    let (first, _) = stand_two(alloc, roster)?;
+/// Whether the first of them goes, and is then found no more by its id, its name or its lead, and its line is new.
+fn first_goes(alloc: Global, roster: &mut Roster, first: EventId) -> Option<bool> {
     let goes = hands_out(alloc, roster, first, 3, &[]) && roster.event(first).is_none();
     let free = line_is_new(alloc, roster, 4)? && is_led(alloc, roster, 3, None)?;
     Some(goes && free && finds(alloc, roster, 3, 9, None))
@@ -318,39 +280,20 @@ fn next_is_found(alloc: Global, roster: &mut Roster) -> Option<bool> {
     Some(finds(alloc, roster, 3, 8, Some(again)))
 }
 
-/// Whether the one is so, and then the other.
-fn gives_way(alloc: Global, roster: &mut Roster) -> Option<bool> {
-    Some(first_goes(alloc, roster)? && next_is_found(alloc, roster)?)
+/// Enters the event of the agents 3 and 9 in line 4, and that of the agents 5 and 9 in line 6. How many there are then, whether
+/// they are found, and whether the first goes and another event takes its lead.
+fn told_of_two(alloc: Global, roster: &mut Roster) -> Option<(usize, bool, bool)> {
+    let first = stand(alloc, roster, (3, 9), 4, &[])?;
+    let second = stand(alloc, roster, (5, 9), 6, &[])?;
+    let count = roster.event_count();
+    let found = are_found(alloc, roster, first, second)?;
+    let gone = first_goes(alloc, roster, first)? && next_is_found(alloc, roster)?;
+    Some((count, found, gone))
 }
 
 #[test]
-fn an_event_that_goes_is_found_no_more(rt: HostRuntime) {
+fn events_are_listed_and_found_by_names_and_leads_until_they_go(rt: HostRuntime) {
     let mut roster = Roster::new(rt.alloc());
-    assert_eq!(rt; gives_way(rt.alloc(), &mut roster), Some(true));
-}
-
-/// Whether these are the ids of all events, each once, in whatever order.
-fn are_ids(alloc: Global, roster: &Roster, ids: &[EventId]) -> bool {
-    match roster.event_ids(alloc) {
-        Ok(listed) => listed.len() == ids.len() && have_all(&listed, ids),
-        Err(_) => false,
-    }
-}
-
-/// Whether all the ids are listed.
-pub(crate) fn have_all(listed: &[EventId], ids: &[EventId]) -> bool {
-    ids.iter().all(|id| listed.contains(id))
-}
-
-/// Whether no ids are listed at first, and then those of two events.
-fn ids_are_listed(alloc: Global, roster: &mut Roster) -> Option<bool> {
-    let none = are_ids(alloc, roster, &[]);
-    let (first, second) = stand_two(alloc, roster)?;
-    Some(none && are_ids(alloc, roster, &[first, second]))
-}
-
-#[test]
-fn the_ids_of_events_are_listed(rt: HostRuntime) {
-    let mut roster = Roster::new(rt.alloc());
-    assert_eq!(rt; ids_are_listed(rt.alloc(), &mut roster), Some(true));
+    assert!(rt; are_ids(rt.alloc(), &roster, &[]));
+    assert_eq!(rt; told_of_two(rt.alloc(), &mut roster), Some((2, true, true)));
 }

@@ -5,7 +5,7 @@ use Rattle.ic_path.proofs.Picks.{in_more}
 use Rattle.ic_path.proofs.Alikes.{alike-in}
 use Rattle.ic_name.specs.declared.ids.EventId.{EventId as AnEventId}
 use Rattle.ic_roster.specs.Rosters.{RosterView, Stander, Stands, event_in}
-use Rattle.ic_test_roster.proofs.roster.dependents.stand_after.Goals as goal
+use Rattle.ic_test_roster.proofs.roster.standing.stand_after.Goals as goal
 
 pub insert_event-requires-clause-is_new : goal.insert_event-requires-clause-is_new
 insert_event-requires-clause-is_new c = λ x i. (c.in_ok-new.ensures c.if-not-new.false x i, c.in-None.ensures.absent x i)
@@ -22,5 +22,5 @@ still old new entry P (Err e) entered same d s = subst (λ (v : RosterView). Sta
 pub returns-in-None-clause-kept : goal.returns-in-None-clause-kept
 returns-in-None-clause-kept c = λ d s.
     still c.interaction.new.roster c.insert_event.new.self
-    (λ id. record { id = id; event = event_in c.interaction.new.roster.names c.in_ok-interaction.interaction; rank = 0; born = []; causes = c.args.causes.now }) (λ id. id.line ≡ c.args.line)
+    (λ id. record { id = id; event = event_in c.interaction.new.roster.names c.in_ok-interaction.interaction; rank = 7; born = c.args.born.now; causes = c.args.causes.now }) (λ id. id.line ≡ c.args.line)
     c.insert_event.result c.insert_event.ensures.entered c.insert_event.ensures.unchanged d (subst (λ xs. Stands xs d) (sym c.interaction.ensures.events) s)
