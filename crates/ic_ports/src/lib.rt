@@ -9,5 +9,5 @@ pub mod port_store;
 mod strays;
 
 pub use end_slots::EndSlots;
-pub use port_record::RingLabel;
+pub use port_record::{RingLabel, Room};
 pub use port_store::PortStore;
