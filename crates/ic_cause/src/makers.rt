@@ -26,6 +26,7 @@ pub fn direct_causes<L: LinkStore>(
 }
 
 /// The events that made links of the path from a spot with one link end, each once.
+#[inline(always)]
 pub fn path_makers<L: LinkStore>(store: &L, spot: Spot) -> Result<Vec<EventId>, AllocError>
     requires { degree shape (L.links store.now) spot ≡ 1 }
     ensures { IfOk result (λ makers. (ids : List ALinkId) × ((q : ASpot) × Joins (L.links store.now) spot ids q) × AreMakers ids makers.items) }

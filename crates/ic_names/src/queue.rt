@@ -93,6 +93,7 @@ impl LeadQueue {
 
     /// Makes room for the names of a table that has so many. It is an error only if no memory is left. The queue stays as
     /// it is, and the room never shrinks.
+    #[inline(always)]
     pub fn reserve(&mut self, names: usize) -> Result<(), AllocError>
         ensures same { leads_of self.new ≡ leads_of self.old }
         ensures queue { (ns : List Name) → IsQueue ns self.old → IsQueue ns self.new }
@@ -118,6 +119,7 @@ impl LeadQueue {
     /// The name at this place comes in, if it isn't in the queue yet, in the room there is. It takes no memory. The time is
     /// constant if the run has room and the name is less than all in it, or greater. Else it grows as the logarithm of the
     /// number of names.
+    #[inline(always)]
     pub fn put(&mut self, names: &NameTable, name: NameId)
         requires inside { name.place < length names.now }
         requires queue { IsQueue names.now self.old }
@@ -135,6 +137,7 @@ impl LeadQueue {
     }
 
     /// The place of the least name, in constant time; `None` if the queue is empty. It takes no memory.
+    #[inline(always)]
     pub fn least(&self) -> Option<NameId>
         ensures least { IfSome result (λ name. (ns : List Name) → IsQueue ns self.now → IsLeast ns (leads_of self.now) name.place) }
         ensures none { IfNone result (leads_of self.now ≡ []) }
@@ -144,6 +147,7 @@ impl LeadQueue {
 
     /// The least name goes; `None` if the queue is empty, and then nothing changes. It takes no memory. The time is constant,
     /// unless a name of the heap becomes the least: then it grows as the logarithm of the number of names.
+    #[inline(always)]
     pub fn take_least(&mut self, names: &NameTable) -> Option<NameId>
         requires queue { IsQueue names.now self.old }
         ensures queue { IsQueue names.now self.new }

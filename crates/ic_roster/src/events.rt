@@ -103,6 +103,7 @@ impl Roster {
 
     /// One event more, fired in this line, with its direct causes, which stand, in constant time for each but for growth. At an
     /// error nothing changes.
+    #[inline(always)]
     pub fn insert_event(
         &mut self,
         line: u32,

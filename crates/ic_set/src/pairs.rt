@@ -59,6 +59,7 @@ impl<L: LinkStore> BareSet<L> {
     }
 
     /// This agent and its partner, each looked up once; `None` if it has none. It takes no memory.
+    #[inline(always)]
     fn meeting(&self, agent: AgentId) -> Option<Meeting>
         ensures found { IfSome result (λ meeting. IsMeeting self.now agent meeting) }
         ensures absent { IfNone result ((partner : AnAgentId) → AreJoined self.now.set agent partner → ⊥) }
@@ -74,6 +75,7 @@ impl<L: LinkStore> BareSet<L> {
     }
 
     /// The entry of an agent that leads no event; `None` for any other, which has no partner. It takes no memory.
+    #[inline(always)]
     fn unled(&self, agent: AgentId) -> Option<AgentEntry>
         ensures found { IfSome result (λ entry. HasEntry self.now agent entry) }
         ensures unled { IfSome result (λ entry. (x : Stander) → IsIn x self.now.set.events → x.event.lead ≢ name_at self.now.names entry.name.place) }
@@ -110,6 +112,7 @@ impl<L: LinkStore> BareSet<L> {
     }
 
     /// The active pair that this agent is of, if it is of one. It takes no memory.
+    #[inline(always)]
     pub fn pair_with(&self, agent: AgentId) -> Option<ActivePair>
         ensures found { IfSome result (λ pair. ((pair.lead ≡ agent) ⊎ (pair.other ≡ agent)) × (e : AnEvent) × IsPairOf self.now.set e pair) }
         ensures absent { IfNone result ((e : AnEvent) (pair : APair) → (pair.lead ≡ agent) ⊎ (pair.other ≡ agent) → IsPairOf self.now.set e pair → ⊥) }
@@ -131,6 +134,7 @@ impl<L: LinkStore> BareSet<L> {
     }
 
     /// The active pair that the agent leads, if there is one and it leads one. It takes no memory.
+    #[inline(always)]
     pub fn led(&self, agent: Option<AgentId>) -> Option<ActivePair>
         ensures found { IfSome result (λ pair. (Some pair.lead ≡ agent) × IsActivePair self.now.set pair) }
         ensures absent { IfNone result ((e : AnEvent) (pair : APair) → Some pair.lead ≡ agent → IsPairOf self.now.set e pair → ⊥) }
@@ -145,6 +149,7 @@ impl<L: LinkStore> BareSet<L> {
     }
 
     /// The active pair that the agent of this name leads, if there is one and it leads one. It takes no memory.
+    #[inline(always)]
     pub fn led_by_name(&self, name: NameId) -> Option<ActivePair>
         requires { name.place < length self.now.names }
         ensures found { IfSome result (λ pair. (e : AnEvent) × IsPairOf self.now.set e pair × (e.lead ≡ name_at self.now.names name.place)) }
@@ -178,6 +183,7 @@ impl<L: LinkStore> BareSet<L> {
     }
 
     /// Writes the active pairs between the agents of these joins into `pairs`. It takes no memory.
+    #[inline(always)]
     pub(crate) fn active_joins(
         &self,
         joins: &[Option<Principals>; 4],
@@ -211,6 +217,7 @@ impl<L: LinkStore> BareSet<L> {
     }
 
     /// The active pair of the two agents of a join, if they are one. It takes no memory.
+    #[inline(always)]
     fn active_join(&self, join: Principals) -> Option<ActivePair>
         ensures found { IfSome result (λ pair. IsActivePair self.now.set pair × IsBetween (Some join) pair) }
         ensures absent { IfNone result ((e : AnEvent) (pair : APair) → IsPairOf self.now.set e pair → IsBetween (Some join) pair → ⊥) }

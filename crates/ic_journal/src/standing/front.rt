@@ -13,6 +13,7 @@ use ic_set::{ActivePair, BareSet};
 use std::alloc::Global;
 
 /// The pair that was at the front, if it isn't the one of this lead, which was fired.
+#[inline(always)]
 pub(crate) fn besides(front: Option<ActivePair>, lead: AgentId) -> Option<ActivePair>
     ensures { IfSome result (λ pair. (front ≡ Some pair) × (pair.lead ≢ lead)) }
 {
@@ -26,6 +27,7 @@ pub(crate) fn besides(front: Option<ActivePair>, lead: AgentId) -> Option<Active
 /// The front of the queue after a pair was fired, and the leads of the pairs that it made active were put in. If the pair that
 /// was at the front and wasn't fired still is, it was passed over once more. Else names at the front that lead no active
 /// pair go.
+#[inline(always)]
 pub(crate) fn front_after<L: LinkStore>(
     alloc: Global,
     queue: &mut LeadQueue,
@@ -52,6 +54,7 @@ pub(crate) fn front_after<L: LinkStore>(
 }
 
 /// The active pair that was at the front, if it is still there: no lesser lead has come. It takes no memory.
+#[inline(always)]
 fn still_front<L: LinkStore>(
     queue: &LeadQueue,
     set: &BareSet<L>,

@@ -32,6 +32,7 @@ pub(crate) fn put_all<L: LinkStore>(queue: &mut LeadQueue, set: &BareSet<L>, age
 }
 
 /// Puts in the lead of each of these pairs. There is room for every name.
+#[inline(always)]
 pub(crate) fn put_leads<L: LinkStore>(
     queue: &mut LeadQueue,
     set: &BareSet<L>,
@@ -79,6 +80,7 @@ pub(crate) fn put_start_leads<L: LinkStore>(
 }
 
 /// Puts in the lead of the pair, if there is one. There is room for every name.
+#[inline(always)]
 fn put_pair<L: LinkStore>(queue: &mut LeadQueue, set: &BareSet<L>, pair: Option<ActivePair>)
     requires active { IfSome pair (λ p. IsActivePair set.now.set p) }
     requires queue { IsQueue set.now.names queue.old }
@@ -100,6 +102,7 @@ fn put_pair<L: LinkStore>(queue: &mut LeadQueue, set: &BareSet<L>, pair: Option<
 
 /// Names at the front whose agents lead no active pair go. The pair that the front leads then is answered. It takes no
 /// memory.
+#[inline(always)]
 pub(crate) fn drop_stale<L: LinkStore>(
     queue: &mut LeadQueue,
     set: &BareSet<L>,

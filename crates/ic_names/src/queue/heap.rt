@@ -50,6 +50,7 @@ impl LeadHeap {
     }
 
     /// Makes room for so many leads. It is an error only if no memory is left. The leads stay, and the room never shrinks.
+    #[inline(always)]
     pub fn reserve(&mut self, leads: usize) -> Result<(), AllocError>
         ensures same { self.new.leads ≡ self.old.leads }
         ensures kept { self.old.room ≤ self.new.room }

@@ -68,6 +68,7 @@ impl OrderedLeads {
 
     /// Makes room for so many leads: for all in the heap, and for 1,024 at most in the run. It is an error only if no memory is
     /// left. The leads stay, and the room never shrinks.
+    #[inline(always)]
     pub fn reserve(&mut self, leads: usize) -> Result<(), AllocError>
         ensures run { self.new.run ≡ self.old.run }
         ensures heap { self.new.heap ≡ self.old.heap }
