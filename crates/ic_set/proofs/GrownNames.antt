@@ -1,9 +1,9 @@
 -- Names that are entered in a table behind those of before.
 use Rattle.std.proofs.Common.{◌≡◌, ℕ, suc, ◌+◌, ◌<◌, ◌≤◌, List, [], ◌∷◌, ◌++◌, length, arith, refl, sym, ap, subst, ◌∙◌}
-use Rattle.std.proofs.lemmas.List.{append_assoc, length-append}
+use Rattle.std.proofs.lemmas.List.{append_assoc, append-nil, length-append}
 use Rattle.std.proofs.lemmas.List.Elements.{All-nil, All-cons}
 use Rattle.ic_name.specs.Names.{Name}
-use Rattle.ic_names.specs.Tables.{name_at, StandsAt, Enters, was, is_new}
+use Rattle.ic_names.specs.Tables.{name_at, StandsAt}
 use Rattle.ic_roster.specs.declared.interaction.Interaction.{Interaction}
 use Rattle.ic_roster.specs.Rosters.{event_in, IsNamed}
 use Rattle.ic_set.specs.declared.entering.NewAgent.{NewAgent}
@@ -41,11 +41,18 @@ grown_keeps old new g m k stands = subst (λ ns. StandsAt ns m k) (sym g.behind)
 pub grown_length : {most : ℕ} (old new : List Name) → GrowsBy most old new → length new ≤ length old + most
 grown_length old new g = (let few = g.few in omega (arith, few, ap length g.behind, length-append old g.more))
 
--- one name more at most
-pub grows_one : {most : ℕ} (old mid new : List Name) (m : Name) → GrowsBy most old mid → Enters mid m new → GrowsBy (most + 1) old new
-grows_one old mid new m g (was k stands same) = record { more = g.more; behind = same ∙ g.behind; few = (let few = g.few in omega arith) }
-grows_one old mid new m g (is_new absent more) = record {
-  more = g.more ++ m ∷ [];
-  behind = more ∙ ap (λ ns. ns ++ m ∷ []) g.behind ∙ append_assoc old g.more (m ∷ []);
-  few = (let few = g.few in omega (arith, length-append g.more (m ∷ [])));
+-- the names of before are more by none
+pub grows_none : (ns : List Name) → GrowsBy 0 ns ns
+grows_none ns = record { more = []; behind = sym (append-nil ns); few = omega arith }
+
+-- names that grew twice are more by both
+pub grows_twice : {a b : ℕ} (old mid new : List Name) → GrowsBy a old mid → GrowsBy b mid new → GrowsBy (a + b) old new
+grows_twice old mid new g h = record {
+  more = g.more ++ h.more;
+  behind = h.behind ∙ ap (λ ns. ns ++ h.more) g.behind ∙ append_assoc old g.more h.more;
+  few = (let few = g.few in let fewer = h.few in omega (arith, length-append g.more h.more));
 }
+
+-- names that are more by so many at most are more by a greater number at most
+pub grows_at_most : {a b : ℕ} (old new : List Name) → a ≤ b → GrowsBy a old new → GrowsBy b old new
+grows_at_most old new le g = record { more = g.more; behind = g.behind; few = (let few = g.few in omega arith) }

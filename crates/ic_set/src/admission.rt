@@ -12,19 +12,19 @@ ghost use Rattle.ic_theory.specs.Rules.{born_kinds};
 ghost use Rattle.ic_roster.specs.Rosters.{Stander, event_in, IsNamed};
 ghost use Rattle.ic_set.specs.Admission.{AreCausesOf, IsRankOver, CanPutIn, PutsIn, LeavesAll};
 ghost use Rattle.ic_set.specs.Changes.{Admits, IsSame};
-ghost use Rattle.ic_set.specs.Entering.{agents_in, AreNamed, GrowsBy};
+ghost use Rattle.ic_set.specs.Entering.{CanEnter, Enters, GrowsBy};
 ghost use Rattle.ic_set.specs.Joining.{made_links, AreJoins, HaveDigits};
 ghost use Rattle.ic_set.specs.Pairs.{IsPairOf, IsActivePair, Awakes};
 ghost use Rattle.ic_set.specs.Removal.{Stands};
 
 use crate::bare::BareSet;
-use crate::entering::{NewAgent, children_of, enter_all, remove_all};
+use crate::entering::{enter_children, remove_all};
 use crate::firing::Firing;
 use crate::joining::{MAX_JOINS, add_made};
 use crate::pairs::ActivePair;
 use ic_cause::{direct_causes, rank_with};
 use ic_link::{LinkStore, Principals};
-use ic_name::{EventId, Kind};
+use ic_name::{AgentId, EventId, Kind};
 use ic_roster::{Interaction, Roster, StandingEntry};
 use ic_start::outcome;
 use smallvec::SmallVec;
@@ -57,9 +57,14 @@ impl<L: LinkStore> BareSet<L> {
         let causes = self.causes_of_pair(pair)?;
         let rank = self.rank_over(&causes);
         let rules = outcome(event.lead_kind, event.other_kind, self.start.profile());
-        let children = children_for(self.alloc, &mut self.roster, event, rules.children)?;
         self.store.lawful();
-        let born = enter_all(self.alloc, &mut self.roster, children.as_slice(), line + 1)?;
+        let born = enter_born(
+            self.alloc,
+            &mut self.roster,
+            event,
+            rules.children,
+            line + 1,
+        )?;
         self.roster.lawful();
         let firing = Firing {
             interaction: event,
@@ -131,24 +136,27 @@ impl<L: LinkStore> BareSet<L> {
     }
 }
 
-/// The children of an event, by digit. Their names are entered.
-fn children_for(
+/// Enters the children of an event, by digit, all with this serial number, and gives their ids. At an error nothing else changes
+/// but that names may be known that weren't.
+#[inline(always)]
+fn enter_born(
     alloc: Global,
     roster: &mut Roster,
     event: Interaction,
     kinds: &[Kind],
-) -> Result<SmallVec<NewAgent, 4>, AllocError>
+    serial: u32,
+) -> Result<SmallVec<AgentId, 4>, AllocError>
     requires named { IsNamed roster.old.names event }
     requires kinds { kinds.now ≡ born_kinds event.lead_kind event.other_kind }
     requires shallow { ¬ (IsDeep (event_in roster.old.names event)) }
-    ensures children { IfOk result (λ children. agents_in roster.new.names children.items ≡ born_agents (event_in roster.old.names event)) }
-    ensures inside { IfOk result (λ children. AreNamed roster.new.names children.items) }
+    requires can { CanEnter roster.old.agents (born_agents (event_in roster.old.names event)) }
+    ensures entered { IfOk result (λ ids. Enters roster.old.agents (born_agents (event_in roster.old.names event)) serial ids.items roster.new.agents) }
     ensures grown { GrowsBy 4 roster.old.names roster.new.names }
-    ensures agents { roster.new.agents ≡ roster.old.agents }
     ensures events { roster.new.events ≡ roster.old.events }
+    ensures unchanged { OnErr result (Alike roster.old.agents roster.new.agents) }
 {
     roster.lawful();
-    children_of(alloc, roster, event.lead, kinds)
+    enter_children(alloc, roster, event.lead, kinds, serial)
 }
 
 /// Puts in an event with its links and its direct causes, and writes into `joins` what its links join. At an error nothing

@@ -1,10 +1,10 @@
-ghost use Rattle.std.specs.Prelude.{◌≡◌, ◌<◌, ◌≤◌, ◌++◌, [], ◌⊎◌, length, List, map, IfOk, OnErr};
+ghost use Rattle.std.specs.Prelude.{◌≡◌, ◌<◌, ◌≤◌, ◌∷◌, ◌++◌, [], ◌⊎◌, length, List, map, IfOk, OnErr};
 ghost use Rattle.ic_name.specs.Names.{depth, start_name, child_name};
 ghost use Rattle.ic_name.specs.declared.limits.TheConstants.{MAX_DEPTH};
 ghost use Rattle.ic_names.specs.Tables.{name_at};
 ghost use Rattle.ic_path.specs.Orders.{Alike};
 ghost use Rattle.ic_theory.specs.Born.{named};
-ghost use Rattle.ic_roster.specs.Rosters.{Member};
+ghost use Rattle.ic_roster.specs.Rosters.{Member, IsNewName};
 ghost use Rattle.ic_set.specs.Entering.{agents_in, AreNamed, GrowsBy, CanEnter, Enters};
 
 use ic_name::limits::MAX_START_AGENTS;
@@ -57,36 +57,61 @@ pub(crate) fn agents_of_kinds(
     Ok(agents)
 }
 
-/// The children of the agent whose name is at this place, with these kinds, by digit. Their names are entered.
-pub(crate) fn children_of(
+/// Enters the children of the agent whose name is at this place, with these kinds, by digit, all with this serial number, and
+/// gives their ids. At an error nothing else changes but that names may be known that weren't.
+#[inline(always)]
+pub(crate) fn enter_children(
     alloc: Global,
     roster: &mut Roster,
     lead: NameId,
     kinds: &[Kind],
-) -> Result<SmallVec<NewAgent, 4>, AllocError>
+    serial: u32,
+) -> Result<SmallVec<AgentId, 4>, AllocError>
     requires inside { lead.place < length roster.old.names }
     requires few { length kinds.now ≤ 4 }
     requires shallow { (kinds.now ≡ []) ⊎ (depth (name_at roster.old.names lead.place) < MAX_DEPTH) }
-    ensures named { IfOk result (λ agents. agents_in roster.new.names agents.items ≡ named (child_name (name_at roster.old.names lead.place)) 0 kinds.now) }
-    ensures inside { IfOk result (λ agents. AreNamed roster.new.names agents.items) }
+    requires can { CanEnter roster.old.agents (named (child_name (name_at roster.old.names lead.place)) 0 kinds.now) }
+    ensures entered { IfOk result (λ ids. Enters roster.old.agents (named (child_name (name_at roster.old.names lead.place)) 0 kinds.now) serial ids.items roster.new.agents) }
     ensures grown { GrowsBy (length kinds.now) roster.old.names roster.new.names }
-    ensures agents { roster.new.agents ≡ roster.old.agents }
     ensures events { roster.new.events ≡ roster.old.events }
+    ensures unchanged { OnErr result (Alike roster.old.agents roster.new.agents) }
 {
-    let mut agents = SmallVec::new(alloc);
-    agents.reserve(kinds.len())?;
+    let mut ids = SmallVec::new(alloc);
     for digit in 0..kinds.len() {
-        let name = match roster.enter_child(lead, digit as u8) {
-            Ok(name) => name,
-            Err(ChildFault::Memory) => return Err(AllocError),
-            Err(ChildFault::Deep) => unreachable!(),
+        let Ok(id) = enter_child(roster, lead, digit as u8, kinds[digit], serial) else {
+            remove_all(roster, ids.as_slice());
+            return Err(AllocError);
         };
-        agents.push_reserved(NewAgent {
-            name,
-            kind: kinds[digit],
-        });
+        ids.push_reserved(id);
     }
-    Ok(agents)
+    Ok(ids)
+}
+
+/// Enters the child with this digit and kind of the agent whose name is at this place, and gives its id, which has this serial
+/// number. At an error nothing else changes but that its name may be known.
+#[inline(always)]
+fn enter_child(
+    roster: &mut Roster,
+    lead: NameId,
+    digit: u8,
+    kind: Kind,
+    serial: u32,
+) -> Result<AgentId, AllocError>
+    requires inside { lead.place < length roster.old.names }
+    requires small { digit < 4 }
+    requires shallow { depth (name_at roster.old.names lead.place) < MAX_DEPTH }
+    requires is_new { IsNewName roster.old.agents (child_name (name_at roster.old.names lead.place) digit) }
+    ensures entered { IfOk result (λ id. (id.serial ≡ serial) × Alike (record { id = id; name = child_name (name_at roster.old.names lead.place) digit; kind = kind } ∷ roster.old.agents) roster.new.agents) }
+    ensures grown { GrowsBy 1 roster.old.names roster.new.names }
+    ensures events { roster.new.events ≡ roster.old.events }
+    ensures unchanged { OnErr result (roster.new.agents ≡ roster.old.agents) }
+{
+    let name = match roster.enter_child(lead, digit) {
+        Ok(name) => name,
+        Err(ChildFault::Memory) => return Err(AllocError),
+        Err(ChildFault::Deep) => unreachable!(),
+    };
+    roster.insert(name, kind, serial)
 }
 
 /// Enters these agents, all with this serial number, and gives their ids. At an error nothing changes.

@@ -10,7 +10,7 @@ use Rattle.ic_theory.specs.Machine.{IsDeep}
 use Rattle.ic_path.proofs.Errors.{at_error}
 use Rattle.ic_roster.specs.declared.interaction.Interaction.{Interaction}
 use Rattle.ic_roster.specs.Rosters.{Member, Stander, event_in, IsNamed}
-use Rattle.ic_set.specs.Entering.{agents_in, GrowsBy, Enters}
+use Rattle.ic_set.specs.Entering.{GrowsBy, Enters}
 use Rattle.ic_set.specs.Views.{SetView, NamedView}
 use Rattle.ic_set.specs.Sets.{IsStandingSet}
 use Rattle.ic_set.proofs.GrownNames.{grown_keeps, kept_event}
@@ -31,43 +31,37 @@ rank_over-rank-requires-clause-low g c = ranks_fit c.args.self.now.set (subst (�
 pub rank_over-rank-requires-clause-standing : goal.rank_over-rank-requires-clause-standing
 rank_over-rank-requires-clause-standing g c = λ d i. (let y = (c.in_ok-causes.ensures c.requires.active.0 c.requires.active.1).only d (rw c.deref.ensures.value at i) in (y.0, y.1, y.2))
 
-pub children_for-requires-clause-shallow : goal.children_for-requires-clause-shallow
-children_for-requires-clause-shallow g c =
+pub enter_born-requires-clause-shallow : goal.enter_born-requires-clause-shallow
+enter_born-requires-clause-shallow g c =
     let e = c.requires.active.0 in
     let active = c.requires.active.1 in
     let same = rw (← c.self.view_is) at (c.requires.event e active) in
     subst (λ (f : Event). ¬ (IsDeep f)) (sym same) (c.requires.shallow e active)
 
-pub returns-in_err-children-clause-unchanged : goal.returns-in_err-children-clause-unchanged
-returns-in_err-children-clause-unchanged g c =
-    let v : SetView = record { start = c.self.inside.start; agents = c.self.inside.roster.agents; events = c.self.inside.roster.events } in
-    at_error _ (same_again {v = v} (ap (λ (w : NamedView). w.set) c.self.view_is) (same_alike c.children_for.ensures.agents) (same_alike c.children_for.ensures.events))
-
-pub enter_all-requires-clause-can : goal.enter_all-requires-clause-can
-enter_all-requires-clause-can g c =
+pub enter_born-requires-clause-can : goal.enter_born-requires-clause-can
+enter_born-requires-clause-can g c =
     let e = c.requires.active.0 in
     let active = c.requires.active.1 in
     let same = rw (← c.self.view_is) at (c.requires.event e active) in
     let view = c.self.inside in
     let v : SetView = record { start = view.start; agents = view.roster.agents; events = view.roster.events } in
     let ls = g.L.LinkStore.links view.store in
-    rw (c.children_for.ensures.agents, c.as_slice.ensures)
-    (can_enter v c.args.self.now.set (ap (λ (w : NamedView). w.set) c.self.view_is) ls c.self.invariant e c.args.pair active c.args.line c.requires.new_line _ (c.in_ok-children.ensures.children ∙ ap born_agents same))
+    can_enter v c.args.self.now.set (ap (λ (w : NamedView). w.set) c.self.view_is) ls c.self.invariant e c.args.pair active c.args.line c.requires.new_line _ (ap born_agents same)
 
-pub invariant_of-self-in_err-born : goal.invariant_of-self-in_err-born
-invariant_of-self-in_err-born g c =
+pub invariant_of-self : goal.invariant_of-self
+invariant_of-self g c =
     let view = c.self.inside in
-    kept_alike view.start (rw c.children_for.ensures.agents at c.in_err-born.ensures.unchanged) (same_alike (c.enter_all.ensures.events ∙ c.children_for.ensures.events)) (alike_self (g.L.LinkStore.links view.store)) c.self.invariant
+    kept_alike view.start c.in_err-born.ensures.unchanged (same_alike c.enter_born.ensures.events) (alike_self (g.L.LinkStore.links view.store)) c.self.invariant
 
 pub returns-in_err-born-clause-unchanged : goal.returns-in_err-born-clause-unchanged
 returns-in_err-born-clause-unchanged g c =
     let view = c.self.inside in
     let v : SetView = record { start = view.start; agents = view.roster.agents; events = view.roster.events } in
-    at_error _ (same_again {v = v} (ap (λ (w : NamedView). w.set) c.self.view_is) (rw c.children_for.ensures.agents at c.in_err-born.ensures.unchanged) (same_alike (c.enter_all.ensures.events ∙ c.children_for.ensures.events)))
+    at_error _ (same_again {v = v} (ap (λ (w : NamedView). w.set) c.self.view_is) c.in_err-born.ensures.unchanged (same_alike c.enter_born.ensures.events))
 
 -- the event of the two agents is still the one that was asked for
-its_event : {before after entered : List Name} {i : Interaction} {e : Event} → GrowsBy 4 before after → IsNamed before i → event_in before i ≡ e → entered ≡ after → event_in entered i ≡ e
-its_event {before} {after} {i = i} grown named same is = ap (λ ns. event_in ns i) is ∙ kept_event before after (grown_keeps before after grown) i named ∙ same
+its_event : {before after : List Name} {i : Interaction} {e : Event} → GrowsBy 4 before after → IsNamed before i → event_in before i ≡ e → event_in after i ≡ e
+its_event {before} {after} {i = i} grown named same = kept_event before after (grown_keeps before after grown) i named ∙ same
 
 pub put_event-requires-clause-can : goal.put_event-requires-clause-can
 put_event-requires-clause-can g c =
@@ -77,14 +71,14 @@ put_event-requires-clause-can g c =
     let v : SetView = record { start = view.start; agents = view.roster.agents; events = view.roster.events } in
     let ls = g.L.LinkStore.links view.store in
     let same = rw (← c.self.view_is) at (c.requires.event e active) in
-    let its = its_event c.children_for.ensures.grown (rw (← c.self.view_is) at c.requires.named) same c.enter_all.ensures.names in
-    let events = c.enter_all.ensures.events ∙ c.children_for.ensures.events in
+    let its = its_event c.enter_born.ensures.grown (rw (← c.self.view_is) at c.requires.named) same in
+    let events = c.enter_born.ensures.events in
     let ends = ends_same c.outcome-rules.ensures.links c.profile.ensures (ap (λ (e : Event). e.lead_kind) same) (ap (λ (e : Event). e.other_kind) same) in
-    let enters : Enters v.agents (agents_in c.children_for.new.roster.names c.in_ok-children.children.items) (c.args.line + 1) c.in_ok-born.born.items c.enter_all.new.roster.agents = rw (c.children_for.ensures.agents, c.as_slice.ensures) at c.in_ok-born.ensures.entered in
+    let enters : Enters v.agents (born_agents (event_in view.roster.names c.args.event)) (c.args.line + 1) c.in_ok-born.born.items c.enter_born.new.roster.agents = c.in_ok-born.ensures.entered in
     let lawful : IsLawful ls = record { slim = c.lawful.ensures.slim; own_ids = c.lawful.ensures.own_ids } in
-    rw (its, c.as_slice-2.ensures, ends, c.deref-2.ensures.value, events)
+    rw (its, c.as_slice.ensures, ends, c.deref-2.ensures.value, events)
     (can_put_in v c.args.self.now.set (ap (λ (w : NamedView). w.set) c.self.view_is) ls c.self.invariant e c.args.pair active c.args.line c.requires.new_line
-    _ (c.in_ok-children.ensures.children ∙ ap born_agents same) c.in_ok-born.born.items _ enters c.lawful-2.ensures.names
+    _ (ap born_agents same) c.in_ok-born.born.items _ enters c.lawful-2.ensures.names
     c.rank_over-rank.result c.in_ok-causes.causes.items (c.in_ok-causes.ensures e active) lawful)
 
 pub invariant_of-self-in-Ok : goal.invariant_of-self-in-Ok
@@ -95,15 +89,15 @@ invariant_of-self-in-Ok g c =
     let v : SetView = record { start = view.start; agents = view.roster.agents; events = view.roster.events } in
     let ls = g.L.LinkStore.links view.store in
     let same = rw (← c.self.view_is) at (c.requires.event e active) in
-    let its = its_event c.children_for.ensures.grown (rw (← c.self.view_is) at c.requires.named) same c.enter_all.ensures.names in
-    let events = c.enter_all.ensures.events ∙ c.children_for.ensures.events in
+    let its = its_event c.enter_born.ensures.grown (rw (← c.self.view_is) at c.requires.named) same in
+    let events = c.enter_born.ensures.events in
     let ends = ends_same c.outcome-rules.ensures.links c.profile.ensures (ap (λ (e : Event). e.lead_kind) same) (ap (λ (e : Event). e.other_kind) same) in
-    let enters : Enters v.agents (agents_in c.children_for.new.roster.names c.in_ok-children.children.items) (c.args.line + 1) c.in_ok-born.born.items c.enter_all.new.roster.agents = rw (c.children_for.ensures.agents, c.as_slice.ensures) at c.in_ok-born.ensures.entered in
+    let enters : Enters v.agents (born_agents (event_in view.roster.names c.args.event)) (c.args.line + 1) c.in_ok-born.born.items c.enter_born.new.roster.agents = c.in_ok-born.ensures.entered in
     let over = rw c.deref.ensures.value at c.rank_over-rank.ensures in
-    let puts = rw (its, c.as_slice-2.ensures, ends, c.deref-2.ensures.value, events) at c.in-Ok.ensures.put.1 in
+    let puts = rw (its, c.as_slice.ensures, ends, c.deref-2.ensures.value, events) at c.in-Ok.ensures.put.1 in
     rw c.put_event.ensures.agents
     (put_keeps v c.args.self.now.set (ap (λ (w : NamedView). w.set) c.self.view_is) ls c.self.invariant e c.args.pair active c.args.line c.requires.new_line
-    _ (c.in_ok-children.ensures.children ∙ ap born_agents same) c.in_ok-born.born.items _ enters c.lawful-2.ensures.names
+    _ (ap born_agents same) c.in_ok-born.born.items _ enters c.lawful-2.ensures.names
     c.rank_over-rank.result c.in_ok-causes.causes.items (c.in_ok-causes.ensures e active) over
     c.in-Ok.id c.in-Ok.ensures.put.0 _ _ c.lawful-in-Ok.ensures.lines puts (c.requires.shallow e active))
 
@@ -113,15 +107,15 @@ returns-in-Ok-clause-admitted g c = λ e active. (
     let v : SetView = record { start = view.start; agents = view.roster.agents; events = view.roster.events } in
     let ls = g.L.LinkStore.links view.store in
     let same = rw (← c.self.view_is) at (c.requires.event e active) in
-    let its = its_event c.children_for.ensures.grown (rw (← c.self.view_is) at c.requires.named) same c.enter_all.ensures.names in
-    let events = c.enter_all.ensures.events ∙ c.children_for.ensures.events in
+    let its = its_event c.enter_born.ensures.grown (rw (← c.self.view_is) at c.requires.named) same in
+    let events = c.enter_born.ensures.events in
     let ends = ends_same c.outcome-rules.ensures.links c.profile.ensures (ap (λ (e : Event). e.lead_kind) same) (ap (λ (e : Event). e.other_kind) same) in
-    let enters : Enters v.agents (agents_in c.children_for.new.roster.names c.in_ok-children.children.items) (c.args.line + 1) c.in_ok-born.born.items c.enter_all.new.roster.agents = rw (c.children_for.ensures.agents, c.as_slice.ensures) at c.in_ok-born.ensures.entered in
+    let enters : Enters v.agents (born_agents (event_in view.roster.names c.args.event)) (c.args.line + 1) c.in_ok-born.born.items c.enter_born.new.roster.agents = c.in_ok-born.ensures.entered in
     let over = rw c.deref.ensures.value at c.rank_over-rank.ensures in
-    let puts = rw (its, c.as_slice-2.ensures, ends, c.deref-2.ensures.value, events) at c.in-Ok.ensures.put.1 in
+    let puts = rw (its, c.as_slice.ensures, ends, c.deref-2.ensures.value, events) at c.in-Ok.ensures.put.1 in
     rw c.put_event.ensures.agents
     (put_admits v c.args.self.now.set (ap (λ (w : NamedView). w.set) c.self.view_is) ls c.self.invariant e c.args.pair active c.args.line c.requires.new_line
-    _ (c.in_ok-children.ensures.children ∙ ap born_agents same) c.in_ok-born.born.items _ enters c.lawful-2.ensures.names
+    _ (ap born_agents same) c.in_ok-born.born.items _ enters c.lawful-2.ensures.names
     c.rank_over-rank.result c.in_ok-causes.causes.items (c.in_ok-causes.ensures e active) over
     c.in-Ok.id c.in-Ok.ensures.put.0 _ _ c.lawful-in-Ok.ensures.lines puts))
 
@@ -133,17 +127,17 @@ returns-in-Ok-clause-awoken g c =
     let v : SetView = record { start = view.start; agents = view.roster.agents; events = view.roster.events } in
     let ls = g.L.LinkStore.links view.store in
     let same = rw (← c.self.view_is) at (c.requires.event e active) in
-    let its = its_event c.children_for.ensures.grown (rw (← c.self.view_is) at c.requires.named) same c.enter_all.ensures.names in
-    let events = c.enter_all.ensures.events ∙ c.children_for.ensures.events in
+    let its = its_event c.enter_born.ensures.grown (rw (← c.self.view_is) at c.requires.named) same in
+    let events = c.enter_born.ensures.events in
     let ends = ends_same c.outcome-rules.ensures.links c.profile.ensures (ap (λ (e : Event). e.lead_kind) same) (ap (λ (e : Event). e.other_kind) same) in
-    let enters : Enters v.agents (agents_in c.children_for.new.roster.names c.in_ok-children.children.items) (c.args.line + 1) c.in_ok-born.born.items c.enter_all.new.roster.agents = rw (c.children_for.ensures.agents, c.as_slice.ensures) at c.in_ok-born.ensures.entered in
+    let enters : Enters v.agents (born_agents (event_in view.roster.names c.args.event)) (c.args.line + 1) c.in_ok-born.born.items c.enter_born.new.roster.agents = c.in_ok-born.ensures.entered in
     let over = rw c.deref.ensures.value at c.rank_over-rank.ensures in
-    let puts = rw (its, c.as_slice-2.ensures, ends, c.deref-2.ensures.value, events) at c.in-Ok.ensures.put.1 in
-    let joins = rw (c.as_slice-2.ensures, ends) at c.in-Ok.ensures.joins in
+    let puts = rw (its, c.as_slice.ensures, ends, c.deref-2.ensures.value, events) at c.in-Ok.ensures.put.1 in
+    let joins = rw (c.as_slice.ensures, ends) at c.in-Ok.ensures.joins in
     let act = rw c.put_event.ensures.agents at c.active_joins.ensures in
     rw c.put_event.ensures.agents
     (put_awakes v c.args.self.now.set (ap (λ (w : NamedView). w.set) c.self.view_is) ls c.self.invariant e c.args.pair active c.args.line c.requires.new_line
-    _ (c.in_ok-children.ensures.children ∙ ap born_agents same) c.in_ok-born.born.items _ enters c.lawful-2.ensures.names
+    _ (ap born_agents same) c.in_ok-born.born.items _ enters c.lawful-2.ensures.names
     c.rank_over-rank.result c.in_ok-causes.causes.items (c.in_ok-causes.ensures e active) over
     c.in-Ok.id c.in-Ok.ensures.put.0 _ _ c.lawful-in-Ok.ensures.lines puts (c.requires.shallow e active) _ joins _ act)
 
@@ -159,18 +153,18 @@ events_again {mid = mid} {new = new} same alike is = subst (λ ss. Alike ss new)
 pub invariant_of-self-in-Err : goal.invariant_of-self-in-Err
 invariant_of-self-in-Err g c =
     let view = c.self.inside in
-    let enters = rw (c.children_for.ensures.agents, c.as_slice.ensures) at c.in_ok-born.ensures.entered in
+    let enters = c.in_ok-born.ensures.entered in
     let left = c.in-Err.ensures.unchanged in
     let back = gone_again enters.entered c.put_event.ensures.agents enters.under c.as_slice-in-Err.ensures enters.alike c.remove_all.ensures.left in
-    let events = events_again (c.enter_all.ensures.events ∙ c.children_for.ensures.events) left.events c.remove_all.ensures.events in
+    let events = events_again (c.enter_born.ensures.events) left.events c.remove_all.ensures.events in
     kept_alike view.start back events left.links c.self.invariant
 
 pub returns-clause-unchanged : goal.returns-clause-unchanged
 returns-clause-unchanged g c =
     let view = c.self.inside in
     let v : SetView = record { start = view.start; agents = view.roster.agents; events = view.roster.events } in
-    let enters = rw (c.children_for.ensures.agents, c.as_slice.ensures) at c.in_ok-born.ensures.entered in
+    let enters = c.in_ok-born.ensures.entered in
     let left = c.in-Err.ensures.unchanged in
     let back = gone_again enters.entered c.put_event.ensures.agents enters.under c.as_slice-in-Err.ensures enters.alike c.remove_all.ensures.left in
-    let events = events_again (c.enter_all.ensures.events ∙ c.children_for.ensures.events) left.events c.remove_all.ensures.events in
+    let events = events_again (c.enter_born.ensures.events) left.events c.remove_all.ensures.events in
     same_again {v = v} (ap (λ (w : NamedView). w.set) c.self.view_is) back events

@@ -1,0 +1,9 @@
+use Rattle.ic_set.proofs.entering.enter_child.Goals as goal
+
+pub insert-requires : goal.insert-requires
+insert-requires c =
+    let entered = c.in-Ok.ensures.entered in
+    record {
+      inside = entered.within;
+      is_new = rw (entered.named, c.in-Ok.ensures.agents) c.requires.is_new;
+    }
