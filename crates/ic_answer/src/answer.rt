@@ -61,6 +61,7 @@ impl Answer {
     /// The text of a refusal that names something with its reason, or that no memory is left for the text.
     pub fn hindered_or_memory(text: Result<Vec<u8>, AllocError>, reason: Option<Vec<u8>>) -> Answer
         ensures text { IfOk text (λ t. answer_text result ≡ t.items) }
+        ensures reason { IfOk text (λ _. reason_text result ≡ option_map (λ reason. reason.items) reason) }
         ensures memory { OnErr text (answer_text result ≡ refusal_text Memory) }
     {
         match text {

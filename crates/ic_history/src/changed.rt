@@ -24,7 +24,7 @@ impl History {
         requires { AreLinesNamed names.now self.now.lines }
         ensures { IfOk result (λ leads. (n : Name) → IsIn n leads.items ↔ ((e : AnEvent) × IsChanged (map (line_in names.now) self.now.lines) line e × (e.lead ≡ n))) }
     {
-        let mut leads = Vec::new(alloc);
+        let mut leads = Vec::with_capacity(alloc, self.len().saturating_sub(line))?;
         for number in line..self.len() {
             if let Some(lead) = self.changed_in(names, number)? {
                 leads.push(lead)?;

@@ -1,5 +1,5 @@
 -- Flags that keep up with the leads.
-use Rattle.std.proofs.Common.{◌≡◌, ◌≢◌, ℕ, zero, suc, ◌-◌, ◌<◌, ◌≤◌, List, [], ◌∷◌, ◌++◌, length, take, set, replicate, Bool, true, false, cond, IsTrue, ◌↔◌, ◌⊎◌, inl, inr, refl, sym, ap, subst, ◌∙◌, arith, length-append, get_or-set_other}
+use Rattle.std.proofs.Common.{◌≡◌, ◌≢◌, ℕ, zero, suc, ◌-◌, ◌<◌, ◌≤◌, List, [], ◌∷◌, ◌++◌, length, take, set, replicate, Bool, true, false, cond, IsTrue, ◌↔◌, ◌⊎◌, inl, inr, refl, sym, ap, subst, ◌∙◌, arith, length-append, length-set, get_or-set_other}
 use Rattle.std.specs.Prelude.{slice_index_or}
 use Rattle.std.proofs.lemmas.Bool.{cases_lt}
 use Rattle.std.proofs.lemmas.Grind.{get_or-set_at}
@@ -9,7 +9,7 @@ use Rattle.ic_path.proofs.Alikes.{alike-in, alike_back}
 use Rattle.ic_path.proofs.EachOnce.{once_rest, once_cons}
 use Rattle.ic_path.proofs.Picks.{in_first, in_more, in-cons_cases}
 use Rattle.ic_names.specs.declared.queue.Lead.{Lead}
-use Rattle.ic_names.specs.Queues.{places, AreFlagged}
+use Rattle.ic_names.specs.Queues.{LeadsView, places, AreFlagged, GoTogether}
 use Rattle.ic_names.proofs.UpTo.{same_or_not}
 use Rattle.ic_names.proofs.QueuedPlaces.{once-places, once_leads, once_moved}
 
@@ -20,7 +20,7 @@ true_inside (b ∷ queued) zero e = omega arith
 true_inside (b ∷ queued) (suc n) e = let h = true_inside queued n e in omega arith
 
 -- the flags after a name has come in
-pub added_flagged : (ls ms : List Lead) (n : ℕ) (queued : List Bool) → AreFlagged ls queued → (IsIn n (places ls) → ⊥) → n < length queued → Alike (places ms) (n ∷ places ls) → AreFlagged ms (set queued n true)
+added_flagged : (ls ms : List Lead) (n : ℕ) (queued : List Bool) → AreFlagged ls queued → (IsIn n (places ls) → ⊥) → n < length queued → Alike (places ms) (n ∷ places ls) → AreFlagged ms (set queued n true)
 added_flagged ls ms n queued are fresh room added = record {
   once = once_leads ms (once_moved (alike_back added) (once_cons fresh (once-places ls are.once)));
   flags = λ m. flags m (same_or_not m n);
@@ -36,6 +36,18 @@ added_flagged ls ms n queued are fresh room added = record {
         told : (m ≡ n) ⊎ IsIn m (places ls) → slice_index_or (set queued n true) m false ≡ true
         told (inl e) = absurd (d e)
         told (inr i) = kept ∙ (are.flags m).1 i
+
+-- the fields of a queue after a name has come in
+pub added_together : (run run' : LeadsView) (heap heap' : List Lead) (room room' n : ℕ) (queued : List Bool) → GoTogether run heap room queued → (IsIn n (places (run.leads ++ heap)) → ⊥) → n < length queued
+    → Alike (places (run'.leads ++ heap')) (n ∷ places (run.leads ++ heap)) → 0 < length run'.leads → run'.room ≡ run.room → room' ≡ room → GoTogether run' heap' room' (set queued n true)
+added_together run run' heap heap' room room' n queued before fresh inside added some same_run same_heap =
+    let long = length-set queued n true in
+    record {
+      flagged = added_flagged (run.leads ++ heap) (run'.leads ++ heap') n queued before.flagged fresh inside added;
+      run_first = λ e. absurd (omega (arith, ap length e, some));
+      heap_room = omega (arith, long, before.heap_room, same_heap);
+      run_room = λ h. (let room = before.run_room (omega (arith, inside)) in omega (arith, room, same_run));
+    }
 
 -- a name of the queue has a flag
 pub queued_flag : (ls ms : List Lead) (n : ℕ) (queued : List Bool) → AreFlagged ls queued → Alike (places ls) (n ∷ places ms) → n < length queued

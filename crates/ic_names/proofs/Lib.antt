@@ -22,4 +22,3 @@ pub mod QueuedPlaces
 pub mod Heaps
 pub mod Runs
 pub mod Queued
-pub mod Tested

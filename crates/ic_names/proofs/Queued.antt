@@ -1,9 +1,9 @@
 -- Queues: a run and a heap.
-use Rattle.std.proofs.Common.{◌≡◌, ◌≢◌, ℕ, suc, ◌<◌, List, [], ◌∷◌, ◌++◌, length, length-append, ◌⊎◌, inl, inr, refl, sym, ap, subst, ◌∙◌, arith}
+use Rattle.std.proofs.Common.{◌≡◌, ◌≢◌, ℕ, suc, ◌<◌, List, [], ◌∷◌, ◌++◌, length, ◌⊎◌, ◌↔◌, inl, inr, refl, sym, ap, subst, ◌∙◌, arith}
 use Rattle.std.specs.declared.cmp.Ordering.TheVariants.{Less}
 use Rattle.ic_path.specs.Orders.{Alike, IsIn}
-use Rattle.ic_path.proofs.Picks.{none_in, pick_before}
-use Rattle.ic_path.proofs.Alikes.{alike_self, alike_then, alike_more, alike-append, alike_past}
+use Rattle.ic_path.proofs.Picks.{none_in, in_first, in_more, in-cons_cases, pick_before}
+use Rattle.ic_path.proofs.Alikes.{alike_self, alike_then, alike_back, alike_more, alike-append, alike_past, alike-in}
 use Rattle.ic_path.proofs.InLists.{in-append_cases}
 use Rattle.ic_name.specs.Names.{Name, name_cmp}
 use Rattle.ic_names.specs.Keys.{key_of}
@@ -15,14 +15,14 @@ use Rattle.ic_names.proofs.Heaps.{queued_inside, kept_heap}
 use Rattle.ic_names.proofs.Runs.{run_first, named-append}
 
 -- without leads there is nothing to keep in order
-pub empty_queue : (ns : List Name) (q : QueueView) → leads_of q ≡ [] → IsQueue ns q
-empty_queue ns q empty =
-    let none = ap length empty in
-    let all = length-append q.run q.heap in
+pub empty_queue : (ns : List Name) (q : QueueView) → q.run ≡ [] → q.heap ≡ [] → IsQueue ns q
+empty_queue ns q run heap =
+    let none = ap length run in
+    let bare = ap length heap in
     record {
-      run = record { named = record { inside = λ k h. absurd (omega (arith, h, none, all)); keys = λ k h. absurd (omega (arith, h, none, all)) }; rising = λ k h. absurd (omega (arith, h, none, all)) };
-      heap = record { named = record { inside = λ k h. absurd (omega (arith, h, none, all)); keys = λ k h. absurd (omega (arith, h, none, all)) }; left = λ k h. absurd (omega (arith, h, none, all)); right = λ k h. absurd (omega (arith, h, none, all)) };
-      first = λ n i. (let r = in-places q.heap i in let h = r.1 in absurd (omega (arith, h, none, all)));
+      run = record { named = record { inside = λ k h. absurd (omega (arith, h, none)); keys = λ k h. absurd (omega (arith, h, none)) }; rising = λ k h. absurd (omega (arith, h, none)) };
+      heap = record { named = record { inside = λ k h. absurd (omega (arith, h, bare)); keys = λ k h. absurd (omega (arith, h, bare)) }; left = λ k h. absurd (omega (arith, h, bare)); right = λ k h. absurd (omega (arith, h, bare)) };
+      first = λ n i. absurd (none_in (subst (λ ls. IsIn n (places ls)) heap i));
     }
 
 -- each lead of a queue has a name
@@ -57,6 +57,16 @@ put_in_heap run heap heap' n put = rw (places-append run heap', places-append ru
 pub put_in_both : (run run' heap heap' : List Lead) (m n : ℕ) → Alike (m ∷ places run') (n ∷ places run) → Alike (places heap') (m ∷ places heap) → Alike (places (run' ++ heap')) (n ∷ places (run ++ heap))
 put_in_both run run' heap heap' m n left put =
     alike_then (put_in_heap run' heap heap' m put) (rw (places-append run' heap, places-append run heap) (alike-append left (alike_self (places heap))))
+
+-- what is in the queue after a name has come in
+pub tells_put : (old new : List Lead) (m n : ℕ) → Alike (places new) (m ∷ places old) → IsIn n (places new) ↔ ((n ≡ m) ⊎ IsIn n (places old))
+tells_put old new m n put = (
+  (λ i. in-cons_cases (alike-in put i)),
+  (λ h. alike-in (alike_back put) (elim h [
+    | inl e ↦ subst (λ k. IsIn n (k ∷ places old)) e (in_first n (places old))
+    | inr i ↦ in_more m i
+  ])),
+)
 
 -- the leads in the same places are a queue
 pub same_queue : {ns : List Name} {p q : QueueView} → q.run ≡ p.run → q.heap ≡ p.heap → IsQueue ns p → IsQueue ns q

@@ -1,5 +1,5 @@
 -- What a queue has: places of names, and the order in which it keeps them.
-use Rattle.std.specs.Prelude.{◌≡◌, ◌≢◌, ℕ, suc, ◌+◌, ◌*◌, ◌<◌, ◌++◌, ◌↔◌, Bool, false, IsTrue, List, length, map, slice_index_or}
+use Rattle.std.specs.Prelude.{◌≡◌, ◌≢◌, ℕ, suc, ◌+◌, ◌*◌, ◌<◌, ◌≤◌, ◌++◌, ◌↔◌, Bool, false, IsTrue, List, [], length, map, slice_index_or}
 use Rattle.std.specs.declared.cmp.Ordering.TheVariants.{Less}
 use Rattle.ic_path.specs.Orders.{IsIn}
 use Rattle.ic_name.specs.Names.{Name, name_cmp}
@@ -73,6 +73,14 @@ StandOnce ls = (i j : ℕ) → i < length ls → j < length ls → place_of (lea
 pub record AreFlagged (ls : List Lead) (queued : List Bool) : Type 0 where
   pub once : StandOnce ls
   pub flags : (n : ℕ) → IsTrue (slice_index_or queued n false) ↔ IsIn n (places ls)
+
+-- the fields of a queue go together: the flags are those of its names, the run has a lead if the heap has one, and there is
+-- room in the heap for as many leads as there are flags, and in the run for one as soon as there is a flag
+pub record GoTogether (run : LeadsView) (heap : List Lead) (room : ℕ) (queued : List Bool) : Type 0 where
+  pub flagged : AreFlagged (run.leads ++ heap) queued
+  pub run_first : run.leads ≡ [] → heap ≡ []
+  pub heap_room : length queued ≤ room
+  pub run_room : 0 < length queued → 0 < run.room
 
 -- the place is one of the queue's, and none of its names is less than the one there
 pub record IsLeast (ns : List Name) (ls : List Lead) (n : ℕ) : Type 0 where

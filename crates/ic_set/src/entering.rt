@@ -21,16 +21,6 @@ pub(crate) struct NewAgent {
     pub kind: Kind,
 }
 
-impl Default for NewAgent {
-    /// What a free place of a list in place holds.
-    fn default() -> NewAgent {
-        NewAgent {
-            name: NameId { place: 0 },
-            kind: Kind::Eps,
-        }
-    }
-}
-
 /// The agents of a start, by number, whose names are entered.
 pub(crate) fn agents_of_kinds(
     alloc: Global,

@@ -69,8 +69,8 @@ fn find_among<L: LinkStore>(
 {
     bench.lawful();
     mark.lawful();
-    let mut outside = Vec::new(alloc);
-    let mut missing = Vec::new(alloc);
+    let mut outside = Vec::with_capacity(alloc, leads.len())?;
+    let mut missing = Vec::with_capacity(alloc, leads.len())?;
     for lead in leads {
         let standing = bench.event_led_by(lead);
         match mark.place_of(lead) {

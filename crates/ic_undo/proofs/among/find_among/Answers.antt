@@ -22,7 +22,7 @@ pub loop-lead-init : goal.loop-lead-init
 loop-lead-init g c =
     let v = c.args.bench.now in
     let m = c.args.mark.now in
-    rw (c.new-outside.ensures.items, c.new-missing.ensures.items) (record { outside = outside_none v c.lawful.ensures.set m; missing = missing_none v c.lawful.ensures.set m (over_start v m c.requires c.lawful-2.ensures) })
+    rw (c.in_ok-outside.ensures.items, c.in_ok-missing.ensures.items) (record { outside = outside_none v c.lawful.ensures.set m; missing = missing_none v c.lawful.ensures.set m (over_start v m c.requires c.lawful-2.ensures) })
 
 pub loop-lead-preserved : goal.loop-lead-preserved
 loop-lead-preserved g c =

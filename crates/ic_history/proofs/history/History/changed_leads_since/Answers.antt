@@ -8,14 +8,14 @@ use Rattle.ic_history.proofs.history.History.changed_leads_since.Goals as goal
 use Rattle.ic_history.proofs.history.History.changed_leads_since.Goals.{in-Some+in_ok-push, in_default}
 
 pub loop-number-init : goal.loop-number-init
-loop-number-init c = rw c.new-leads.ensures.items (omega arith, λ n. (λ i. absurd (none_in i), λ h. absurd (none_between (map (line_in c.args.names.now) c.args.self.now.lines) c.args.line n h)))
+loop-number-init c = rw c.in_ok-leads.ensures.items (omega arith, λ n. (λ i. absurd (none_in i), λ h. absurd (none_between (map (line_in c.args.names.now) c.args.self.now.lines) c.args.line n h)))
 
 pub loop-number-preserved : goal.loop-number-preserved
 loop-number-preserved c =
     let ahead = c.loop-number.invariant.0 in
     let lines : List Line = map (line_in c.args.names.now) c.args.self.now.lines in
     let each = c.in_ok-lead.ensures in
-    elim c.match-branch-2.branch [
+    elim c.match-branch-3.branch [
       | in-Some+in_ok-push w ↦
           rw (w.leads-is, w.in_ok-push.ensures.items) (omega (arith, ahead), one_more lines c.args.line c.loop-number.number c.loop-number.leads.items w.in-Some.lead ahead c.loop-number.invariant.1 (λ n. (λ q. (each n).0 (w.in-Some.is ∙ ap Some q), λ d. let same : Some w.in-Some.lead ≡ Some n = sym w.in-Some.is ∙ (each n).1 d in cc)))
       | in_default w ↦

@@ -3,6 +3,7 @@ use Rattle.std.proofs.lemmas.List.{take_all}
 use Rattle.ic_path.proofs.Picks.{none_in}
 use Rattle.ic_names.specs.Tables.{name_at}
 use Rattle.ic_names.specs.Queues.{place_of, leads_of}
+use Rattle.ic_names.proofs.Queued.{queue_named}
 use Rattle.ic_set.proofs.Partners.{none_led}
 use Rattle.ic_set.proofs.QueuedLeads.{still_queued}
 use Rattle.ic_journal.proofs.LeadsLeft.{one_more_queued, pair_unled}
@@ -19,6 +20,16 @@ loop-at-init g c =
       unled = λ n k x there same. none_in (rw made.empty at k);
       room = omega arith;
     }
+
+pub is_lead-requires : goal.is_lead-requires
+is_lead-requires g c =
+    let named = queue_named c.requires.queue in
+    rw (c.lead.ensures, c.roster-roster.ensures.names) (named.inside c.loop-at.at (omega (arith, c.loop-at-test.true, c.len-at-end.ensures)))
+
+pub put-requires-clause-inside : goal.put-requires-clause-inside
+put-requires-clause-inside g c =
+    let named = queue_named c.requires.queue in
+    rw (c.lead.ensures, c.names.ensures, c.roster-roster.ensures.names) (named.inside c.loop-at.at (omega (arith, c.loop-at-test.true, c.len-at-end.ensures)))
 
 pub loop-at-preserved : goal.loop-at-preserved
 loop-at-preserved g c =
