@@ -10,9 +10,10 @@ The parts of a crate are its proof, its tests (which prove the crate's own funct
 which is a check of the crate. What `rt ci` prints is written to standard output first. Its processes are looked at four
 times a second, so that each may lose a quarter of a second at its end; the sum in the last line is exact.
 
-A part that takes more processor seconds than its budget in `budgets.tsv` is named at the end. The same work takes more seconds on a
-slower machine, and more when parts run side by side. So budgets are scaled by what `ic_claim` takes in the same run: it uses no other
-crate of this repository and has all three parts.
+Each part has a budget in `budgets.tsv`: the processor seconds that it takes. The same work takes more seconds on a slower machine,
+and more when parts run side by side. So budgets are scaled by the median part of the same run. From run to run a part varies by up to
+a fifth against the others, so a part is named at the end if it takes over a fifth and ten seconds more than its scaled budget. All parts
+together are named if they take over a fifth more than `ic_claim` tells: that crate uses no other one of this repository.
 """
 
 import collections
@@ -21,6 +22,7 @@ import os
 import pathlib
 import resource
 import shutil
+import statistics
 import subprocess
 import sys
 import tempfile
@@ -33,6 +35,9 @@ TICKS = os.sysconf("SC_CLK_TCK")
 PAUSE = 0.25
 # The crate whose parts say how fast the machine is.
 YARDSTICK = "ic_claim"
+# What a part may take: so many times its scaled budget, and so many seconds.
+MARGIN = 1.2
+SLACK = 10
 MOST = 20
 PARTS = ("proof", "tests", "edits")
 # What an edit's check shows where no edit is applied: the last look over the crate.
@@ -160,35 +165,31 @@ def read_budgets():
         return {(row["crate"], part): int(row[part]) for row in csv.DictReader(file, delimiter="\t") for part in PARTS}
 
 
-def budget_factor(parts, budgets):
-    """How many times its budgets the yardstick took; None if one of its parts was not measured or has no budget."""
-    its = [(YARDSTICK, part) for part in PARTS]
-    if not all(parts[it] and budgets.get(it) for it in its):
+def times_its_budgets(parts, budgets, keys):
+    """How many times their budgets some parts took together; None if one was not measured or has no budget."""
+    if not keys or not all(parts[it] and budgets.get(it) for it in keys):
         return None
-    return sum(parts[it] for it in its) / sum(budgets[it] for it in its)
+    return sum(parts[it] for it in keys) / sum(budgets[it] for it in keys)
 
 
 def print_over_budget(sums):
-    """Names the parts that took more than their scaled budget, and those that have none, and compares the sums."""
+    """Names the parts that took more than they may, those that have no budget, and all together if they did."""
     budgets, parts = read_budgets(), collections.Counter()
     for (crate, part, _), used in sums.items():
         parts[crate, part] += used
-    factor = budget_factor(parts, budgets)
-    if factor is None:
-        print(f"\nbudgets as they are: {YARDSTICK} was not measured whole")
-        factor = 1.0
-    else:
-        print(f"\nbudgets times {factor:.2f}, as {YARDSTICK} took")
-    for (crate, part), used in sorted(parts.items()):
-        budget = budgets.get((crate, part))
-        if crate == YARDSTICK:
-            continue
-        if budget is None:
+    known = [it for it in parts if budgets.get(it)]
+    pace = statistics.median(parts[it] / budgets[it] for it in known)
+    print(f"\nbudgets times {pace:.2f}, as the median part took")
+    for crate, part in sorted(parts):
+        used, budget = parts[crate, part], budgets.get((crate, part))
+        if not budget:
             print(f"no budget: {crate} {part}, {used:.0f} s")
-        elif used > budget * factor:
-            print(f"over budget: {crate} {part}, {used:.0f} s of {budget * factor:.0f} s")
-    known = [it for it in parts if it in budgets]
-    print(f"all parts with a budget: {sum(parts[it] for it in known):.0f} s of {sum(budgets[it] for it in known) * factor:.0f} s")
+        elif used > budget * pace * MARGIN + SLACK:
+            print(f"over budget: {crate} {part}, {used:.0f} s of {budget * pace:.0f} s")
+    others = times_its_budgets(parts, budgets, [it for it in known if it[0] != YARDSTICK])
+    its = times_its_budgets(parts, budgets, [(YARDSTICK, part) for part in PARTS])
+    if others and its:
+        print(f"{'over budget: ' * (others > its * MARGIN)}all others together: {others:.2f} times their budgets, {YARDSTICK} {its:.2f} times")
 
 
 def measure_gate(crates):
