@@ -10,9 +10,9 @@ The parts of a crate are its proof, its tests (which prove the crate's own funct
 which is a check of the crate. What `rt ci` prints is written to standard output first. Its processes are looked at four
 times a second, so that each may lose a quarter of a second at its end; the sum in the last line is exact.
 
-Each part has a budget in `budgets.tsv`: the processor seconds that it takes. The same work takes more seconds on a slower machine,
-and more when parts run side by side. So budgets are scaled by the median part of the same run. From run to run a part varies by up to
-a fifth against the others, so a part is named at the end if it takes over a fifth and ten seconds more than its scaled budget. All parts
+Each part has a budget in `budgets.tsv`: about the processor seconds that it takes. The same work takes more seconds on a slower machine,
+and more when parts run side by side. So budgets are scaled by the median part of the same run. From run to run most parts vary by up
+to a fifth against the others, so a part is named at the end if it takes over a fifth and ten seconds more than its scaled budget. All parts
 together are named if they take over a fifth more than `ic_claim` tells: that crate uses no other one of this repository.
 """
 
