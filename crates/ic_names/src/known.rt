@@ -35,22 +35,15 @@ impl KnownNames {
         }
     }
 
-    /// The number of names.
-    pub fn len(&self) -> usize
-        ensures { result ≡ length self.now }
-    {
-        self.origins.len()
-    }
-
     /// The names that are in these rows. At an error memory ran out.
     pub(crate) fn of(rows: &Rows, alloc: Global) -> Result<KnownNames, AllocError>
         ensures { IfOk result (λ known. known ≡ rows.now.names) }
     {
         rows.lawful();
         let mut known = KnownNames {
-            origins: Vec::with_capacity(alloc, rows.len())?,
+            origins: Vec::with_capacity(alloc, rows.name_count())?,
         };
-        for place in 0..rows.len() {
+        for place in 0..rows.name_count() {
             known.push(rows.origin(place as u32))?;
         }
         Ok(known)
@@ -82,7 +75,7 @@ impl KnownNames {
         ensures same { (k : ℕ) → k < result → name_at rows.now.names k ≡ name_at self.now k }
     {
         rows.lawful();
-        let most = rows.len().min(self.len());
+        let most = rows.name_count().min(self.origins.len());
         for place in 0..most {
             if rows.origin(place as u32) != self.origin(place as u32) {
                 return place;
@@ -101,7 +94,7 @@ impl KnownNames {
         ensures { IsTrue result ↔ (name_at rows.now.names place ≡ name_at self.now known) }
     {
         rows.lawful();
-        let same = same.min(rows.len());
+        let same = same.min(rows.name_count());
         let mut here = place;
         let mut then = known;
         while then as usize >= same {

@@ -131,7 +131,7 @@ impl LeadQueue {
     {
         self.heap.reserve(names.saturating_sub(self.heap.len()))?;
         let room = self.heap.capacity();
-        self.run.reserve(room.clamp(1, RUN_ROOM))?;
+        self.run.grow_to(room.clamp(1, RUN_ROOM))?;
         self.queued.resize(room, false)
     }
 
@@ -143,7 +143,7 @@ impl LeadQueue {
         ensures queue { (ns : List Name) → IsQueue ns self.old → IsQueue ns self.new }
         ensures room { self.new.room ≡ self.old.room }
     {
-        self.run.reserve(leads)
+        self.run.grow_to(leads)
     }
 
     /// The name at this place comes in, if it isn't in the queue yet, in the room there is. It takes no memory. The time is

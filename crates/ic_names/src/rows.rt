@@ -1,13 +1,13 @@
-ghost use Rattle.std.specs.Prelude.{◌≡◌, ◌+◌, ◌<◌, ◌≤◌, ◌↔◌, ◌^◌, ◌++◌, ◌∷◌, [], ℕ, length, Some, None, IsTrue, IfOk, OnOk, OnErr};
+ghost use Rattle.std.specs.Prelude.{◌≡◌, ◌+◌, ◌*◌, ◌<◌, ◌≤◌, ◌↔◌, ◌^◌, ◌++◌, ◌∷◌, [], ℕ, length, Some, None, IsTrue, IfOk, OnOk, OnErr};
 ghost use Rattle.std.specs.Ordering.{nat_cmp};
 ghost use Rattle.std.specs.Cmp.Lexicographic.{slice_cmp};
 ghost use Rattle.ic_name.specs.Names.{depth as depth_of, start_name, child_name};
+ghost use Rattle.ic_name.specs.NameTexts.{digits_text};
 ghost use Rattle.ic_names.specs.Keys.{key_of};
+ghost use Rattle.ic_names.specs.DigitTexts.{HasDots};
 ghost use Rattle.ic_names.specs.Blocks.{anchor_of, block_of};
 ghost use Rattle.ic_names.specs.Tables.{name_at, StandsAt, IsAbsent, IsPlaceOf, IsTable, Enters, GrowsUpTo};
 ghost use Rattle.ic_names.specs.Rows.{name_from, IsBefore};
-
-mod writing;
 
 use crate::block::{BLOCK, Block};
 use crate::entry::{Entry, Origin};
@@ -57,7 +57,7 @@ impl Rows {
     }
 
     /// The number of names.
-    pub fn len(&self) -> usize
+    pub fn name_count(&self) -> usize
         ensures { result ≡ length self.now.names }
     {
         self.entries.len()
@@ -160,7 +160,7 @@ impl Rows {
 
     /// Whether the name at a place is this one, in constant time where their depths differ, and else in time that grows as the
     /// depth: each digit of the given name is read, and for 32 of them there is one look into the table. It takes no memory.
-    pub fn is(&self, place: u32, name: &AgentName) -> bool
+    pub fn is_named(&self, place: u32, name: &AgentName) -> bool
         requires { place < length self.now.names }
         ensures { IsTrue result ↔ (name_at self.now.names place ≡ name.now) }
     {
@@ -188,7 +188,7 @@ impl Rows {
 
     /// Makes room for so many further names. It is an error where memory runs out, or where there would be more names
     /// than places in four bytes. The names stay as they are.
-    pub fn reserve(&mut self, names: usize) -> Result<(), AllocError>
+    pub fn reserve_names(&mut self, names: usize) -> Result<(), AllocError>
         ensures same { self.new.names ≡ self.old.names }
         ensures starts { self.new.starts ≡ self.old.starts }
         ensures reserved { OnOk result (names ≤ self.new.room) }
@@ -328,5 +328,21 @@ impl Rows {
             unreachable!()
         };
         Ok(AgentName::of_digits(number, digits))
+    }
+
+    /// Writes the digits of the name at a place into a text of dots, each after its dot, the last one first.
+    pub fn write_digits(&self, place: u32, text: &mut [u8])
+        requires inside { place < length self.now.names }
+        requires length { length text.old ≡ 2 * depth_of (name_at self.now.names place) }
+        requires dots { HasDots text.old }
+        ensures { text.new ≡ digits_text (name_at self.now.names place).digits }
+    {
+        self.lawful();
+        let mut behind = self.key(place).depth() as usize;
+        let mut at = place;
+        while behind > 0 {
+            behind = self.block(at).write_digits(text, behind);
+            at = self.anchor(at);
+        }
     }
 }

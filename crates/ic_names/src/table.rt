@@ -9,6 +9,7 @@ use crate::known::KnownNames;
 use crate::rows::Rows;
 use ic_name::limits::MAX_DEPTH;
 use ic_name::{AgentName, ChildFault};
+use itoa::Buffer;
 use std::alloc::{AllocError, Global};
 use std::cmp::Ordering;
 use std::marker::Model;
@@ -59,14 +60,14 @@ impl NameTable {
     pub fn len(&self) -> usize
         ensures { result ≡ length self.now }
     {
-        self.rows.len()
+        self.rows.name_count()
     }
 
     /// Makes room for this many more names. The table grows without it, too. At an error nothing changes.
     pub fn reserve(&mut self, names: usize) -> Result<(), AllocError>
         ensures { self.new ≡ self.old }
     {
-        self.rows.reserve(names)
+        self.rows.reserve_names(names)
     }
 
     /// The number of digits of the name at a place, in constant time. It takes no memory.
@@ -83,7 +84,7 @@ impl NameTable {
     pub fn key(&self, id: NameId) -> NameKey
         ensures { result.0 ≡ key_of (name_at self.now id.place) }
     {
-        if id.place as usize >= self.rows.len() {
+        if id.place as usize >= self.rows.name_count() {
             return NameKey::start(0);
         }
         self.rows.key(id.place)
@@ -109,7 +110,7 @@ impl NameTable {
         ensures grown { IfOk result (λ id. GrowsUpTo self.old name.now self.new) }
         ensures unchanged { OnErr result (self.new ≡ self.old) }
     {
-        self.rows.reserve(name.depth() + 1)?;
+        self.rows.reserve_names(name.depth() + 1)?;
         self.rows.reserve_start(name.start_number())?;
         let place = self.rows.enter(name);
         Ok(NameId { place })
@@ -133,7 +134,7 @@ impl NameTable {
         if self.rows.key(parent.place).depth() as usize == MAX_DEPTH {
             return Err(ChildFault::Deep);
         }
-        self.rows.reserve(1).map_err(|_| ChildFault::Memory)?;
+        self.rows.reserve_names(1).map_err(|_| ChildFault::Memory)?;
         let place = self.rows.put_child(parent.place, digit);
         Ok(NameId { place })
     }
@@ -158,14 +159,14 @@ impl NameTable {
     pub fn is(&self, id: NameId, name: &AgentName) -> bool
         ensures { IsTrue result ↔ StandsAt self.now name.now id.place }
     {
-        (id.place as usize) < self.rows.len() && self.rows.is(id.place, name)
+        (id.place as usize) < self.rows.name_count() && self.rows.is_named(id.place, name)
     }
 
     /// The name at a place, in time in proportion to its depth; `None` exactly if the table has no such place.
     pub fn name(&self, id: NameId) -> Result<Option<AgentName>, AllocError>
         ensures { IfOk result (λ name. name ≡ slice_get self.now id.place) }
     {
-        if id.place as usize >= self.rows.len() {
+        if id.place as usize >= self.rows.name_count() {
             return Ok(None);
         }
         let name = self.rows.name(id.place)?;
@@ -180,7 +181,21 @@ impl NameTable {
         ensures ok { OnOk result (out.new.items ≡ out.old.items ++ name_text (name_at self.now id.place)) }
         ensures err { OnErr result (out.new.items ≡ out.old.items) }
     {
-        self.rows.write_to(id.place, out)
+        self.rows.lawful();
+        let key = self.rows.key(id.place);
+        let mut buffer = Buffer::new();
+        let start = buffer.format(key.start_number()).as_bytes();
+        let digits = 2 * key.depth() as usize;
+        out.reserve(start.len() + digits)?;
+        let Ok(()) = out.extend_from_slice(start) else {
+            unreachable!()
+        };
+        let begin = out.len();
+        let Ok(()) = out.resize(begin + digits, b'.') else {
+            unreachable!()
+        };
+        self.rows.write_digits(id.place, &mut out[begin..]);
+        Ok(())
     }
 
     /// The order of the names at two places. A place beyond the table counts as the least name. It takes no memory,

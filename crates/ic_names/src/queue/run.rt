@@ -55,7 +55,7 @@ impl LeadRun {
 
     /// Makes room for so many leads. It is an error only if no memory is left. The leads stay, and the room never shrinks.
     #[inline(always)]
-    pub fn reserve(&mut self, leads: usize) -> Result<(), AllocError>
+    pub fn grow_to(&mut self, leads: usize) -> Result<(), AllocError>
         ensures same { self.new.leads ≡ self.old.leads }
         ensures kept { self.old.room ≤ self.new.room }
         ensures reserved { OnOk result (leads ≤ self.new.room) }

@@ -1,7 +1,7 @@
 use Rattle.std.proofs.Common.{◌<◌, ◌+◌, ◌^◌, length, arith, Ok, Err}
 use Rattle.std.specs.Prelude.{OnOk}
 use Rattle.ic_names.proofs.RowNames.{names_of-length}
-use Rattle.ic_names.proofs.rows.Rows.reserve.Goals as goal
+use Rattle.ic_names.proofs.rows.Rows.reserve_names.Goals as goal
 
 pub overflow_sub-len : goal.overflow_sub-len
 overflow_sub-len c =

@@ -2,7 +2,7 @@ use Rattle.std.proofs.Common.{◌≡◌, ◌<◌, ◌≤◌, ◌↔◌, length}
 use Rattle.ic_name.specs.Names.{depth}
 use Rattle.ic_names.specs.Tables.{name_at}
 use Rattle.ic_names.proofs.Fronted.{front_name}
-use Rattle.ic_names.proofs.rows.Rows.is.Given as goal
+use Rattle.ic_names.proofs.rows.Rows.is_named.Given as goal
 
 abbrev pub invariant-loop-behind : goal.invariant-loop-behind
 invariant-loop-behind l = record {

@@ -6,7 +6,7 @@ use Rattle.ic_names.proofs.KeyOrders.{name_proper}
 use Rattle.ic_names.proofs.PlaceNames.{place_proper}
 use Rattle.ic_names.proofs.Blocks.{anchor_deep}
 use Rattle.ic_names.proofs.SameNames.{anchors_same}
-use Rattle.ic_names.proofs.rows.Rows.is.Goals as goal
+use Rattle.ic_names.proofs.rows.Rows.is_named.Goals as goal
 
 pub loop-behind-preserved : goal.loop-behind-preserved
 loop-behind-preserved c =
