@@ -24,8 +24,8 @@ impl History {
         requires { AreLinesNamed names.now self.now.lines }
         ensures { IfOk result (λ leads. (n : Name) → IsIn n leads.items ↔ ((e : AnEvent) × IsChanged (map (line_in names.now) self.now.lines) line e × (e.lead ≡ n))) }
     {
-        let mut leads = Vec::with_capacity(alloc, self.len().saturating_sub(line))?;
-        for number in line..self.len() {
+        let mut leads = Vec::with_capacity(alloc, self.line_count().saturating_sub(line))?;
+        for number in line..self.line_count() {
             if let Some(lead) = self.changed_in(names, number)? {
                 leads.push(lead)?;
             }

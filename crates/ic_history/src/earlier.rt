@@ -31,7 +31,7 @@ impl EarlierLines {
     pub fn len(&self) -> usize
         ensures { result ≡ length self.now }
     {
-        self.history.len()
+        self.history.line_count()
     }
 }
 
@@ -42,7 +42,7 @@ impl History {
         ensures { IfOk result (λ lines. lines ≡ map (line_in names.now) self.now.lines) }
     {
         let history = self.copy(alloc)?;
-        if history.len() == 0 {
+        if history.line_count() == 0 {
             return Ok(EarlierLines {
                 names: KnownNames::none(alloc),
                 history,
@@ -76,7 +76,7 @@ impl History {
         ensures some { IfSome result (λ k. (k < length lines.now) × (slice_get (map (line_in names.now) self.now.lines) k ≢ slice_get lines.now k)) }
     {
         let both = NowAndThen::of(names, &lines.names);
-        for number in 0..lines.history.len() {
+        for number in 0..lines.history.line_count() {
             if !self.is_line_of(&both, &lines.history, number) {
                 return Some(number as u32);
             }

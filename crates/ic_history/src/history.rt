@@ -51,7 +51,7 @@ impl History {
     }
 
     /// The number of lines.
-    pub fn len(&self) -> usize
+    pub fn line_count(&self) -> usize
         ensures count { result ≡ length self.now.lines }
         ensures few { result ≤ MAX_LINES }
     {

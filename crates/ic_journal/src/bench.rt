@@ -81,7 +81,7 @@ impl<L: LinkStore> Bench<L> {
     pub fn reserve(&mut self, lines: usize) -> Result<(), ReserveFault>
         ensures { Reserves self.old lines result self.new }
     {
-        if lines > MAX_LINES - self.history.len() {
+        if lines > MAX_LINES - self.history.line_count() {
             return Err(ReserveFault::HistoryFull);
         }
         let Ok(()) = self.history.reserve(lines) else {
@@ -110,7 +110,7 @@ impl<L: LinkStore> Bench<L> {
         ensures fires { Fires self.old proposal (id_answer result) self.new }
         ensures awoken { IfOk result (λ fired. Awakes (set_of self.old) (set_of self.new) fired.awoken) }
     {
-        let line = self.history.len();
+        let line = self.history.line_count();
         if line == MAX_LINES {
             return Err(FireFault::HistoryFull(proposal));
         }
@@ -152,7 +152,7 @@ impl<L: LinkStore> Bench<L> {
     pub fn undo(&mut self, id: EventId) -> Result<(), UndoFault>
         ensures { Undoes self.old id result self.new }
     {
-        if self.history.len() == MAX_LINES {
+        if self.history.line_count() == MAX_LINES {
             return Err(UndoFault::HistoryFull);
         }
         let Ok(()) = self.history.reserve(1) else {

@@ -45,7 +45,7 @@ impl<L: LinkStore> Bench<L> {
         requires { IsActivePair (set_of self.old) pair }
         ensures { (e : AnEvent) → IsPairOf (set_of self.old) e pair → FiresPair self.old e (awoken_answer result awoken.new) self.new }
     {
-        let line = self.history.len();
+        let line = self.history.line_count();
         if line == MAX_LINES {
             return Err(PairFault::HistoryFull);
         }
@@ -82,7 +82,7 @@ impl<L: LinkStore> Bench<L> {
     {
         let set = self.set.bare();
         set.lawful();
-        let line = self.history.len();
+        let line = self.history.line_count();
         let id = self.set.admit(pair, event, line as u32, awoken)?;
         self.history.note(KeptLine::fired(event));
         Ok(id)

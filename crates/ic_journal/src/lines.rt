@@ -18,7 +18,7 @@ impl<L: LinkStore> Bench<L> {
     pub fn lines(&self) -> u32
         ensures { result ≡ length self.now.lines }
     {
-        self.history.len() as u32
+        self.history.line_count() as u32
     }
 
     /// The number of standing events. It takes no memory.

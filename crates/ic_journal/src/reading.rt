@@ -26,6 +26,7 @@ ghost use Rattle.ic_journal.specs.Reads.{IsKindOf, IsNameOf, IsEventUnder, IsRan
 
 use crate::bench::Bench;
 use crate::faults::ProposeFault;
+use crate::standing::renewing::agents_in;
 use ic_history::Proposal;
 use ic_link::LinkStore;
 use ic_name::{AgentId, AgentName, Event, EventId, EventName, Kind, Line, Port};
@@ -107,7 +108,10 @@ impl<L: LinkStore> Bench<L> {
         ensures found { IfSome result (λ pair. ((pair.lead ≡ agent) ⊎ (pair.other ≡ agent)) × IsActivePair (set_of self.now) pair) }
         ensures absent { IfNone result ((e : AnEvent) (pair : APair) → (pair.lead ≡ agent) ⊎ (pair.other ≡ agent) → IsPairOf (set_of self.now) e pair → ⊥) }
     {
-        self.set.pair_with(agent)
+        match self.set.front {
+            Some(pair) if pair.lead == agent => Some(pair),
+            _ => self.set.bare().pair_with(agent),
+        }
     }
 
     /// The active pairs that the event under this id makes: those whose event would have it as a direct cause (Danos and Krivine
@@ -278,21 +282,23 @@ impl<L: LinkStore> Bench<L> {
         ensures found { IfSome result (λ pair. IsLeastPair (set_of self.now) pair) }
         ensures absent { IfNone result ((e : AnEvent) → IsActive self.now.start (standing (set_of self.now)) e → ⊥) }
     {
-        self.set.least_active()
+        self.set.front
     }
 
     /// The active pairs, by lead.
     pub fn active(&self) -> Result<Vec<ActivePair>, AllocError>
         ensures { IfOk result (λ pairs. AreActivePairs (set_of self.now) pairs.items) }
     {
-        self.set.active()
+        self.set.queue.lawful();
+        let leads = self.set.queue.to_vec(self.alloc)?;
+        self.set.bare().active_among(leads)
     }
 
     /// Agents among whom is the lead of each active pair, in no promised order, and few others. It takes less time than `active`.
     pub fn leads(&self) -> Result<Vec<AgentId>, AllocError>
         ensures { IfOk result (λ leads. (p : APair) → IsActivePair (set_of self.now) p → IsIn p.lead leads.items) }
     {
-        self.set.leads()
+        agents_in(self.alloc, &self.set.queue, self.set.bare())
     }
 
     /// The net of what stands: the one in which the steps of its events end, in each causal order of them (Lafont 1997).

@@ -2,11 +2,10 @@
 ghost use Rattle.std.specs.Prelude.{◌≡◌, IfOk};
 ghost use Rattle.ic_set.specs.Changes.{IsOver};
 
-pub mod active;
 pub mod changes;
 mod front;
 mod queue;
-mod renewing;
+pub mod renewing;
 
 use crate::standing::queue::drop_stale;
 use crate::standing::renewing::queue_of;

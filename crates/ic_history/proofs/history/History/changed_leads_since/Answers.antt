@@ -23,4 +23,4 @@ loop-number-preserved c =
     ]
 
 pub returns : goal.returns
-returns c = all_between _ _ c.loop-number.number _ (let past = c.loop-number-test.false in let count = c.len-number-end.ensures.count in let kept = length-map c.args.self.now.lines (line_in c.args.names.now) in omega arith) c.loop-number.invariant.1
+returns c = all_between _ _ c.loop-number.number _ (let past = c.loop-number-test.false in let count = c.line_count-number-end.ensures.count in let kept = length-map c.args.self.now.lines (line_in c.args.names.now) in omega arith) c.loop-number.invariant.1

@@ -13,7 +13,7 @@ use Rattle.ic_journal.proofs.KeptBenches.{same_kept, same_stays, fired_steps, fi
 use Rattle.ic_journal.proofs.bench.Bench.admit_noted.Goals as goal
 
 pub admit-requires-clause-new_line : goal.admit-requires-clause-new_line
-admit-requires-clause-new_line g c = rw (c.len-line.ensures.count, ← length-map c.self.inside.history.lines (line_in c.self.inside.set.names)) (next_line_new _ (rw c.bare-set.ensures at c.lawful.ensures.set.proper) c.self.invariant.running)
+admit-requires-clause-new_line g c = rw (c.line_count-line.ensures.count, ← length-map c.self.inside.history.lines (line_in c.self.inside.set.names)) (next_line_new _ (rw c.bare-set.ensures at c.lawful.ensures.set.proper) c.self.invariant.running)
 
 pub admit-requires-clause-few_events : goal.admit-requires-clause-few_events
 admit-requires-clause-few_events g c =
@@ -55,7 +55,7 @@ invariant_of-self-2 g c =
     let more : c.note.new.self.lines ≡ h.lines ++ Fired c.args.event ∷ [] = rw c.fired.ensures.line at c.note.ensures.lines in
     let down = c.note.ensures.room in
     fired_kept s c.admit.new.self h c.note.new.self c.self.invariant c.admit.ensures.grown c.args.event named f (its f first)
-    more c.len-line.result c.len-line.ensures.count c.in_ok-id.id (c.in_ok-id.ensures.admitted f first) first.active limits.0 limits.1 (omega (arith, down)) c.note.ensures.few
+    more c.line_count-line.result c.line_count-line.ensures.count c.in_ok-id.id (c.in_ok-id.ensures.admitted f first) first.active limits.0 limits.1 (omega (arith, down)) c.note.ensures.few
 
 pub returns-clause-fired : goal.returns-clause-fired
 returns-clause-fired g c =
@@ -73,7 +73,7 @@ returns-clause-fired g c =
     let p : IsPairOf s.set e c.args.pair = subst (λ v. IsPairOf (set_of v) e c.args.pair) (sym c.self.view_is) q in
     let within = subst (λ x. Meets s.set x None) (sym (its f first) ∙ its e p) limits in
     let fired = fired_steps s c.admit.new.self h c.note.new.self c.self.invariant c.admit.ensures.grown c.args.event named e (its e p)
-    more c.len-line.result c.len-line.ensures.count c.in_ok-id.id (c.in_ok-id.ensures.admitted e p) p.active within.0 within.1 room in
+    more c.line_count-line.result c.line_count-line.ensures.count c.in_ok-id.id (c.in_ok-id.ensures.admitted e p) p.active within.0 within.1 room in
     let admits = fired_admits s c.admit.new.self h c.note.new.self c.self.invariant c.admit.ensures.grown c.args.event named e (its e p)
-    more c.len-line.result c.len-line.ensures.count c.in_ok-id.id (c.in_ok-id.ensures.admitted e p) p.active within.0 within.1 room in
+    more c.line_count-line.result c.line_count-line.ensures.count c.in_ok-id.id (c.in_ok-id.ensures.admitted e p) p.active within.0 within.1 room in
     subst (λ v. FiresPair v e (Ok (record { id = c.in_ok-id.id; awoken = c.admit.new.awoken })) (view_of c.admit.new.self c.note.new.self)) c.self.view_is ((fired, admits), c.in_ok-id.ensures.awoken))

@@ -14,8 +14,8 @@ use Rattle.ic_set.proofs.Admissions.{same_self}
 
 pub returns-in_default : goal.returns-in_default
 returns-in_default g c =
-    let few = c.len-line.ensures.few in
-    let count = c.len-line.ensures.count in
+    let few = c.line_count-line.ensures.few in
+    let count = c.line_count-line.ensures.count in
     let not_full = c.if-line-eq-MAX_LINES.false in
     let long = length-map c.self.inside.history.lines (line_in c.self.inside.set.names) in
     rw (← c.self.view_is) (λ e p. (omega (arith, few, count, not_full, long), same_stays c.self.inside.set c.self.inside.set c.self.inside.history c.reserve.new.self c.self.invariant (same_self _) (keeps_self _) c.reserve.ensures.lines c.reserve.ensures.more))
