@@ -38,7 +38,7 @@ impl SlotIndex {
     }
 
     /// How many numbers there is room for, from 0 on.
-    pub fn len(&self) -> usize
+    pub fn room(&self) -> usize
         ensures { result ≡ length self.now }
     {
         self.slots.len()

@@ -54,7 +54,7 @@ impl<'a> Names<'a> {
         ensures before { IfOk result (λ o. o.before ≡ times text.now self.old) }
         ensures entered { IfOk result (λ _. self.new ≡ enter text.now first self.old) }
     {
-        let slot = slot_for(text, self.slots.len());
+        let slot = slot_for(text, self.slots.room());
         match look_up(&self.seen, &self.others, self.slots.get(slot), text) {
             Some(number) => {
                 let name = &mut self.seen[number];

@@ -54,7 +54,7 @@ impl<'a> NumberedAgents<'a> {
         requires port { port < length (partners_on agent.now) }
         ensures { result ≡ unwrap_or (wire_place (wires_in self.now) (port_wire (agent_on self.now.lists agent.now) port)) 0 }
     {
-        self.numbers.get(agent.line, port).unwrap_or(0)
+        self.numbers.number_at(agent.line, port).unwrap_or(0)
     }
 
     /// How many wires have numbers: at most three for each agent.
@@ -62,6 +62,6 @@ impl<'a> NumberedAgents<'a> {
         ensures value { result ≡ length (wires_in self.now) }
         ensures few { result ≤ 3 * length self.now.lists.agents.now }
     {
-        self.numbers.count()
+        self.numbers.count
     }
 }

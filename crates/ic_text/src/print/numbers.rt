@@ -15,7 +15,8 @@ use std::alloc::{AllocError, Global};
 #[derive(Drop)]
 pub(crate) struct WireNumbers {
     ports: Vec<PortNumbers>,
-    count: u64,
+    /// How many numbers have been given.
+    pub(crate) count: u64,
 }
 
 impl WireNumbers {
@@ -30,22 +31,15 @@ impl WireNumbers {
         Ok(WireNumbers { ports, count: 0 })
     }
 
-    /// How many numbers have been given.
-    pub(crate) fn count(&self) -> u64
-        ensures { result ≡ self.now.count }
-    {
-        self.count
-    }
-
     /// The number at a port of the agent at a place, if it has one.
-    pub(crate) fn get(&self, place: usize, port: u8) -> Option<u64>
+    pub(crate) fn number_at(&self, place: usize, port: u8) -> Option<u64>
         ensures { result ≡ number_at self.now place port }
     {
-        self.ports.get(place)?.get(port)
+        self.ports.get(place)?.number(port)
     }
 
     /// Gives the next number to a port of the agent at a place.
-    fn give(&mut self, place: usize, port: u8)
+    fn give_next(&mut self, place: usize, port: u8)
         requires place { place < length self.old.ports.items }
         requires port { port < 3 }
         requires room { self.old.count + 1 < 2 ^ 64 }
@@ -77,11 +71,11 @@ impl WireNumbers {
         let PlacedPort::Of(name, number) = partner(agent.agent, port) else {
             return;
         };
-        if self.get(agent.line, port).is_some() {
+        if self.number_at(agent.line, port).is_some() {
             return;
         }
-        self.give(agent.line, port);
-        self.give(lines.line_of(lists, name), number);
+        self.give_next(agent.line, port);
+        self.give_next(lines.line_of(lists, name), number);
         self.count += 1;
     }
 

@@ -16,7 +16,7 @@ impl PortNumbers {
     }
 
     /// The number at a port, if it has one.
-    pub(crate) fn get(&self, port: u8) -> Option<u64>
+    pub(crate) fn number(&self, port: u8) -> Option<u64>
         ensures { result ≡ port_number self.now port }
     {
         self.ports.get(usize::from(port))?.checked_sub(1)

@@ -10,4 +10,4 @@ returns-clause-few c =
     let lists = c.args.self.now.lists in
     let few = few_numbers (agents_of lists) in
     let many = length-map lists.agents.now (listed_at lists.names.now) in
-    omega (arith, c.args.self.now.numbering.count, c.count.ensures)
+    omega (arith, c.args.self.now.numbering.count)

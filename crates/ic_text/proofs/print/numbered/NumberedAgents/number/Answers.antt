@@ -9,4 +9,4 @@ returns c =
     let lists = c.args.self.now.lists in
     let agent = c.args.agent.now in
     let place = c.args.self.now.numbering.places agent.line c.args.port (agent_on lists agent) (listed_there lists agent.line agent.agent.now c.requires.placed) (port_within lists agent c.args.port c.requires.port) in
-    c.unwrap_or.ensures ∙ ap (λ o. unwrap_or o 0) (c.get.ensures ∙ place)
+    c.unwrap_or.ensures ∙ ap (λ o. unwrap_or o 0) (c.number_at.ensures ∙ place)

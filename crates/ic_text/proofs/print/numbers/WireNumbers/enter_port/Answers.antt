@@ -20,15 +20,15 @@ returns-then-is_some-clause-entered c =
     let port = port_within lists agent c.args.port c.requires.port in
     let partner = sym (c.partner.ensures.port table) ∙ ap (port_at table) c.in-Of.is in
     enters_again (agents_of lists) c.requires.net.wired agent.line c.args.port (agent_on lists agent) placed port (name_at table c.in-Of.name.place) c.in-Of.number partner
-    c.args.self.now (ap is_some (sym c.get.ensures) ∙ sym c.is_some.ensures ∙ c.if-is_some.true)
+    c.args.self.now (ap is_some (sym c.number_at.ensures) ∙ sym c.is_some.ensures ∙ c.if-is_some.true)
 
-pub give-requires-clause-place : goal.give-requires-clause-place
-give-requires-clause-place c =
+pub give_next-requires-clause-place : goal.give_next-requires-clause-place
+give_next-requires-clause-place c =
     let within = slice_get_within c.args.lists.now.agents.now c.args.agent.now.line c.args.agent.now.agent.now c.requires.placed in
     omega (arith, within, c.requires.places)
 
-pub give-requires-clause-port : goal.give-requires-clause-port
-give-requires-clause-port c =
+pub give_next-requires-clause-port : goal.give_next-requires-clause-port
+give_next-requires-clause-port c =
     let lists = c.args.lists.now in
     let agent = c.args.agent.now in
     let few = short (agents_of lists) c.requires.net.wired agent.line (agent_on lists agent) (listed_there lists agent.line agent.agent.now c.requires.placed) in
@@ -51,8 +51,8 @@ line_of-requires-clause-there c =
     let far = far_end (agents_of lists) c.requires.net.wired agent.line c.args.port (agent_on lists agent) placed port (name_at table c.in-Of.name.place) c.in-Of.number partner in
     ap is_some far.found
 
-pub give-requires-2-clause-place : goal.give-requires-2-clause-place
-give-requires-2-clause-place c =
+pub give_next-requires-2-clause-place : goal.give_next-requires-2-clause-place
+give_next-requires-2-clause-place c =
     let lists = c.args.lists.now in
     let table = lists.names.now in
     let agent = c.args.agent.now in
@@ -62,10 +62,10 @@ give-requires-2-clause-place c =
     let far = far_end (agents_of lists) c.requires.net.wired agent.line c.args.port (agent_on lists agent) placed port (name_at table c.in-Of.name.place) c.in-Of.number partner in
     let within = slice_get_within (agents_of lists) c.line_of.result far.agent (c.line_of.ensures ∙ far.found) in
     let many = length-map lists.agents.now (listed_at table) in
-    omega (arith, within, many, c.requires.places, c.give.ensures.places)
+    omega (arith, within, many, c.requires.places, c.give_next.ensures.places)
 
-pub give-requires-2-clause-port : goal.give-requires-2-clause-port
-give-requires-2-clause-port c =
+pub give_next-requires-2-clause-port : goal.give_next-requires-2-clause-port
+give_next-requires-2-clause-port c =
     let lists = c.args.lists.now in
     let table = lists.names.now in
     let agent = c.args.agent.now in
@@ -84,9 +84,9 @@ returns-clause-entered c =
     let port = port_within lists agent c.args.port c.requires.port in
     let partner = sym (c.partner.ensures.port table) ∙ ap (port_at table) c.in-Of.is in
     let old = c.args.self.now in
-    let halfway = c.give.new.self in
-    let there = subst (λ n. GivesNumber c.line_of.result c.in-Of.number n halfway c.give-2.new.self) c.give.ensures.count c.give-2.ensures.given in
-    let one_more : c.give-2.new.self.count + 1 ≡ old.count + 1 = ap (λ k. k + 1) (c.give-2.ensures.count ∙ c.give.ensures.count) in
+    let halfway = c.give_next.new.self in
+    let there = subst (λ n. GivesNumber c.line_of.result c.in-Of.number n halfway c.give_next-2.new.self) c.give_next.ensures.count c.give_next-2.ensures.given in
+    let one_more : c.give_next-2.new.self.count + 1 ≡ old.count + 1 = ap (λ k. k + 1) (c.give_next-2.ensures.count ∙ c.give_next.ensures.count) in
     enters_new (agents_of lists) c.requires.net.wired agent.line c.args.port (agent_on lists agent) placed port (name_at table c.in-Of.name.place) c.in-Of.number partner
-    c.line_of.result c.line_of.ensures old halfway (record { ports = c.give-2.new.self.ports; count = c.give-2.new.self.count + 1 })
-    (ap is_some (sym c.get.ensures) ∙ sym c.is_some.ensures ∙ c.if-is_some.false) c.give.ensures.given there one_more
+    c.line_of.result c.line_of.ensures old halfway (record { ports = c.give_next-2.new.self.ports; count = c.give_next-2.new.self.count + 1 })
+    (ap is_some (sym c.number_at.ensures) ∙ sym c.is_some.ensures ∙ c.if-is_some.false) c.give_next.ensures.given there one_more
