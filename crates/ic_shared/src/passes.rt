@@ -1,6 +1,6 @@
 ghost use Rattle.std.specs.Prelude.{◌≡◌, ◌+◌, ◌<◌, ◌≤◌, ◌↔◌, ℕ, List, length, MatchOption, IsTrue};
 ghost use Rattle.ic_name.specs.Names.{Name};
-ghost use Rattle.ic_shared.specs.Passes.{added_by, column as the_column};
+ghost use Rattle.ic_shared.specs.Passes.{column as the_column};
 ghost use Rattle.ic_shared.specs.Settles.{NumberAt, Confirms};
 
 use crate::receipts::{Receipt, RunReceipt};
@@ -35,13 +35,6 @@ impl<B: Ledger> Model for Pass<B> {
 }
 
 impl<B: Ledger> Pass<B> {
-    /// The number of lines that its caller added.
-    pub fn len(&self) -> usize
-        ensures { result ≡ added_by self.now }
-    {
-        self.receipts.len() + self.ran.len()
-    }
-
     /// The receipts of the caller's calls.
     pub fn receipts(&self) -> &[Receipt]
         ensures { result.now ≡ self.now.receipts }

@@ -88,7 +88,7 @@ fn shows_the_same_again(alloc: Global, bench: &Bench<Store>) -> Option<bool> {
 fn count_receipts<B: Ledger>(passes: &[Pass<B>]) -> usize {
     let mut count = 0usize;
     for pass in passes {
-        count = count.saturating_add(pass.len());
+        count = count.saturating_add(pass.receipts().len());
     }
     count
 }
