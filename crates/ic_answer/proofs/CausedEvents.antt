@@ -18,7 +18,7 @@ use Rattle.ic_theory.proofs.Restored.{rank-alike}
 use Rattle.ic_roster.specs.Rosters.{Stander}
 use Rattle.ic_set.specs.Orders.{AreInOrder, IsAny}
 use Rattle.ic_set.specs.Views.{events_of, standing}
-use Rattle.ic_set.proofs.InPlace.{in_at}
+use Rattle.ic_path.proofs.OnceLists.{pick_at}
 use Rattle.ic_journal.specs.Views.{BenchView, set_of}
 use Rattle.ic_journal.specs.Benches.{IsAt, IsBench}
 use Rattle.ic_journal.proofs.MachineSteps.{events_at}
@@ -65,7 +65,7 @@ more_caused v ids head old new i d h had more st at order fit named = by order f
         let x = get_or (z ∷ zs) i z in
         let is : x.id ≡ get_or ids i d = sym (get_or-map (λ (y : Stander). y.id) (z ∷ zs) i z d l) ∙ ap (λ us. get_or us i d) e in
         let f = had st at (z ∷ zs) fit e in
-        let a = more st at x (fit x (in_at (z ∷ zs) i z l)) is in
+        let a = more st at x (fit x (_, pick_at (z ∷ zs) i z l)) is in
         record {
           lines = f.lines ++ a.0 ∷ [];
           named = caused_push f.lines a.0 ∙ ap (λ us. us ++ a.0.event ∷ []) f.named ∙ ap (λ u. events_of (take i (z ∷ zs)) ++ u ∷ []) a.1

@@ -3,7 +3,7 @@ use Rattle.std.proofs.Common.{◌≡◌, ℕ, ◌+◌, ◌<◌, ◌≤◌, List,
 use Rattle.std.specs.List.{flat_map}
 use Rattle.std.proofs.lemmas.List.{take_more, take_all, get_or-map, flat_map_more, length-map}
 use Rattle.ic_path.specs.Orders.{IsIn}
-use Rattle.ic_set.proofs.InPlace.{in_at}
+use Rattle.ic_path.proofs.OnceLists.{pick_at}
 
 -- the lines of the first elements of a list are at the end of the text, whichever list it is of those that fit
 abbrev pub HasLines : {X Y : Type 0} → (X → Y) → (X → List ℕ) → (X → Type 0) → List Y → List ℕ → ℕ → List ℕ → Type 0
@@ -27,7 +27,7 @@ more_lines {X} key line P ys head old new i d h had more order fit named = by or
         let l = long (z ∷ zs) e in
         let x = get_or (z ∷ zs) i z in
         let is : key x ≡ get_or ys i d = sym (get_or-map key (z ∷ zs) i z d l) ∙ ap (λ us. get_or us i d) e in
-        more x (fit x (in_at (z ∷ zs) i z l)) is
+        more x (fit x (_, pick_at (z ∷ zs) i z l)) is
         ∙ ap (λ us. us ++ line x) (had (z ∷ zs) fit e)
         ∙ flat_map_more line head (take i (z ∷ zs)) x
         ∙ ap (λ us. head ++ flat_map line us) (sym (take_more (z ∷ zs) i z l))

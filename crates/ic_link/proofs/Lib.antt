@@ -9,3 +9,8 @@ pub mod Restored
 pub mod OnlyLink
 pub mod MoreMakers
 pub mod DroppedLinks
+pub mod InPlace
+pub mod AddedInTurn
+pub mod MadeLinks
+pub mod FirstJoins
+pub mod TakenBack

@@ -12,4 +12,4 @@ pub use ends::{ends_at, is_of, one_if_same, other_end};
 pub use laws::{has_room, there_and_back};
 pub use principals::{Principals, principals_of};
 pub use rows::LinkRows;
-pub use store::{Far, LinkStore};
+pub use store::{Far, LinkStore, MAX_JOINS};

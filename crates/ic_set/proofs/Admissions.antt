@@ -25,7 +25,8 @@ use Rattle.ic_set.specs.Sets.{IsStandingSet, IsKept}
 use Rattle.ic_set.specs.Pairs.{IsPairOf, AreActiveJoins, Awakes}
 use Rattle.ic_set.specs.Changes.{Admits, IsSame}
 use Rattle.ic_set.specs.Entering.{CanEnter, Enters}
-use Rattle.ic_set.specs.Joining.{made_links, AreJoins}
+use Rattle.ic_link.specs.Made.{AreJoins}
+use Rattle.ic_set.specs.Joining.{made_links}
 use Rattle.ic_set.specs.Admission.{AreCausesOf, IsRankOver, CanPutIn, PutsIn}
 use Rattle.ic_set.proofs.Namings.{own_lines_alike}
 use Rattle.ic_set.proofs.KeptOrders.{kept_alike}

@@ -21,8 +21,8 @@ use Rattle.ic_set.specs.declared.pairs.ActivePair.{ActivePair}
 use Rattle.ic_set.specs.Pairs.{IsActivePair, IsPairOf, IsBetween, AreBornPairs}
 use Rattle.ic_set.specs.Sets.{IsKept, IsStandingSet}
 use Rattle.ic_set.specs.Views.{SetView, standing}
-use Rattle.ic_set.proofs.InPlace.{in_at, place_of}
-use Rattle.ic_set.proofs.JoinsRead.{one_agent}
+use Rattle.ic_link.proofs.FirstJoins.{one_agent}
+use Rattle.ic_link.proofs.InPlace.{in_at, place_of}
 use Rattle.ic_set.proofs.LinkPlaces.{place_below}
 use Rattle.ic_set.proofs.LookedUp.{BetweenFound, BetweenAbsent, before_next, HasBoth, forth, back, has_both, between_each}
 use Rattle.ic_set.proofs.OverLinks.{EndAt, over_ends, ends_over}

@@ -15,7 +15,7 @@ use Rattle.ic_roster.specs.Rosters.{Member, IsNewName}
 use Rattle.ic_set.specs.declared.entering.NewAgent.{NewAgent}
 use Rattle.ic_set.specs.Views.{agent_of}
 use Rattle.ic_set.specs.Entering.{named_in, agents_in, CanEnter, Enters}
-use Rattle.ic_set.proofs.AddedInTurn.{one_more}
+use Rattle.ic_link.proofs.AddedInTurn.{one_more}
 
 -- at first none is entered
 pub enters_none : (ms : List Member) (serial : ℕ) → Enters ms [] serial [] ms

@@ -1,12 +1,14 @@
 -- Which pairs become active once an event is put in: those between agents whose principal ports its links join.
-use Rattle.std.proofs.Common.{◌≡◌, ◌≢◌, ◌+◌, ◌<◌, ◌≤◌, ◌⊎◌, inl, inr, ℕ, zero, suc, Bool, true, false, List, [], ◌∷◌, ◌++◌, length, length-append, ap, refl, sym, arith, subst, ◌∙◌, Option, Some}
+use Rattle.std.proofs.Common.{◌≡◌, ◌≢◌, ◌+◌, ◌<◌, ◌≤◌, ◌⊎◌, inl, inr, ℕ, zero, suc, Bool, true, false, List, [], ◌∷◌, ◌++◌, length, length-append, map, ap, refl, sym, arith, subst, ◌∙◌, Option, Some}
 use Rattle.std.specs.Prelude.{slice_index_or, leb}
 use Rattle.std.proofs.lemmas.Bool.{leb-true, leb-false}
+use Rattle.std.proofs.lemmas.List.{get_or-map, length-map}
 use Rattle.ic_name.specs.Names.{Name}
 use Rattle.ic_name.specs.Events.{Event}
 use Rattle.ic_name.specs.declared.ids.AgentId.{AgentId}
 use Rattle.ic_name.specs.declared.ids.EventId.{EventId}
 use Rattle.ic_name.specs.declared.ids.Link.{Link}
+use Rattle.ic_name.specs.declared.ids.Spot.{Spot}
 use Rattle.ic_name.specs.declared.ids.Spot.TheVariants.{Agent}
 use Rattle.ic_name.specs.declared.rules.RuleEnd.{RuleEnd}
 use Rattle.ic_name.specs.declared.rules.RuleEnd.TheVariants.{Child, Lead, Other}
@@ -18,13 +20,17 @@ use Rattle.ic_path.proofs.InLists.{in-append_cases, in-map, map_cases}
 use Rattle.ic_path.proofs.Orders.{degree-alike, far-alike, far-far, far_bare, slim-alike}
 use Rattle.ic_path.proofs.Picks.{in_first, in_more, in-cons_cases, none_in, pick_before}
 use Rattle.ic_link.specs.Links.{shape}
+use Rattle.ic_link.specs.Made.{AreJoins}
 use Rattle.ic_link.specs.declared.principals.Principals.{Principals}
+use Rattle.ic_link.proofs.FirstJoins.{one_agent}
+use Rattle.ic_link.proofs.InPlace.{in_at, at_seam}
+use Rattle.ic_link.proofs.MadeLinks.{no_spots, made_at, length_made}
 use Rattle.ic_theory.specs.Rules.{born_ends}
 use Rattle.ic_theory.proofs.Counts.{degree-append}
 use Rattle.ic_roster.specs.Rosters.{Member, Stander}
 use Rattle.ic_cause.proofs.SameEnds.{degree_is}
 use Rattle.ic_set.specs.declared.pairs.ActivePair.{ActivePair}
-use Rattle.ic_set.specs.Joining.{no_id, spot_of, made_links, AreJoins, HasDigit, HaveDigits}
+use Rattle.ic_set.specs.Joining.{no_id, spot_of, spots_of, made_links, HasDigit, HaveDigits}
 use Rattle.ic_set.specs.Pairs.{AreJoined, IsPairOf, IsBetween, AreActiveJoins, Awakes}
 use Rattle.ic_set.specs.Sets.{IsKept}
 use Rattle.ic_set.specs.Views.{SetView, standing, agent_of}
@@ -32,18 +38,11 @@ use Rattle.ic_set.proofs.ActivePairs.{joined_pair, one_id}
 use Rattle.ic_set.proofs.BornPorts.{born_once}
 use Rattle.ic_set.proofs.Children.{length-born, nth_child}
 use Rattle.ic_set.proofs.GrownSets.{Grows, up, no_child}
-use Rattle.ic_set.proofs.InPlace.{in_at}
 use Rattle.ic_set.proofs.JoinedInTurn.{Meets, joined_since, not_met, bare_first}
-use Rattle.ic_set.proofs.JoinsRead.{one_agent, kept_slim, joined_reads, reads_joined, absent_bare}
-use Rattle.ic_set.proofs.LinksMade.{made_at, length_made}
+use Rattle.ic_set.proofs.JoinsRead.{kept_slim, joined_reads, reads_joined, absent_bare}
 use Rattle.ic_set.proofs.Partners.{LeadsNone, joined_apart, joined_back, joined_unled}
 use Rattle.ic_set.proofs.RuleDigits.{rule_digits}
 use Rattle.ic_set.proofs.RuleEnds.{IsOuter, rule_outer, rule_inner}
-
--- what stands behind a list stands at the place of its length
-pub at_seam : {X : Type 0} (xs : List X) (y : X) (ys : List X) (d : X) → slice_index_or (xs ++ y ∷ ys) (length xs) d ≡ y
-at_seam [] y ys d = refl
-at_seam (x ∷ xs) y ys d = at_seam xs y ys d
 
 -- each link that an event makes comes of the ends of one
 made_ends : (d : EventId) (p : ActivePair) (born : List AgentId) (k : ℕ) (xs : List (RuleEnd × RuleEnd)) (l : Link) → IsIn l (made_links d p born k xs)
@@ -185,15 +184,15 @@ module _ (v w : SetView) (ls ls' : List Link) (k : IsKept v ls) (k' : IsKept w l
   late front back l split far_on a q =
       let no_ends : RuleEnd × RuleEnd = (Child 0 0, Child 0 0) in
       let i = length front in
-      let long = length_made d p born 0 ends in
+      let long = length_made d 0 (map (spots_of p born) ends) ∙ length-map ends (spots_of p born) in
       let whole = ap length split in
       let parts = length-append front (l ∷ back) in
       let here : i < length ends = omega (arith, long, whole, parts) in
       let its : slice_index_or made i l ≡ l = ap (λ xs. slice_index_or xs i l) split ∙ at_seam front l back l in
-      let is = made_at d p born ends i l no_ends here in
+      let is = made_at d (map (spots_of p born) ends) i l no_spots (omega (arith, length-map ends (spots_of p born), here)) in
       let inner = rule_inner v.start.profile e.lead_kind e.other_kind i far_on here in
       let digits = its_digits _ (in_at ends i no_ends here) in
-      let first : l.a ≡ spot_of p born (slice_index_or ends i no_ends).0 = ap (λ (m : Link). m.a) (sym its ∙ is) in
+      let first : l.a ≡ spot_of p born (slice_index_or ends i no_ends).0 = ap (λ (m : Link). m.a) (sym its ∙ is) ∙ ap (λ (x : Spot × Spot). x.0) (get_or-map (spots_of p born) ends i no_ends no_spots here) in
       let spot : l.a ≡ Agent (slice_index_or born inner.digit no_id) (suc inner.port) = first ∙ ap (spot_of p born) inner.child in
       let digit : HasDigit born (Child inner.digit (suc inner.port)) = subst (HasDigit born) inner.child digits.0 in
       let m = nth_child e born g.children g.are inner.digit digit in

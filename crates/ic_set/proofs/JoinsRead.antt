@@ -12,16 +12,13 @@ use Rattle.ic_link.specs.Links.{shape, IsFar}
 use Rattle.ic_link.specs.declared.store.Far.{Far}
 use Rattle.ic_link.specs.declared.store.Far.TheVariants as found
 use Rattle.ic_link.proofs.FarSpots.{end_far}
+use Rattle.ic_link.proofs.FirstJoins.{one_agent}
 use Rattle.ic_roster.specs.Rosters.{Member}
 use Rattle.ic_set.specs.Pairs.{AreJoined}
 use Rattle.ic_set.specs.Sets.{IsKept}
 use Rattle.ic_set.specs.Views.{SetView, standing}
 use Rattle.ic_set.proofs.Partners.{LeadsNone, joined_far, far_joined}
 use Rattle.ic_set.proofs.SlimSets.{slim_shown, none_unheld}
-
--- two agents of one spot are one
-pub one_agent : {a b : AgentId} {i j : ℕ} → Agent a i ≡ Agent b j → a ≡ b
-one_agent e = cc
 
 module _ (v : SetView) (ls : List Link) (k : IsKept v ls) where
   -- no spot has more than two link ends

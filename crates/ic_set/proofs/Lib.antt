@@ -1,7 +1,6 @@
 pub mod JoinedInTurn
 pub mod JoinsRead
 pub mod JoinedPairs
-pub mod FirstJoins
 pub mod BornPorts
 pub mod RuleEnds
 pub mod Namings
@@ -15,9 +14,6 @@ pub mod TakenOut
 pub mod LeastEvents
 pub mod LeastDependents
 pub mod RemovedAgents
-pub mod InPlace
-pub mod LinksMade
-pub mod AddedInTurn
 pub mod GrownNames
 pub mod EnteredInTurn
 pub mod NamedInTurn

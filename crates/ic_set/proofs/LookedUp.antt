@@ -16,7 +16,7 @@ use Rattle.ic_set.specs.Queues.{Leads}
 use Rattle.ic_set.specs.Sets.{IsStandingSet}
 use Rattle.ic_set.specs.Views.{SetView, NamedView}
 use Rattle.ic_set.proofs.ActivePairs.{one_id, one_name, joined_pair, joined_once, one_pair}
-use Rattle.ic_set.proofs.InPlace.{in_at, place_of}
+use Rattle.ic_link.proofs.InPlace.{in_at, place_of}
 use Rattle.ic_set.proofs.LedPairs.{second_leads_none}
 use Rattle.ic_set.proofs.Partners.{joined_back, joined_unled}
 use Rattle.ic_set.proofs.QueuedLeads.{IsOf}

@@ -1,5 +1,5 @@
 -- The links that an event makes, by ids and by names.
-use Rattle.std.proofs.Common.{◌≡◌, ◌≢◌, ℕ, ◌+◌, ◌<◌, ◌≤◌, true, false, List, [], ◌∷◌, ◌++◌, map, length, ◌⊎◌, inl, inr, Some, refl, sym, ap, arith, subst}
+use Rattle.std.proofs.Common.{◌≡◌, ◌≢◌, ℕ, ◌+◌, ◌<◌, true, false, List, [], ◌∷◌, ◌++◌, map, length, ◌⊎◌, inl, inr, Some, refl, sym, ap, arith, subst}
 use Rattle.std.specs.Prelude.{slice_index_or}
 use Rattle.ic_name.specs.Names.{child_name}
 use Rattle.ic_name.specs.Events.{Event}
@@ -17,28 +17,17 @@ use Rattle.ic_path.proofs.Degrees.{slim-pick}
 use Rattle.ic_path.proofs.Picks.{none_in, in_first, in_more, in-cons_cases}
 use Rattle.ic_link.specs.Links.{shape, IsLawful}
 use Rattle.ic_link.proofs.Lawful.{lawful-alike, lawful-added}
+use Rattle.ic_link.proofs.MadeLinks.{its_made}
 use Rattle.ic_theory.specs.Born.{placed, port_of}
 use Rattle.ic_theory.proofs.Future.{pick_part}
 use Rattle.ic_cause.specs.Naming.{Naming, IsHeld, link_of, port_of as port_under}
 use Rattle.ic_cause.proofs.OnePort.{HasSpot}
 use Rattle.ic_path.proofs.ListEnds.{last_first}
 use Rattle.ic_set.specs.declared.pairs.ActivePair.{ActivePair}
-use Rattle.ic_set.specs.Joining.{no_id, spot_of, made_links, HasDigit, HaveDigits}
+use Rattle.ic_set.specs.Joining.{no_id, spot_of, spots_of, made_links, HasDigit, HaveDigits}
 use Rattle.ic_name.proofs.SameFacts.{same_event_self}
 
 module _ (d : EventId) (p : ActivePair) (born : List AgentId) where
-  -- the event makes each of them, from its place on
-  pub its_made : (k : ℕ) (ends : List (RuleEnd × RuleEnd)) (l : Link) → IsIn l (made_links d p born k ends) → (l.id.maker ≡ maker.Event d) × (k ≤ l.id.place)
-  its_made k [] l i = absurd (none_in i)
-  its_made k (x ∷ xs) l i = elim (in-cons_cases i) [
-    | inl e ↦ (ap (λ m. m.id.maker) e, (let same : l.id.place ≡ k = ap (λ (m : Link). m.id.place) e in omega arith))
-    | inr j ↦ (let ih = its_made (k + 1) xs l j in (ih.0, (let low = ih.1 in omega arith)))
-  ]
-
-  -- so they pass its test
-  pub its_made_by : (k : ℕ) (ends : List (RuleEnd × RuleEnd)) (l : Link) → IsIn l (made_links d p born k ends) → made_by d l ≡ true
-  its_made_by k ends l i = let e = (its_made k ends l i).0 in rw e (same_event_self d)
-
   -- with links that others made they are lawful where they are slim
   pub lawful_made : (ls : List Link) → IsLawful ls → ((l : Link) → IsIn l ls → made_by d l ≡ false) → (k : ℕ) (ends : List (RuleEnd × RuleEnd))
       → IsSlim shape (made_links d p born k ends ++ ls) → IsLawful (made_links d p born k ends ++ ls)
@@ -50,7 +39,7 @@ module _ (d : EventId) (p : ActivePair) (born : List AgentId) where
       lawful-alike (last_first l rest) (lawful-added rest l ih (record { fresh = λ m i. fresh m (pick_part (made_links d p born (k + 1) xs) ls i.1); room = thin }))
     where
       fresh : (m : Link) → IsIn m (made_links d p born (k + 1) xs) ⊎ IsIn m ls → m.id ≢ record { maker = maker.Event d; place = k }
-      fresh m (inl i) e = let low = (its_made (k + 1) xs m i).1 in let same : m.id.place ≡ k = ap (λ y. y.place) e in omega arith
+      fresh m (inl i) e = let low = (its_made d (k + 1) (map (spots_of p born) xs) m i).1 in let same : m.id.place ≡ k = ap (λ y. y.place) e in omega arith
       fresh m (inr i) e =
           let same : m.id.maker ≡ maker.Event d = ap (λ y. y.maker) e in
           let its : made_by d m ≡ true = rw same (same_event_self d) in

@@ -7,7 +7,7 @@ use Rattle.ic_name.specs.declared.kinds.Kind.{Kind}
 use Rattle.ic_theory.specs.Born.{named}
 use Rattle.ic_set.specs.declared.entering.NewAgent.{NewAgent}
 use Rattle.ic_set.specs.Entering.{named_in, agents_in}
-use Rattle.ic_set.proofs.InPlace.{split_at}
+use Rattle.ic_link.proofs.InPlace.{split_at}
 
 -- the last of them has the name of its place
 named_behind : (name : ℕ → Name) (k : ℕ) (xs : List Kind) (x : Kind) → named name k (xs ++ x ∷ []) ≡ named name k xs ++ (name (k + length xs), x) ∷ []

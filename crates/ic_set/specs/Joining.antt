@@ -1,16 +1,14 @@
--- Links by ids, and what they join as they are put in.
-use Rattle.std.specs.Prelude.{◌≡◌, ◌<◌, ℕ, ◌+◌, List, [], ◌∷◌, ◌++◌, length, slice_index_or, Option, Some}
+-- Links by ids.
+use Rattle.std.specs.Prelude.{◌<◌, ℕ, List, length, map, slice_index_or}
 use Rattle.ic_name.specs.declared.ids.AgentId.{AgentId}
 use Rattle.ic_name.specs.declared.ids.EventId.{EventId}
 use Rattle.ic_name.specs.declared.ids.Link.{Link}
-use Rattle.ic_name.specs.declared.ids.MakerId.TheVariants as maker
 use Rattle.ic_name.specs.declared.ids.Spot.{Spot}
 use Rattle.ic_name.specs.declared.ids.Spot.TheVariants as spot
 use Rattle.ic_name.specs.declared.rules.RuleEnd.{RuleEnd}
 use Rattle.ic_name.specs.declared.rules.RuleEnd.TheVariants.{Child, Lead, Other}
 use Rattle.ic_path.specs.Orders.{IsIn}
-use Rattle.ic_link.specs.Links.{JoinsPrincipals}
-use Rattle.ic_link.specs.declared.principals.Principals.{Principals}
+use Rattle.ic_link.specs.Made.{made_between}
 use Rattle.ic_set.specs.declared.pairs.ActivePair.{ActivePair}
 
 -- no agent
@@ -31,10 +29,13 @@ spot_of p born (Child i j) = spot.Agent (slice_index_or born i no_id) j
 spot_of p born (Lead j) = spot.Agent p.lead j
 spot_of p born (Other j) = spot.Agent p.other j
 
+-- the spots that two ends of a rule are
+abbrev pub spots_of : ActivePair → List AgentId → RuleEnd × RuleEnd → Spot × Spot
+spots_of p born x = (spot_of p born x.0, spot_of p born x.1)
+
 -- the links that an event makes, by place from k on
 abbrev pub made_links : EventId → ActivePair → List AgentId → ℕ → List (RuleEnd × RuleEnd) → List Link
-made_links e p born k [] = []
-made_links e p born k (x ∷ xs) = record { id = record { maker = maker.Event e; place = k }; a = spot_of p born x.0; b = spot_of p born x.1 } ∷ made_links e p born (k + 1) xs
+made_links e p born k ends = made_between e k (map (spots_of p born) ends)
 
 -- the end is one of a child that has an id, or of the pair
 abbrev pub HasDigit : List AgentId → RuleEnd → Type 0
@@ -53,8 +54,3 @@ HasNumber ids (spot.Name j) = Unit {0}
 
 abbrev pub HaveNumbers : List AgentId → List Link → Type 0
 HaveNumbers ids links = (l : Link) → IsIn l links → HasNumber ids l.a × HasNumber ids l.b
-
--- What the first four of some links join, as they are put in one after the other: each pair of principal ports, and no other.
-pub record AreJoins (old made : List Link) (joins : List (Option Principals)) : Type 0 where
-  pub each : (front back : List Link) (l : Link) (j : Principals) → made ≡ front ++ l ∷ back → length front < 4 → JoinsPrincipals (front ++ old) l (Some j) → IsIn (Some j) joins
-  pub only : (j : Principals) → IsIn (Some j) joins → (front : List Link) × (back : List Link) × (l : Link) × (made ≡ front ++ l ∷ back) × JoinsPrincipals (front ++ old) l (Some j)

@@ -6,6 +6,7 @@ ghost use Rattle.ic_name.specs.declared.limits.TheConstants.{MAX_LINES};
 ghost use Rattle.ic_name.specs.Spots.{made_by};
 ghost use Rattle.ic_path.specs.Orders.{IsIn, Alike};
 ghost use Rattle.ic_link.specs.Links.{IsLawful};
+ghost use Rattle.ic_link.specs.Made.{AreJoins};
 ghost use Rattle.ic_theory.specs.Born.{born_agents};
 ghost use Rattle.ic_theory.specs.Machine.{IsDeep};
 ghost use Rattle.ic_theory.specs.Rules.{born_kinds};
@@ -13,17 +14,17 @@ ghost use Rattle.ic_roster.specs.Rosters.{Stander, event_in, IsNamed};
 ghost use Rattle.ic_set.specs.Admission.{AreCausesOf, IsRankOver, CanPutIn, PutsIn, LeavesAll};
 ghost use Rattle.ic_set.specs.Changes.{Admits, IsSame};
 ghost use Rattle.ic_set.specs.Entering.{CanEnter, Enters, GrowsBy};
-ghost use Rattle.ic_set.specs.Joining.{made_links, AreJoins, HaveDigits};
+ghost use Rattle.ic_set.specs.Joining.{made_links, HaveDigits};
 ghost use Rattle.ic_set.specs.Pairs.{IsPairOf, IsActivePair, Awakes};
 ghost use Rattle.ic_set.specs.Removal.{Stands};
 
 use crate::bare::BareSet;
 use crate::entering::{enter_children, remove_all};
 use crate::firing::Firing;
-use crate::joining::{MAX_JOINS, add_made};
+use crate::joining::{MAX_LINKS, NO_SPOT, write_spots};
 use crate::pairs::ActivePair;
 use ic_cause::{direct_causes, rank_with};
-use ic_link::{LinkStore, Principals};
+use ic_link::{LinkStore, MAX_JOINS, Principals};
 use ic_name::{AgentId, EventId, Kind};
 use ic_roster::{Interaction, Roster, StandingEntry};
 use ic_start::outcome;
@@ -207,9 +208,7 @@ fn put_links<L: LinkStore>(
     ensures joins { OnOk result (AreJoins (L.links store.old) (made_links event firing.now.pair firing.now.born.now 0 firing.now.ends.now) joins.new) }
     ensures unchanged { OnErr result (Alike (L.links store.old) (L.links store.new)) }
 {
-    let Ok(()) = add_made(store, event, firing, joins) else {
-        store.take_of(event);
-        return Err(AllocError);
-    };
-    Ok(())
+    let mut spots = [(NO_SPOT, NO_SPOT); MAX_LINKS];
+    write_spots(firing, &mut spots);
+    store.put_made(event, &spots[..firing.ends.len()], joins)
 }

@@ -1,14 +1,14 @@
-ghost use Rattle.std.specs.Prelude.{◌≡◌, ◌≤◌, ◌++◌, List, length, map, OnOk, OnErr};
+ghost use Rattle.std.specs.Prelude.{◌≡◌, ◌≤◌, ◌++◌, List, length, take, map, OnOk, OnErr};
 ghost use Rattle.ic_name.specs.declared.ids.Link.{Link as ALink};
 ghost use Rattle.ic_path.specs.Orders.{Alike};
 ghost use Rattle.ic_path.specs.Links.{IsSlim};
 ghost use Rattle.ic_link.specs.Links.{shape, HaveOwnIds};
-ghost use Rattle.ic_set.specs.Joining.{moved_spot as spot_moved, moved_link, made_links, spot_of as spot_at, AreJoins, HasDigit, HaveDigits, HasNumber, HaveNumbers};
+ghost use Rattle.ic_set.specs.Joining.{moved_spot as spot_moved, moved_link, spot_of as spot_at, spots_of, HasDigit, HaveDigits, HasNumber, HaveNumbers};
 
 use crate::firing::Firing;
 use crate::pairs::ActivePair;
-use ic_link::{LinkStore, Principals};
-use ic_name::{AgentId, EventId, Link, LinkId, MakerId, RuleEnd, Spot};
+use ic_link::LinkStore;
+use ic_name::{AgentId, Link, RuleEnd, Spot};
 use ic_start::StartLinks;
 use std::alloc::AllocError;
 
@@ -38,44 +38,25 @@ pub(crate) fn add_start<L: LinkStore>(
     Ok(())
 }
 
-/// How many links of an event can join principal ports, at most: its first ones.
-pub(crate) const MAX_JOINS: usize = 4;
+/// How many links an event makes, at most.
+pub(crate) const MAX_LINKS: usize = 8;
 
-/// Puts in the links that an event makes, between its two agents and its children, by place, and writes into `joins` which
-/// principal ports the first of them join. At an error some of them may have been put in, from the first one on.
-pub(crate) fn add_made<L: LinkStore>(
-    store: &mut L,
-    event: EventId,
-    firing: &Firing<'_>,
-    joins: &mut [Option<Principals>; MAX_JOINS],
-) -> Result<(), AllocError>
+/// What stands where no spot is written yet.
+pub(crate) const NO_SPOT: Spot = Spot::Name(0);
+
+/// Writes the spots between which an event makes its links, by place, from the first place on.
+pub(crate) fn write_spots(firing: &Firing<'_>, spots: &mut [(Spot, Spot); MAX_LINKS])
     requires digits { HaveDigits firing.now.born.now firing.now.ends.now }
     requires few { length firing.now.ends.now ≤ 8 }
-    requires slim { IsSlim shape (made_links event firing.now.pair firing.now.born.now 0 firing.now.ends.now ++ L.links store.old) }
-    requires own_ids { HaveOwnIds (made_links event firing.now.pair firing.now.born.now 0 firing.now.ends.now ++ L.links store.old) }
-    ensures added { OnOk result (Alike (made_links event firing.now.pair firing.now.born.now 0 firing.now.ends.now ++ L.links store.old) (L.links store.new)) }
-    ensures joins { OnOk result (AreJoins (L.links store.old) (made_links event firing.now.pair firing.now.born.now 0 firing.now.ends.now) joins.new) }
-    ensures some { OnErr result ((front back : List ALink) × (made_links event firing.now.pair firing.now.born.now 0 firing.now.ends.now ≡ front ++ back) × Alike (front ++ L.links store.old) (L.links store.new)) }
+    ensures { take (length firing.now.ends.now) spots.new ≡ map (spots_of firing.now.pair firing.now.born.now) firing.now.ends.now }
 {
-    *joins = [None; MAX_JOINS];
     for place in 0..firing.ends.len() {
         let (a, b) = firing.ends[place];
-        let id = LinkId {
-            maker: MakerId::Event(event),
-            place: place as u32,
-        };
-        let link = Link {
-            id,
-            a: spot_of(firing.pair, firing.born, a),
-            b: spot_of(firing.pair, firing.born, b),
-        };
-        if place < MAX_JOINS {
-            joins[place] = store.join(link)?;
-        } else {
-            store.add(link)?;
-        }
+        spots[place] = (
+            spot_of(firing.pair, firing.born, a),
+            spot_of(firing.pair, firing.born, b),
+        );
     }
-    Ok(())
 }
 
 /// A spot of a start, with the agent under the id that has its number.

@@ -2,7 +2,7 @@
 use Rattle.std.proofs.Common.{◌≡◌, ℕ, suc, ◌<◌, List, [], ◌∷◌, ◌++◌, length, map, get_or, refl, sym, ap, arith, ◌∙◌}
 use Rattle.std.proofs.lemmas.List.{length-map, map-append, get_or_append_left, get_or_push, get_or-map}
 use Rattle.ic_path.specs.Orders.{Pick, here, there, IsIn}
-use Rattle.ic_set.proofs.InPlace.{in_at}
+use Rattle.ic_link.proofs.InPlace.{in_at}
 use Rattle.ic_trace.specs.declared.known.Known.{Known}
 use Rattle.ic_trace.specs.Known.{events_in, event_at, rank_at}
 

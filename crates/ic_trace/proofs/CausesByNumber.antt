@@ -2,7 +2,7 @@
 use Rattle.std.proofs.Common.{◌≡◌, ◌↔◌, ℕ, ◌<◌, ◌⊎◌, Bool, true, false, not, List, length, get_or, inl, inr, refl, sym, ap, subst}
 use Rattle.std.specs.Prelude.{IsTrue}
 use Rattle.ic_path.specs.Orders.{IsIn}
-use Rattle.ic_set.proofs.InPlace.{in_at}
+use Rattle.ic_link.proofs.InPlace.{in_at}
 use Rattle.ic_path.proofs.InLists.{map_cases, in-map}
 use Rattle.ic_theory.specs.Starts.{Start, IsProper}
 use Rattle.ic_theory.specs.Causes.{IsCause}

@@ -5,7 +5,7 @@ use Rattle.ic_name.specs.declared.kinds.Kind.TheVariants.{Gamma}
 use Rattle.ic_path.proofs.Alikes.{alike_self, alike_back}
 use Rattle.ic_path.proofs.Errors.{at_error}
 use Rattle.ic_set.specs.declared.entering.NewAgent.{NewAgent}
-use Rattle.ic_set.proofs.InPlace.{split_at}
+use Rattle.ic_link.proofs.InPlace.{split_at}
 use Rattle.ic_set.proofs.EnteredInTurn.{enters_none, next_can, next_enters}
 use Rattle.ic_set.proofs.entering.enter_all.Goals as goal
 

@@ -5,7 +5,7 @@ use Rattle.ic_path.proofs.Alikes.{alike_self}
 use Rattle.ic_path.proofs.Errors.{at_error}
 use Rattle.ic_link.specs.Links.{CanAdd}
 use Rattle.ic_set.specs.Joining.{moved_link}
-use Rattle.ic_set.proofs.AddedInTurn.{next_in, can_add_next}
+use Rattle.ic_link.proofs.AddedInTurn.{next_in, can_add_next}
 use Rattle.ic_set.proofs.StartLinks.{moved_at, numbered_at}
 use Rattle.ic_set.proofs.joining.add_start.Goals as goal
 

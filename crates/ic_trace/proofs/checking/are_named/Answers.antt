@@ -1,6 +1,6 @@
 use Rattle.std.proofs.Common.{◌≡◌, ℕ, ◌<◌, List, length, map, get_or, sym, ap, arith, ◌∙◌}
 use Rattle.std.proofs.lemmas.List.{get_or-map, length-map}
-use Rattle.ic_set.proofs.InPlace.{in_at}
+use Rattle.ic_link.proofs.InPlace.{in_at}
 use Rattle.ic_trace.specs.declared.known.Known.{Known}
 use Rattle.ic_trace.specs.declared.lists.Letter.{Letter}
 use Rattle.ic_trace.specs.declared.reading.Step.{Step}

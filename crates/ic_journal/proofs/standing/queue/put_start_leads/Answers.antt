@@ -8,7 +8,7 @@ use Rattle.ic_names.specs.Tables.{name_at}
 use Rattle.ic_path.specs.Orders.{IsIn}
 use Rattle.ic_path.proofs.Picks.{none_in}
 use Rattle.ic_roster.specs.Rosters.{Stander, HaveOwnLines}
-use Rattle.ic_set.proofs.InPlace.{in_at}
+use Rattle.ic_link.proofs.InPlace.{in_at}
 use Rattle.ic_set.proofs.Namings.{same_stander}
 use Rattle.ic_set.proofs.QueuedLeads.{still_queued}
 use Rattle.ic_journal.proofs.TakenElements.{in_dropped}

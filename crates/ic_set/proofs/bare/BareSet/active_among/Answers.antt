@@ -5,7 +5,7 @@ use Rattle.ic_name.specs.Events.{Event}
 use Rattle.ic_names.specs.declared.queue.Lead.{Lead}
 use Rattle.ic_set.specs.declared.pairs.ActivePair.{ActivePair}
 use Rattle.ic_set.specs.Views.{NamedView}
-use Rattle.ic_set.proofs.InPlace.{in_at}
+use Rattle.ic_link.proofs.InPlace.{in_at}
 use Rattle.ic_set.proofs.LedPairs.{LedBy, nothing, led_passes, led_more, is_less_lead, less_leads_order, moved_inside, led_pairs}
 use Rattle.ic_set.proofs.bare.BareSet.active_among.Goals.{in-Some+in_ok-push, in_default}
 use Rattle.ic_set.proofs.bare.BareSet.active_among.Goals as goal

@@ -4,7 +4,7 @@ use Rattle.std.proofs.lemmas.List.Elements.{All-push}
 use Rattle.ic_name.specs.declared.ids.EventId.{EventId}
 use Rattle.ic_roster.specs.Rosters.{event_in}
 use Rattle.ic_set.specs.Placed.{IsPlaced}
-use Rattle.ic_set.proofs.InPlace.{in_at}
+use Rattle.ic_link.proofs.InPlace.{in_at}
 use Rattle.ic_set.proofs.bare.BareSet.placed.Goals as goal
 
 pub unreachable-requires : goal.unreachable-requires

@@ -5,7 +5,7 @@ use Rattle.ic_path.specs.Orders.{IsIn}
 use Rattle.ic_roster.specs.Rosters.{event_in, Stander, HaveOwnLines}
 use Rattle.ic_set.specs.Views.{NamedView}
 use Rattle.ic_set.proofs.CauseRanks.{rank_over_none, rank_more}
-use Rattle.ic_set.proofs.InPlace.{in_at}
+use Rattle.ic_link.proofs.InPlace.{in_at}
 use Rattle.ic_set.proofs.bare.BareSet.rank_over.Goals as goal
 
 pub loop-cause-init : goal.loop-cause-init

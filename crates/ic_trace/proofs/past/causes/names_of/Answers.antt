@@ -6,7 +6,7 @@ use Rattle.ic_path.specs.Orders.{IsIn}
 use Rattle.ic_path.proofs.Picks.{in-cons_cases, none_in}
 use Rattle.ic_roster.specs.Rosters.{Stander, event_in}
 use Rattle.ic_theory.proofs.Future.{pick_part}
-use Rattle.ic_set.proofs.InPlace.{in_at}
+use Rattle.ic_link.proofs.InPlace.{in_at}
 use Rattle.ic_trace.proofs.past.causes.names_of.Goals as goal
 
 -- what is at the end of a list is the last element, or before it

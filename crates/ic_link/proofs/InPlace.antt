@@ -1,5 +1,5 @@
 -- Elements of a list by their places.
-use Rattle.std.proofs.Common.{◌≡◌, inl, inr, ℕ, zero, suc, ◌+◌, ◌<◌, List, [], ◌∷◌, ◌++◌, take, drop, length, arith, ap, sym, ◌∙◌}
+use Rattle.std.proofs.Common.{◌≡◌, inl, inr, ℕ, zero, suc, ◌+◌, ◌<◌, List, [], ◌∷◌, ◌++◌, take, drop, length, arith, ap, refl, sym, ◌∙◌}
 use Rattle.std.specs.Prelude.{slice_index_or}
 use Rattle.std.proofs.lemmas.List.{drop_more, take-append-drop}
 use Rattle.ic_path.specs.Orders.{IsIn}
@@ -22,3 +22,8 @@ place_of (y ∷ xs) d i = elim (in-cons_cases i) [
   | inl e ↦ (0, omega arith, sym e)
   | inr j ↦ (let r = place_of xs d j in (suc r.0, (let h = r.1 in omega arith), r.2))
 ]
+
+-- what stands behind a list stands at the place of its length
+pub at_seam : {X : Type 0} (xs : List X) (y : X) (ys : List X) (d : X) → slice_index_or (xs ++ y ∷ ys) (length xs) d ≡ y
+at_seam [] y ys d = refl
+at_seam (x ∷ xs) y ys d = at_seam xs y ys d
