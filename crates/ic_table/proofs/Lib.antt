@@ -58,3 +58,7 @@ mod JoinedStarts
 mod ClearedRows
 mod StrippedRecords
 mod SweptRecords
+pub mod FilledEvents
+pub mod EnteredEvents
+pub mod GivenRooms
+pub mod MadeAtOnce

@@ -1,6 +1,6 @@
-ghost use Rattle.std.specs.Prelude.{◌≡◌, ◌≢◌, ◌==◌, ℕ, ◌+◌, ◌*◌, ◌<◌, ◌≤◌, length, Some, None, IsSome, IsTrue, IsFalse, IfOk, IfSome, IfNone, OnErr, if◌then◌else◌};
+ghost use Rattle.std.specs.Prelude.{◌≡◌, ◌≢◌, ◌==◌, ℕ, ◌+◌, ◌*◌, ◌<◌, ◌≤◌, length, Some, None, IsSome, IsTrue, IsFalse, IfOk, IfSome, IfNone, OnErr, slice_set, if◌then◌else◌};
 ghost use Rattle.ic_table.specs.RowSlots.{Fills, HasSpots, HasLinkOf, HasNoneOf, HasLinkAt, HasNoneAt, SameIn};
-ghost use Rattle.ic_table.specs.EventRows.{row_at, event_row, event_rows, links_at, most_events, AreShort, IsLastOf, PutsAt};
+ghost use Rattle.ic_table.specs.EventRows.{row_at, event_row, event_rows, links_at, most_events, AreShort, IsFree, IsLastOf, PutsAt};
 
 use crate::link_records::LinkRecord;
 use crate::link_records::event_links::EventLinks;
@@ -37,6 +37,20 @@ fn lengthen(records: &mut Vec<EventLinks>, slot: u32) -> Result<bool, AllocError
     }
     records.resize(slots_up_to(slot), EventLinks::vacant())?;
     Ok(true)
+}
+
+/// Makes a record for the event slot if it has none. `false` if the record has links, or if the slot is far beyond the others.
+fn make_free(records: &mut Vec<EventLinks>, slot: u32) -> Result<bool, AllocError>
+    requires { length records.old.items ≤ most_events }
+    ensures few { length records.new.items ≤ most_events }
+    ensures same { (n : ℕ) → links_at records.new.items n ≡ links_at records.old.items n }
+    ensures free { IfOk result (λ free. IsTrue free → IsFree records.new.items slot) }
+{
+    let number = slot as usize;
+    if number >= records.len() && !lengthen(records, slot)? {
+        return Ok(false);
+    }
+    Ok(records[number].len == 0)
 }
 
 /// Puts a link into the record of its event. `false` if it finds no place there.
@@ -153,6 +167,32 @@ impl EventRecords {
         }
         self.count += 1;
         Ok(Some(8 * event.slot + place))
+    }
+
+    /// Makes a record for the event if its slot has none. `false` if the record has links, or if the slot is far beyond the
+    /// others. The links stay the same.
+    #[inline(always)]
+    pub fn reserve(&mut self, event: EventId) -> Result<bool, AllocError>
+        ensures same { SameIn (event_row self.old) (event_row self.new) }
+        ensures free { IfOk result (λ free. IsTrue free → IsFree self.new event.slot) }
+        ensures few { length self.new ≤ most_events }
+    {
+        make_free(&mut self.records, event.slot)
+    }
+
+    /// Writes all links of an event into its record, by place: so many, with their spots in these slots.
+    #[inline(always)]
+    pub fn fill(&mut self, event: EventId, len: u32, ends: &[TwoSlots; 8])
+        requires free { IsFree self.old event.slot }
+        requires few { len ≤ 8 }
+        ensures { self.new ≡ slice_set self.old event.slot (record { line = event.line; len = len; ends = ends.now }) }
+    {
+        self.records[event.slot as usize] = EventLinks {
+            line: event.line,
+            len,
+            ends: *ends,
+        };
+        self.count += len as usize;
     }
 
     /// The slot of the last link of the event, if its record has one.
