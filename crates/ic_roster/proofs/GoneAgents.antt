@@ -1,11 +1,15 @@
 -- What is left of the agents as those under some ids go.
-use Rattle.std.proofs.Common.{◌≡◌, ◌≢◌, ◌↔◌, List, [], ◌∷◌, ◌⊎◌, inl, inr, refl, sym, ap, subst, ◌∙◌}
+use Rattle.std.proofs.Common.{◌≡◌, ◌≢◌, ◌↔◌, List, [], ◌∷◌, map, ◌⊎◌, inl, inr, refl, sym, ap, subst, ◌∙◌}
 use Rattle.ic_path.specs.Orders.{here, Alike, IsIn}
 use Rattle.ic_path.proofs.Picks.{none_in, in_first, in_more, in-cons_cases}
 use Rattle.ic_path.proofs.Alikes.{alike_pick, alike_back, alike-in}
 use Rattle.ic_name.specs.declared.ids.AgentId.{AgentId}
 use Rattle.ic_roster.specs.declared.agent_records.PlacedAgent.{PlacedAgent}
-use Rattle.ic_roster.specs.Placed.{HaveOwnPlaces}
+use Rattle.ic_roster.specs.Placed.{HaveOwnPlaces, member_in}
+use Rattle.ic_roster.specs.Rosters.{Loses}
+use Rattle.ic_roster.proofs.Images.{each_image}
+use Rattle.ic_path.proofs.InLists.{in-map}
+use Rattle.ic_name.specs.Names.{Name}
 use Rattle.ic_name.proofs.SameFacts.{one_agent}
 
 -- an agent of the list has the id, or none has
@@ -46,3 +50,10 @@ next_goes old new first id rest ids goes was m = (
 -- once all have gone, those of the list are left
 pub all_left : (now first : List PlacedAgent) (none ids : List AgentId) → none ≡ [] → ((m : PlacedAgent) → IsLeft now none m ↔ IsLeft first ids m) → (m : PlacedAgent) → IsIn m now ↔ IsLeft first ids m
 all_left now first none ids e was m = (λ i. (was m).0 (i, λ j. none_in (subst (λ ds. IsIn m.id ds) e j)), λ h. ((was m).1 h).0)
+
+-- what holds of the agents by their places holds of them with their names
+pub lost_named : (ns : List Name) (old new : List PlacedAgent) (ids : List AgentId) → ((m : PlacedAgent) → IsIn m new ↔ IsLeft old ids m) → Loses ids (map (member_in ns) old) (map (member_in ns) new)
+lost_named ns old new ids left m = (
+  each_image (member_in ns) new (λ n. IsIn n (map (member_in ns) old) × (IsIn n.id ids → ⊥)) (λ x i. (let h = (left x).0 i in (in-map (member_in ns) h.0, h.1))) m,
+  λ h. each_image (member_in ns) old (λ n. (IsIn n.id ids → ⊥) → IsIn n (map (member_in ns) new)) (λ x i free. in-map (member_in ns) ((left x).1 (i, free))) m h.0 h.1,
+)

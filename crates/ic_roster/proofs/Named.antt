@@ -1,6 +1,6 @@
 -- Agents and events with the names at their places.
 use Rattle.std.proofs.Common.{◌≡◌, ◌≢◌, ◌↔◌, ℕ, ◌<◌, List, ◌∷◌, [], map, length, Option, Some, None, Result, Ok, Err, inl, inr, refl, sym, ap, subst, ◌∙◌}
-use Rattle.std.specs.Prelude.{IfOk, OnErr}
+use Rattle.std.specs.Prelude.{IfOk, OnErr, IsSomeAnd}
 use Rattle.ic_path.specs.Orders.{Alike, IsIn}
 use Rattle.ic_path.proofs.Picks.{in_picked, in-cons_cases}
 use Rattle.ic_path.proofs.Alikes.{alike-in, alike_back}
@@ -9,11 +9,10 @@ use Rattle.ic_name.specs.declared.ids.EventId.{EventId}
 use Rattle.ic_names.specs.declared.table.NameId.{NameId}
 use Rattle.ic_names.specs.Tables.{name_at, StandsAt, IsAbsent, IsTable, Enters, GrowsUpTo}
 use Rattle.ic_names.proofs.Growing.{entered_keeps, grown_keeps}
-use Rattle.ic_roster.specs.declared.events.GoneEvent.{GoneEvent}
 use Rattle.ic_roster.specs.declared.interaction.Interaction.{Interaction}
 use Rattle.ic_roster.specs.declared.agent_records.PlacedAgent.{PlacedAgent}
-use Rattle.ic_roster.specs.Rosters.{HaveOwnNames, IsNewName, Stander, HaveOwnLines, IsNewEvent, event_in, IsNamed, IsHanded}
-use Rattle.ic_roster.specs.Placed.{PlacedEvent, HaveOwnPlaces, IsNewPlace, HaveOwnKeys, IsNewKey, IsGiven, member_in, stander_in, AreNamed}
+use Rattle.ic_roster.specs.Rosters.{HaveOwnNames, IsNewName, Stander, HaveOwnLines, IsNewEvent, event_in, IsNamed}
+use Rattle.ic_roster.specs.Placed.{PlacedEvent, HaveOwnPlaces, IsNewPlace, HaveOwnKeys, IsNewKey, member_in, stander_in, AreNamed}
 use Rattle.ic_roster.proofs.Images.{picked_image, each_image, two_images}
 use Rattle.ic_path.proofs.InLists.{map_agrees, in-map}
 
@@ -147,10 +146,10 @@ new_place ns xs place fresh x i e = fresh (member_in ns x) (in-map (member_in ns
 pub new_key : (ns : List Name) (es : List PlacedEvent) (line : ℕ) (i : Interaction) → IsNewEvent (map (stander_in ns) es) line (event_in ns i) → IsNewKey es line i.lead.place
 new_key ns es line i fresh x j = let n = fresh (stander_in ns x) (in-map (stander_in ns) j) in (n.0, λ e. n.1 (ap (name_at ns) e))
 
--- what is given of an event that is named is handed out with its name
-pub handed_of_given : (ns : List Name) (x : PlacedEvent) (o : Option GoneEvent) → IsNamed ns x.interaction → IsGiven x o → IsHanded ns (stander_in ns x) o
-handed_of_given ns x None named h = h
-handed_of_given ns x (Some gone) named h = (subst (λ (n : NameId). n.place < length ns) (sym h.0) named.lead, ap (λ (n : NameId). name_at ns n.place) h.0, h.1)
+-- the place of the lead of an event that is named is that of its name
+pub lead_named : (ns : List Name) (x : PlacedEvent) (o : Option NameId) → IsNamed ns x.interaction → IsSomeAnd o (λ lead. lead ≡ x.interaction.lead) → IsSomeAnd o (λ lead. StandsAt ns (stander_in ns x).event.lead lead.place)
+lead_named ns x None named h = absurd h
+lead_named ns x (Some lead) named h = record { within = subst (λ (n : NameId). n.place < length ns) (sym h) named.lead; named = ap (λ (n : NameId). name_at ns n.place) h }
 
 -- the ids of the events with their names
 pub stander_ids : (ns : List Name) (es : List PlacedEvent) → map (λ (x : Stander). x.id) (map (stander_in ns) es) ≡ map (λ (x : PlacedEvent). x.id) es

@@ -1,12 +1,11 @@
 -- Agents and events that tell their names by places in the table.
-use Rattle.std.specs.Prelude.{◌≡◌, ◌≢◌, ◌<◌, ℕ, List, map, length, Option, Some, None, All}
+use Rattle.std.specs.Prelude.{◌≡◌, ◌≢◌, ◌<◌, ℕ, List, map, length, All}
 use Rattle.ic_path.specs.Orders.{Pick, IsIn}
 use Rattle.ic_path.specs.Rings.{HasEachOnce}
 use Rattle.ic_name.specs.Names.{Name}
 use Rattle.ic_name.specs.declared.ids.AgentId.{AgentId}
 use Rattle.ic_name.specs.declared.ids.EventId.{EventId}
 use Rattle.ic_names.specs.Tables.{name_at}
-use Rattle.ic_roster.specs.declared.events.GoneEvent.{GoneEvent}
 use Rattle.ic_roster.specs.declared.interaction.Interaction.{Interaction}
 use Rattle.ic_roster.specs.declared.agent_records.PlacedAgent.{PlacedAgent}
 use Rattle.ic_roster.specs.Rosters.{Member, Stander, RosterView, event_in, IsNamed}
@@ -46,11 +45,6 @@ AreKept xs ds = All (λ d. (x : PlacedEvent) × IsIn x xs × (x.id ≡ d)) ds
 -- the events of the list that have this one among their direct causes, each once
 abbrev pub AreUsers : List PlacedEvent → EventId → List EventId → Type 0
 AreUsers xs d es = HasEachOnce (λ e. (x : PlacedEvent) × IsIn x xs × (x.id ≡ e) × IsIn d x.causes) es
-
--- what is given is the place of the event's lead, and the ids of its children
-abbrev pub IsGiven : PlacedEvent → Option GoneEvent → Type 0
-IsGiven x None = ⊥
-IsGiven x (Some gone) = (gone.lead ≡ x.interaction.lead) × (gone.born.items ≡ x.born)
 
 -- the agent with its name
 abbrev pub member_in : List Name → PlacedAgent → Member

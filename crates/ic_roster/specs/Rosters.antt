@@ -1,5 +1,5 @@
 -- Who is there: agents under their ids, and standing events under theirs, each list in an order that no clause names.
-use Rattle.std.specs.Prelude.{◌≡◌, ◌≢◌, ◌<◌, ℕ, List, [], ◌∷◌, map, length, Option, Some, None}
+use Rattle.std.specs.Prelude.{◌≡◌, ◌≢◌, ◌<◌, ◌↔◌, ℕ, List, [], ◌∷◌, map, length}
 use Rattle.std.specs.declared.cmp.Ordering.TheVariants.{Less}
 use Rattle.ic_path.specs.Orders.{Pick, Alike, IsIn}
 use Rattle.ic_path.specs.Rings.{HasEachOnce}
@@ -9,7 +9,6 @@ use Rattle.ic_name.specs.declared.kinds.Kind.{Kind}
 use Rattle.ic_name.specs.declared.ids.AgentId.{AgentId}
 use Rattle.ic_name.specs.declared.ids.EventId.{EventId}
 use Rattle.ic_names.specs.Tables.{name_at}
-use Rattle.ic_roster.specs.declared.events.GoneEvent.{GoneEvent}
 use Rattle.ic_roster.specs.declared.interaction.Interaction.{Interaction}
 
 -- an agent under its id
@@ -85,7 +84,6 @@ pub record IsNamed (ns : List Name) (i : Interaction) : Type 0 where
   pub other : i.other.place < length ns
   pub ordered : name_cmp (name_at ns i.lead.place) (name_at ns i.other.place) ≡ Less
 
--- what is handed out is the place of the event's lead, and the ids of its children
-abbrev pub IsHanded : List Name → Stander → Option GoneEvent → Type 0
-IsHanded ns x None = ⊥
-IsHanded ns x (Some gone) = (gone.lead.place < length ns) × (name_at ns gone.lead.place ≡ x.event.lead) × (gone.born.items ≡ x.born)
+-- the agents that were there but those under the ids
+abbrev pub Loses : List AgentId → List Member → List Member → Type 0
+Loses ids old new = (m : Member) → IsIn m new ↔ (IsIn m old × (IsIn m.id ids → ⊥))

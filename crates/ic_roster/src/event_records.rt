@@ -1,12 +1,12 @@
-ghost use Rattle.std.specs.Prelude.{◌≡◌, ◌≢◌, ◌↔◌, ◌∷◌, [], length, map, IsNone, IsTrue, IfSome, IfNone, IfOk, OnErr};
+ghost use Rattle.std.specs.Prelude.{◌≡◌, ◌≢◌, ◌↔◌, ◌∷◌, [], length, map, IsNone, IsSomeAnd, IsTrue, IfSome, IfNone, IfOk, OnErr};
 ghost use Rattle.ic_path.specs.Orders.{Alike, IsIn, IsOnce};
 ghost use Rattle.ic_roster.specs.declared.agent_records.PlacedAgent.{PlacedAgent as APlacedAgent};
-ghost use Rattle.ic_roster.specs.Placed.{PlacedEvent, HaveOwnKeys, IsNewKey, IsGiven, AreKept, AreUsers};
+ghost use Rattle.ic_roster.specs.Placed.{PlacedEvent, HaveOwnKeys, IsNewKey, AreKept, AreUsers};
 
 use crate::agent_records::AgentRecords;
 use crate::dependents::{put_at_each, reserve_places, take_at_each};
 use crate::event_record::EventRecord;
-use crate::events::{GoneEvent, StandingEntry};
+use crate::events::StandingEntry;
 use crate::reserving::reserve_slot;
 use ic_name::EventId;
 use ic_names::NameId;
@@ -169,25 +169,27 @@ impl EventRecords {
         Ok(id)
     }
 
-    /// The event under the id goes, if it stands, and what was kept of it is handed out; `None` where none stands under the
-    /// id. It is no direct cause of another. It takes no memory, and time that grows with the dependents of its causes.
-    pub fn remove(&mut self, id: EventId) -> Option<GoneEvent>
+    /// The event under the id goes, if it stands, and with it the agents that are its children. The place of its lead is
+    /// answered; `None` if no event stands under the id. It is no direct cause of another. It takes no memory, and time that
+    /// grows with the dependents of its causes.
+    pub fn remove(&mut self, id: EventId, agents: &mut AgentRecords) -> Option<NameId>
         requires { (x : PlacedEvent) → IsIn x self.old → IsIn id x.causes → ⊥ }
         ensures gone { (x : PlacedEvent) → IsIn x self.old → x.id ≡ id → Alike self.old (x ∷ self.new) }
-        ensures handed { (x : PlacedEvent) → IsIn x self.old → x.id ≡ id → IsGiven x result }
+        ensures children { (x : PlacedEvent) → IsIn x self.old → x.id ≡ id → (m : APlacedAgent) → IsIn m agents.new ↔ (IsIn m agents.old × (IsIn m.id x.born → ⊥)) }
+        ensures lead { (x : PlacedEvent) → IsIn x self.old → x.id ≡ id → IsSomeAnd result (λ lead. lead ≡ x.interaction.lead) }
         ensures absent { ((x : PlacedEvent) → IsIn x self.old → x.id ≢ id) → IsNone result }
         ensures left { (x : PlacedEvent) → IsIn x self.new → IsIn x self.old }
         ensures unchanged { ((x : PlacedEvent) → IsIn x self.old → x.id ≢ id) → self.new ≡ self.old }
+        ensures left_agents { (m : APlacedAgent) → IsIn m agents.new → IsIn m agents.old }
+        ensures spared { ((x : PlacedEvent) → IsIn x self.old → x.id ≢ id) → agents.new ≡ agents.old }
     {
         self.get(id)?;
         let event = self.records.remove(id.slot as usize);
         take_at_each(&mut self.records, event.causes.as_slice(), id);
+        agents.remove_each(event.born.as_slice());
         let lead = event.interaction.lead;
         self.leads.take(lead.place);
-        Some(GoneEvent {
-            lead,
-            born: event.born,
-        })
+        Some(lead)
     }
 
     /// All events go, and with each the agents that are its children, in one look at every slot that ever had an event. It

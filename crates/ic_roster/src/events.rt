@@ -1,15 +1,14 @@
-ghost use Rattle.std.specs.Prelude.{◌≡◌, ◌≢◌, ◌<◌, ◌↔◌, ◌∷◌, [], length, map, All, IsNone, IsTrue, IfSome, IfNone, IfOk, OnErr};
+ghost use Rattle.std.specs.Prelude.{◌≡◌, ◌≢◌, ◌<◌, ◌↔◌, ◌∷◌, [], length, map, All, IsNone, IsSomeAnd, IsTrue, IfSome, IfNone, IfOk, OnErr};
 ghost use Rattle.ic_path.specs.Orders.{Alike, IsIn, IsOnce};
 ghost use Rattle.ic_name.specs.Events.{pair};
-ghost use Rattle.ic_names.specs.Tables.{name_at};
+ghost use Rattle.ic_names.specs.Tables.{name_at, StandsAt};
 ghost use Rattle.ic_roster.specs.Born.{IsBorn};
-ghost use Rattle.ic_roster.specs.Rosters.{Member, Stander, IsNewEvent, Stands, AreDependents, event_in, IsNamed, IsHanded};
+ghost use Rattle.ic_roster.specs.Rosters.{Member, Stander, IsNewEvent, Stands, AreDependents, event_in, IsNamed, Loses};
 
 use crate::interaction::Interaction;
 use crate::roster::Roster;
 use ic_name::{AgentId, EventId, EventName};
 use ic_names::NameId;
-use smallvec::SmallVec;
 use std::alloc::{AllocError, Global};
 
 /// A standing event, with the ids of its children and of its direct causes.
@@ -19,13 +18,6 @@ pub struct StandingEntry<'a> {
     pub rank: u32,
     pub born: &'a [AgentId],
     pub causes: &'a [EventId],
-}
-
-/// What was kept of an event that goes: the place of its lead's name, and the ids of its children.
-#[derive(Drop)]
-pub struct GoneEvent {
-    pub lead: NameId,
-    pub born: SmallVec<AgentId, 4>,
 }
 
 impl Roster {
@@ -121,18 +113,19 @@ impl Roster {
         self.events.insert(line, event)
     }
 
-    /// The event under the id goes, if it stands, and what was kept of it is handed out; `None` where none stands under the
-    /// id. It is no direct cause of another. It takes no memory, and time that grows with the dependents of its causes.
-    pub fn remove_event(&mut self, id: EventId) -> Option<GoneEvent>
+    /// The event under the id goes, if it stands, and with it the agents that are its children. The place of its lead's name
+    /// is answered; `None` if no event stands under the id. It is no direct cause of another. It takes no memory, and time
+    /// that grows with the dependents of its causes.
+    pub fn remove_event(&mut self, id: EventId) -> Option<NameId>
         requires { (x : Stander) → IsIn x self.old.events → IsIn id x.causes → ⊥ }
         ensures gone { (x : Stander) → IsIn x self.old.events → x.id ≡ id → Alike self.old.events (x ∷ self.new.events) }
-        ensures handed { (x : Stander) → IsIn x self.old.events → x.id ≡ id → IsHanded self.old.names x result }
+        ensures children { (x : Stander) → IsIn x self.old.events → x.id ≡ id → Loses x.born self.old.agents self.new.agents }
+        ensures lead { (x : Stander) → IsIn x self.old.events → x.id ≡ id → IsSomeAnd result (λ lead. StandsAt self.old.names x.event.lead lead.place) }
         ensures absent { ((x : Stander) → IsIn x self.old.events → x.id ≢ id) → IsNone result }
         ensures names { self.new.names ≡ self.old.names }
-        ensures agents { self.new.agents ≡ self.old.agents }
         ensures unchanged { ((x : Stander) → IsIn x self.old.events → x.id ≢ id) → self.new ≡ self.old }
     {
-        self.events.remove(id)
+        self.events.remove(id, &mut self.agents)
     }
 
     /// All events go, and with each the agents that are its children, in one look at every slot that ever had an event. It

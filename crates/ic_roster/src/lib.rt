@@ -14,6 +14,6 @@ pub mod roster;
 
 pub use agent_records::PlacedAgent;
 pub use agents::AgentEntry;
-pub use events::{GoneEvent, StandingEntry};
+pub use events::StandingEntry;
 pub use interaction::Interaction;
 pub use roster::Roster;

@@ -14,6 +14,7 @@ pub mod TakenOut
 pub mod LeastEvents
 pub mod LeastDependents
 pub mod RemovedAgents
+pub mod LostAgents
 pub mod GrownNames
 pub mod EnteredInTurn
 pub mod NamedInTurn

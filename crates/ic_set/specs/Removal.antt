@@ -1,13 +1,14 @@
--- Which events can go.
-use Rattle.std.specs.Prelude.{◌≡◌, ◌≢◌, ℕ, Bool, List}
+-- Which events can go, and which agents.
+use Rattle.std.specs.Prelude.{◌≡◌, ◌≢◌, ℕ, Bool, List, ◌++◌, map}
 use Rattle.std.specs.Ordering.{is_lt}
 use Rattle.std.specs.declared.cmp.Ordering.TheVariants.{Greater}
 use Rattle.ic_name.specs.Events.{Event}
+use Rattle.ic_name.specs.declared.ids.AgentId.{AgentId}
 use Rattle.ic_name.specs.declared.ids.EventId.{EventId}
-use Rattle.ic_path.specs.Orders.{IsIn}
+use Rattle.ic_path.specs.Orders.{Alike, IsIn}
 use Rattle.ic_theory.specs.Causes.{IsDependent, canonical_cmp}
 use Rattle.ic_theory.specs.Machine.{IsLeastDependent}
-use Rattle.ic_roster.specs.Rosters.{Stander}
+use Rattle.ic_roster.specs.Rosters.{Member, Stander}
 use Rattle.ic_set.specs.Views.{SetView, standing}
 
 -- an event stands under the id
@@ -40,3 +41,7 @@ TellsOrder ss d e before = (x y : Stander) (rank : Event → ℕ) → IsIn x ss 
 pub record IsLeastOf (ss : List Stander) (ids : List EventId) (least : EventId) : Type 0 where
   pub among : IsIn least ids
   pub none_before : (x y : Stander) (rank : Event → ℕ) → IsIn x ss → IsIn y ss → x.id ≡ least → IsIn y.id ids → AreNoted ss rank → canonical_cmp rank x.event y.event ≢ Greater
+
+-- the agents under the ids go, and the others are left
+abbrev pub LosesEach : List AgentId → List Member → List Member → Type 0
+LosesEach ids old new = (gone left : List Member) → map (λ m. m.id) gone ≡ ids → Alike old (gone ++ left) → Alike left new

@@ -16,7 +16,7 @@ ghost use Rattle.ic_set.specs.Changes.{Admits, IsSame};
 ghost use Rattle.ic_set.specs.Entering.{CanEnter, Enters, GrowsBy};
 ghost use Rattle.ic_set.specs.Joining.{made_links, HaveDigits};
 ghost use Rattle.ic_set.specs.Pairs.{IsPairOf, IsActivePair, Awakes};
-ghost use Rattle.ic_set.specs.Removal.{Stands};
+ghost use Rattle.ic_set.specs.Removal.{Stands, LosesEach};
 
 use crate::bare::BareSet;
 use crate::entering::{enter_children, remove_all};
@@ -77,17 +77,10 @@ impl<L: LinkStore> BareSet<L> {
             causes: &causes,
         };
         let mut joins = [None; MAX_JOINS];
-        match put_event(&mut self.roster, &mut self.store, &firing, &mut joins) {
-            Ok(id) => {
-                self.roster.lawful();
-                self.active_joins(&joins, awoken);
-                Ok(id)
-            }
-            Err(_) => {
-                remove_all(&mut self.roster, born.as_slice());
-                Err(AllocError)
-            }
-        }
+        let id = put_event(&mut self.roster, &mut self.store, &firing, &mut joins)?;
+        self.roster.lawful();
+        self.active_joins(&joins, awoken);
+        Ok(id)
     }
 
     /// The event of an active pair by the places of its agents' names. It takes no memory.
@@ -160,8 +153,8 @@ fn enter_born(
     enter_children(alloc, roster, event.lead, kinds, serial)
 }
 
-/// Puts in an event with its links and its direct causes, and writes into `joins` what its links join. At an error nothing
-/// else changes.
+/// Puts in an event with its links and its direct causes, and writes into `joins` what its links join. At an error its
+/// children go, and nothing else changes.
 fn put_event<L: LinkStore>(
     roster: &mut Roster,
     store: &mut L,
@@ -173,7 +166,8 @@ fn put_event<L: LinkStore>(
     ensures put { IfOk result (λ id. (id.line ≡ firing.now.line) × PutsIn (record { id = id; event = event_in roster.old.names firing.now.interaction; rank = firing.now.rank; born = firing.now.born.now; causes = firing.now.causes.now }) (made_links id firing.now.pair firing.now.born.now 0 firing.now.ends.now) roster.old.events roster.new.events (L.links store.old) (L.links store.new)) }
     ensures joins { IfOk result (λ id. AreJoins (L.links store.old) (made_links id firing.now.pair firing.now.born.now 0 firing.now.ends.now) joins.new) }
     ensures unchanged { OnErr result (LeavesAll roster.old.events roster.new.events (L.links store.old) (L.links store.new)) }
-    ensures agents { roster.new.agents ≡ roster.old.agents }
+    ensures agents { OnOk result (roster.new.agents ≡ roster.old.agents) }
+    ensures children { OnErr result (LosesEach firing.now.born.now roster.old.agents roster.new.agents) }
     ensures names { roster.new.names ≡ roster.old.names }
 {
     roster.lawful();
@@ -183,10 +177,14 @@ fn put_event<L: LinkStore>(
         born: firing.born,
         causes: firing.causes,
     };
-    let id = roster.insert_event(firing.line, &event)?;
+    let Ok(id) = roster.insert_event(firing.line, &event) else {
+        remove_all(roster, firing.born);
+        return Err(AllocError);
+    };
     roster.lawful();
     let Ok(()) = put_links(store, id, firing, joins) else {
         roster.remove_event(id);
+        roster.lawful();
         return Err(AllocError);
     };
     Ok(id)

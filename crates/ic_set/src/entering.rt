@@ -1,11 +1,12 @@
-ghost use Rattle.std.specs.Prelude.{◌≡◌, ◌<◌, ◌≤◌, ◌∷◌, ◌++◌, [], ◌⊎◌, length, List, map, IfOk, OnErr};
+ghost use Rattle.std.specs.Prelude.{◌≡◌, ◌<◌, ◌≤◌, ◌∷◌, [], ◌⊎◌, length, IfOk, OnErr};
 ghost use Rattle.ic_name.specs.Names.{depth, start_name, child_name};
 ghost use Rattle.ic_name.specs.declared.limits.TheConstants.{MAX_DEPTH};
 ghost use Rattle.ic_names.specs.Tables.{name_at};
 ghost use Rattle.ic_path.specs.Orders.{Alike};
 ghost use Rattle.ic_theory.specs.Born.{named};
-ghost use Rattle.ic_roster.specs.Rosters.{Member, IsNewName};
+ghost use Rattle.ic_roster.specs.Rosters.{IsNewName};
 ghost use Rattle.ic_set.specs.Entering.{agents_in, AreNamed, GrowsBy, CanEnter, Enters};
+ghost use Rattle.ic_set.specs.Removal.{LosesEach};
 
 use ic_name::limits::MAX_START_AGENTS;
 use ic_name::{AgentId, AgentName, ChildFault, Kind};
@@ -132,7 +133,7 @@ pub(crate) fn enter_all(
 
 /// The agents under these ids go. It takes no memory.
 pub(crate) fn remove_all(roster: &mut Roster, ids: &[AgentId])
-    ensures left { (gone left : List Member) → map (λ m. m.id) gone ≡ ids.now → Alike roster.old.agents (gone ++ left) → Alike left roster.new.agents }
+    ensures left { LosesEach ids.now roster.old.agents roster.new.agents }
     ensures names { roster.new.names ≡ roster.old.names }
     ensures events { roster.new.events ≡ roster.old.events }
 {

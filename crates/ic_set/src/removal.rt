@@ -8,7 +8,6 @@ ghost use Rattle.ic_set.specs.Cleared.{AreAll, Clears};
 ghost use Rattle.ic_set.specs.Removal.{Stands, IsFree, IsLeast, TellsOrder, IsLeastOf};
 
 use crate::bare::BareSet;
-use crate::entering::remove_all;
 use crate::orders::{canonical_order, placed_event};
 use ic_link::LinkStore;
 use ic_name::EventId;
@@ -35,12 +34,12 @@ impl<L: LinkStore> BareSet<L> {
         ensures names { self.new.names ≡ self.old.names }
         ensures lead { (x : Stander) → IsIn x self.old.set.events → x.id ≡ id → StandsAt self.new.names x.event.lead result.place }
     {
-        let Some(gone) = self.roster.remove_event(id) else {
+        let Some(lead) = self.roster.remove_event(id) else {
             unreachable!()
         };
-        remove_all(&mut self.roster, gone.born.as_slice());
+        self.roster.lawful();
         self.store.take_of(id);
-        gone.lead
+        lead
     }
 
     /// All events go, whose ids these are: with them their children go, and their links. It takes no memory, and no look at

@@ -5,7 +5,8 @@ ghost use Rattle.ic_roster.specs.Rosters.{Stander, Stands, IsNamed};
 
 use crate::name::{agents_of, event_name};
 use ic_name::{AgentId, AgentName, EventId, Kind};
-use ic_roster::{GoneEvent, Interaction, Roster, StandingEntry};
+use ic_names::NameId;
+use ic_roster::{Interaction, Roster, StandingEntry};
 use std::alloc::Global;
 use std::cmp::Ordering;
 
@@ -196,19 +197,19 @@ fn an_event_is_found_and_read_and_takes_its_line_and_its_lead(rt: HostRuntime) {
     assert!(rt; stands_alone(rt.alloc(), &mut roster));
 }
 
-/// Whether the event under an id goes, and hands out a lead of this start number, and these agents as born of it.
-fn hands_out(alloc: Global, roster: &mut Roster, id: EventId, lead: u16, born: &[AgentId]) -> bool {
+/// Whether the event under an id goes, and answers a lead of this start number.
+fn goes(alloc: Global, roster: &mut Roster, id: EventId, lead: u16) -> bool {
     let Some(name) = AgentName::start(alloc, lead) else {
         return false;
     };
     match take_out(roster, id) {
-        Some(gone) => roster.names().is(gone.lead, &name) && gone.born.as_slice() == born,
+        Some(place) => roster.names().is(place, &name),
         None => false,
     }
 }
 
 /// The event under an id goes, if one stands under it that is no cause of another.
-pub(crate) fn take_out(roster: &mut Roster, id: EventId) -> Option<GoneEvent> {
+pub(crate) fn take_out(roster: &mut Roster, id: EventId) -> Option<NameId> {
     if !roster.dependents(id).is_empty() {
         return None;
     }
@@ -218,21 +219,21 @@ pub(crate) fn take_out(roster: &mut Roster, id: EventId) -> Option<GoneEvent> {
 /// Whether the event of the agents 3 and 9 goes once, and how many events there are then.
 fn goes_once(alloc: Global, roster: &mut Roster) -> Option<(bool, usize)> {
     let id = stand(alloc, roster, (3, 9), 4, &BORN)?;
-    let goes = hands_out(alloc, roster, id, 3, &BORN) && take_out(roster, id).is_none();
-    Some((goes, roster.event_count()))
+    let gone = goes(alloc, roster, id, 3) && take_out(roster, id).is_none();
+    Some((gone, roster.event_count()))
 }
 
 /// Whether an event goes, stands again in the same slot, and is found by its new id alone.
 fn stands_again(alloc: Global, roster: &mut Roster) -> Option<bool> {
     let old = stand(alloc, roster, (1, 2), 0, &[])?;
-    let goes = hands_out(alloc, roster, old, 1, &[]);
+    let gone = goes(alloc, roster, old, 1);
     let new = stand(alloc, roster, (1, 2), 2, &[])?;
     let found = roster.event(old).is_none() && roster.event(new).is_some();
-    Some(goes && new.slot == old.slot && found)
+    Some(gone && new.slot == old.slot && found)
 }
 
 #[test]
-fn an_event_that_goes_is_handed_out_and_its_slot_is_filled_again(rt: HostRuntime) {
+fn an_event_that_goes_answers_its_lead_and_its_slot_is_filled_again(rt: HostRuntime) {
     let mut roster = Roster::new(rt.alloc());
     assert_eq!(rt; goes_once(rt.alloc(), &mut roster), Some((true, 0)));
     assert_eq!(rt; stands_again(rt.alloc(), &mut roster), Some(true));
@@ -269,9 +270,9 @@ fn are_found(alloc: Global, roster: &Roster, first: EventId, second: EventId) ->
 
 /// Whether the first of them goes, and is then found no more by its id, its name or its lead, and its line is new.
 fn first_goes(alloc: Global, roster: &mut Roster, first: EventId) -> Option<bool> {
-    let goes = hands_out(alloc, roster, first, 3, &[]) && roster.event(first).is_none();
+    let gone = goes(alloc, roster, first, 3) && roster.event(first).is_none();
     let free = line_is_new(alloc, roster, 4)? && is_led(alloc, roster, 3, None)?;
-    Some(goes && free && finds(alloc, roster, 3, 9, None))
+    Some(gone && free && finds(alloc, roster, 3, 9, None))
 }
 
 /// Whether another event with the same lead is found, once it stands.

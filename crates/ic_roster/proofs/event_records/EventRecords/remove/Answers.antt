@@ -1,5 +1,6 @@
-use Rattle.std.proofs.Common.{◌≡◌, refl, sym, subst, ◌∙◌}
+use Rattle.std.proofs.Common.{◌≡◌, ◌↔◌, refl, sym, subst, ◌∙◌}
 use Rattle.ic_path.specs.Orders.{IsIn, IsOnce}
+use Rattle.ic_roster.specs.declared.agent_records.PlacedAgent.{PlacedAgent}
 use Rattle.ic_roster.specs.RecordChanges.{Changes, Takes}
 use Rattle.ic_roster.specs.EventSlots.{event_at, event_line}
 use Rattle.ic_roster.proofs.Slots.{emptied_by_remove, shown_left}
@@ -14,8 +15,11 @@ use Rattle.ic_roster.proofs.event_records.EventRecords.remove.Goals as goal
 pub returns-in_err-get-clause-gone : goal.returns-in_err-get-clause-gone
 returns-in_err-get-clause-gone c = λ x i e. absurd (c.in_err-get.ensures.absent x i e)
 
-pub returns-in_err-get-clause-handed : goal.returns-in_err-get-clause-handed
-returns-in_err-get-clause-handed c = λ x i e. absurd (c.in_err-get.ensures.absent x i e)
+pub returns-in_err-get-clause-children : goal.returns-in_err-get-clause-children
+returns-in_err-get-clause-children c = λ x i e. absurd (c.in_err-get.ensures.absent x i e)
+
+pub returns-in_err-get-clause-lead : goal.returns-in_err-get-clause-lead
+returns-in_err-get-clause-lead c = λ x i e. absurd (c.in_err-get.ensures.absent x i e)
 
 pub remove-event-requires : goal.remove-event-requires
 remove-event-requires c = holds_event c.self.inside.records.slots c.args.self.now _ c.self.view_is c.in_ok-get.ensures.found
@@ -42,11 +46,22 @@ returns-clause-gone c = rw (← c.self.view_is, same_events _ _ c.take_at_each.e
 pub returns-clause-left : goal.returns-clause-left
 returns-clause-left c = rw (← c.self.view_is, same_events _ _ c.take_at_each.ensures.shows) (shown_left event_at _ _ c.args.id.slot c.remove-event.result (emptied_by_remove c.self.inside.records c.remove-event.new.self c.args.id.slot c.remove-event.result c.remove-event.ensures.value c.remove-event.ensures.updates))
 
-pub returns-clause-handed : goal.returns-clause-handed
-returns-clause-handed c = rw (← c.self.view_is) (event_given c.self.inside.records.slots c.args.id c.remove-event.result c.remove-event.ensures.value)
+pub returns-clause-children : goal.returns-clause-children
+returns-clause-children c = rw (← c.self.view_is) (λ x i e.
+    (let born = (event_given c.self.inside.records.slots c.args.id c.remove-event.result c.remove-event.ensures.value x i e).1 in
+    subst (λ ids. (m : PlacedAgent) → IsIn m c.remove_each.new.self ↔ (IsIn m c.args.agents.now × (IsIn m.id ids → ⊥))) (c.as_slice-2.ensures ∙ born) c.remove_each.ensures))
+
+pub returns-clause-lead : goal.returns-clause-lead
+returns-clause-lead c = rw (← c.self.view_is) (λ x i e. (event_given c.self.inside.records.slots c.args.id c.remove-event.result c.remove-event.ensures.value x i e).0)
 
 pub returns-clause-absent : goal.returns-clause-absent
 returns-clause-absent c = λ none. absurd (none _ c.in_ok-get.ensures.found refl)
 
 pub returns-clause-unchanged : goal.returns-clause-unchanged
 returns-clause-unchanged c = λ none. absurd (none _ c.in_ok-get.ensures.found refl)
+
+pub returns-clause-left_agents : goal.returns-clause-left_agents
+returns-clause-left_agents c = λ m i. ((c.remove_each.ensures m).0 i).0
+
+pub returns-clause-spared : goal.returns-clause-spared
+returns-clause-spared c = λ none. absurd (none _ c.in_ok-get.ensures.found refl)

@@ -11,6 +11,7 @@ use Rattle.ic_path.proofs.Errors.{at_error}
 use Rattle.ic_roster.specs.declared.interaction.Interaction.{Interaction}
 use Rattle.ic_roster.specs.Rosters.{Member, Stander, event_in, IsNamed}
 use Rattle.ic_set.specs.Entering.{GrowsBy, Enters}
+use Rattle.ic_set.specs.Removal.{LosesEach}
 use Rattle.ic_set.specs.Views.{SetView, NamedView}
 use Rattle.ic_set.specs.Sets.{IsStandingSet}
 use Rattle.ic_set.proofs.GrownNames.{grown_keeps, kept_event}
@@ -81,8 +82,8 @@ put_event-requires-clause-can g c =
     _ (ap born_agents same) c.in_ok-born.born.items _ enters c.lawful-2.ensures.names
     c.rank_over-rank.result c.in_ok-causes.causes.items (c.in_ok-causes.ensures e active) lawful)
 
-pub invariant_of-self-in-Ok : goal.invariant_of-self-in-Ok
-invariant_of-self-in-Ok g c =
+pub invariant_of-self-2 : goal.invariant_of-self-2
+invariant_of-self-2 g c =
     let e = c.requires.active.0 in
     let active = c.requires.active.1 in
     let view = c.self.inside in
@@ -94,15 +95,15 @@ invariant_of-self-in-Ok g c =
     let ends = ends_same c.outcome-rules.ensures.links c.profile.ensures (ap (λ (e : Event). e.lead_kind) same) (ap (λ (e : Event). e.other_kind) same) in
     let enters : Enters v.agents (born_agents (event_in view.roster.names c.args.event)) (c.args.line + 1) c.in_ok-born.born.items c.enter_born.new.roster.agents = c.in_ok-born.ensures.entered in
     let over = rw c.deref.ensures.value at c.rank_over-rank.ensures in
-    let puts = rw (its, c.as_slice.ensures, ends, c.deref-2.ensures.value, events) at c.in-Ok.ensures.put.1 in
-    rw c.put_event.ensures.agents
+    let puts = rw (its, c.as_slice.ensures, ends, c.deref-2.ensures.value, events) at c.in_ok-id.ensures.put.1 in
+    rw c.in_ok-id.ensures.agents
     (put_keeps v c.args.self.now.set (ap (λ (w : NamedView). w.set) c.self.view_is) ls c.self.invariant e c.args.pair active c.args.line c.requires.new_line
     _ (ap born_agents same) c.in_ok-born.born.items _ enters c.lawful-2.ensures.names
     c.rank_over-rank.result c.in_ok-causes.causes.items (c.in_ok-causes.ensures e active) over
-    c.in-Ok.id c.in-Ok.ensures.put.0 _ _ c.lawful-in-Ok.ensures.lines puts (c.requires.shallow e active))
+    c.in_ok-id.id c.in_ok-id.ensures.put.0 _ _ c.lawful-3.ensures.lines puts (c.requires.shallow e active))
 
-pub returns-in-Ok-clause-admitted : goal.returns-in-Ok-clause-admitted
-returns-in-Ok-clause-admitted g c = λ e active. (
+pub returns-clause-admitted : goal.returns-clause-admitted
+returns-clause-admitted g c = λ e active. (
     let view = c.self.inside in
     let v : SetView = record { start = view.start; agents = view.roster.agents; events = view.roster.events } in
     let ls = g.L.LinkStore.links view.store in
@@ -112,15 +113,15 @@ returns-in-Ok-clause-admitted g c = λ e active. (
     let ends = ends_same c.outcome-rules.ensures.links c.profile.ensures (ap (λ (e : Event). e.lead_kind) same) (ap (λ (e : Event). e.other_kind) same) in
     let enters : Enters v.agents (born_agents (event_in view.roster.names c.args.event)) (c.args.line + 1) c.in_ok-born.born.items c.enter_born.new.roster.agents = c.in_ok-born.ensures.entered in
     let over = rw c.deref.ensures.value at c.rank_over-rank.ensures in
-    let puts = rw (its, c.as_slice.ensures, ends, c.deref-2.ensures.value, events) at c.in-Ok.ensures.put.1 in
-    rw c.put_event.ensures.agents
+    let puts = rw (its, c.as_slice.ensures, ends, c.deref-2.ensures.value, events) at c.in_ok-id.ensures.put.1 in
+    rw c.in_ok-id.ensures.agents
     (put_admits v c.args.self.now.set (ap (λ (w : NamedView). w.set) c.self.view_is) ls c.self.invariant e c.args.pair active c.args.line c.requires.new_line
     _ (ap born_agents same) c.in_ok-born.born.items _ enters c.lawful-2.ensures.names
     c.rank_over-rank.result c.in_ok-causes.causes.items (c.in_ok-causes.ensures e active) over
-    c.in-Ok.id c.in-Ok.ensures.put.0 _ _ c.lawful-in-Ok.ensures.lines puts))
+    c.in_ok-id.id c.in_ok-id.ensures.put.0 _ _ c.lawful-3.ensures.lines puts))
 
-pub returns-in-Ok-clause-awoken : goal.returns-in-Ok-clause-awoken
-returns-in-Ok-clause-awoken g c =
+pub returns-clause-awoken : goal.returns-clause-awoken
+returns-clause-awoken g c =
     let e = c.requires.active.0 in
     let active = c.requires.active.1 in
     let view = c.self.inside in
@@ -132,39 +133,36 @@ returns-in-Ok-clause-awoken g c =
     let ends = ends_same c.outcome-rules.ensures.links c.profile.ensures (ap (λ (e : Event). e.lead_kind) same) (ap (λ (e : Event). e.other_kind) same) in
     let enters : Enters v.agents (born_agents (event_in view.roster.names c.args.event)) (c.args.line + 1) c.in_ok-born.born.items c.enter_born.new.roster.agents = c.in_ok-born.ensures.entered in
     let over = rw c.deref.ensures.value at c.rank_over-rank.ensures in
-    let puts = rw (its, c.as_slice.ensures, ends, c.deref-2.ensures.value, events) at c.in-Ok.ensures.put.1 in
-    let joins = rw (c.as_slice.ensures, ends) at c.in-Ok.ensures.joins in
-    let act = rw c.put_event.ensures.agents at c.active_joins.ensures in
-    rw c.put_event.ensures.agents
+    let puts = rw (its, c.as_slice.ensures, ends, c.deref-2.ensures.value, events) at c.in_ok-id.ensures.put.1 in
+    let joins = rw (c.as_slice.ensures, ends) at c.in_ok-id.ensures.joins in
+    let act = rw c.in_ok-id.ensures.agents at c.active_joins.ensures in
+    rw c.in_ok-id.ensures.agents
     (put_awakes v c.args.self.now.set (ap (λ (w : NamedView). w.set) c.self.view_is) ls c.self.invariant e c.args.pair active c.args.line c.requires.new_line
     _ (ap born_agents same) c.in_ok-born.born.items _ enters c.lawful-2.ensures.names
     c.rank_over-rank.result c.in_ok-causes.causes.items (c.in_ok-causes.ensures e active) over
-    c.in-Ok.id c.in-Ok.ensures.put.0 _ _ c.lawful-in-Ok.ensures.lines puts (c.requires.shallow e active) _ joins _ act)
+    c.in_ok-id.id c.in_ok-id.ensures.put.0 _ _ c.lawful-3.ensures.lines puts (c.requires.shallow e active) _ joins _ act)
 
 -- the agents that were entered have gone again
-gone_again : (entered : List Member) {old mid put new : List Member} {ids born : List AgentId} → put ≡ mid → map (λ m. m.id) entered ≡ born → ids ≡ born → Alike (entered ++ old) mid
-    → ((gone left : List Member) → map (λ m. m.id) gone ≡ ids → Alike put (gone ++ left) → Alike left new) → Alike old new
-gone_again entered {old} is under same alike left = left entered old (under ∙ sym same) (subst (λ ms. Alike ms (entered ++ old)) (sym is) (alike_back alike))
+gone_again : (entered : List Member) {old mid new : List Member} {ids born : List AgentId} → map (λ m. m.id) entered ≡ born → ids ≡ born → Alike (entered ++ old) mid → LosesEach ids mid new → Alike old new
+gone_again entered {old} under same alike lost = lost entered old (under ∙ sym same) (alike_back alike)
 
 -- the events are those of before
-events_again : {old mid put new : List Stander} → mid ≡ old → Alike mid put → new ≡ put → Alike old new
-events_again {mid = mid} {new = new} same alike is = subst (λ ss. Alike ss new) same (subst (λ ss. Alike mid ss) (sym is) alike)
+events_again : {old mid new : List Stander} → mid ≡ old → Alike mid new → Alike old new
+events_again {new = new} same alike = subst (λ ss. Alike ss new) same alike
 
-pub invariant_of-self-in-Err : goal.invariant_of-self-in-Err
-invariant_of-self-in-Err g c =
+pub invariant_of-self-in_err-id : goal.invariant_of-self-in_err-id
+invariant_of-self-in_err-id g c =
     let view = c.self.inside in
     let enters = c.in_ok-born.ensures.entered in
-    let left = c.in-Err.ensures.unchanged in
-    let back = gone_again enters.entered c.put_event.ensures.agents enters.under c.as_slice-in-Err.ensures enters.alike c.remove_all.ensures.left in
-    let events = events_again (c.enter_born.ensures.events) left.events c.remove_all.ensures.events in
-    kept_alike view.start back events left.links c.self.invariant
+    let left = c.in_err-id.ensures.unchanged in
+    let back = gone_again enters.entered enters.under c.as_slice.ensures enters.alike c.in_err-id.ensures.children in
+    kept_alike view.start back (events_again c.enter_born.ensures.events left.events) left.links c.self.invariant
 
-pub returns-clause-unchanged : goal.returns-clause-unchanged
-returns-clause-unchanged g c =
+pub returns-in_err-id-clause-unchanged : goal.returns-in_err-id-clause-unchanged
+returns-in_err-id-clause-unchanged g c =
     let view = c.self.inside in
     let v : SetView = record { start = view.start; agents = view.roster.agents; events = view.roster.events } in
     let enters = c.in_ok-born.ensures.entered in
-    let left = c.in-Err.ensures.unchanged in
-    let back = gone_again enters.entered c.put_event.ensures.agents enters.under c.as_slice-in-Err.ensures enters.alike c.remove_all.ensures.left in
-    let events = events_again (c.enter_born.ensures.events) left.events c.remove_all.ensures.events in
-    same_again {v = v} (ap (λ (w : NamedView). w.set) c.self.view_is) back events
+    let left = c.in_err-id.ensures.unchanged in
+    let back = gone_again enters.entered enters.under c.as_slice.ensures enters.alike c.in_err-id.ensures.children in
+    at_error _ (same_again {v = v} (ap (λ (w : NamedView). w.set) c.self.view_is) back (events_again c.enter_born.ensures.events left.events))
