@@ -6,8 +6,10 @@ pub mod Indexes
 pub mod OwnNumbers
 pub mod Entries
 pub mod AgentFacts
+pub mod ChildSerials
 pub mod GoneAgents
 pub mod EventFacts
+pub mod RecordParts
 pub mod RecordFacts
 pub mod RecordLoops
 pub mod SameLinks

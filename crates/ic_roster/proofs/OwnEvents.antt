@@ -4,8 +4,7 @@ use Rattle.ic_path.specs.Orders.{IsIn}
 use Rattle.ic_path.proofs.Picks.{in_others}
 use Rattle.ic_name.specs.declared.ids.EventId.{EventId}
 use Rattle.ic_name.specs.Names.{Name}
-use Rattle.ic_roster.specs.Rosters.{Stander, HaveOwnLines, RosterView, event_in}
-use Rattle.ic_roster.specs.declared.events.StandingEntry.{StandingEntry}
+use Rattle.ic_roster.specs.Rosters.{Stander, HaveOwnLines}
 
 -- two events of one id
 same_id : (ss : List Stander) (x y : Stander) → HaveOwnLines ss → IsIn x ss → IsIn y ss → y.id ≡ x.id → x ≡ y
@@ -14,10 +13,6 @@ same_id ss x y own i j e = elim (in_others i.1 j) [ inl same ↦ sym same | inr 
 -- two events of one lead
 pub same_lead : (ss : List Stander) (x y : Stander) → HaveOwnLines ss → IsIn x ss → IsIn y ss → y.event.lead ≡ x.event.lead → x ≡ y
 same_lead ss x y own i j e = elim (in_others i.1 j) [ inl same ↦ sym same | inr k ↦ absurd (own.leads x y i.0 i.1 k e) ]
-
--- the event of an entry that is read
-abbrev pub found_entry : RosterView → EventId → StandingEntry → Stander
-found_entry v id entry = record { id = id; event = event_in v.names entry.interaction; rank = entry.rank; born = entry.born.now; causes = entry.causes.now }
 
 -- an event of the same id has the same lead
 pub led_there : (ss : List Stander) (x y : Stander) → HaveOwnLines ss → IsIn x ss → IsIn y ss → y.id ≡ x.id → {n : Name} → x.event.lead ≡ n → y.event.lead ≡ n

@@ -1,49 +1,32 @@
--- What slots that show the same events tell, and what a write to the dependents of one event changes.
-use Rattle.std.proofs.Common.{◌≡◌, ◌≢◌, ℕ, suc, ◌+◌, ◌==◌, Bool, true, false, cond, ◌||◌, List, [], ◌∷◌, map, Option, Some, None, ◌⊎◌, inl, inr, refl, sym, ap, ◌∙◌, subst, arith}
-use Rattle.std.specs.Prelude.{option_map, unwrap_or, slice_set, IsSome, IsSomeAnd}
-use Rattle.std.proofs.lemmas.Bool.{eqb-true, cases_eq}
+-- What slots that differ in dependents alone tell, and what a write to the dependents of one event changes.
+use Rattle.std.proofs.Common.{◌≡◌, ◌≢◌, ℕ, suc, ◌+◌, ◌==◌, Bool, true, false, ◌||◌, List, [], ◌∷◌, map, Option, Some, None, ◌⊎◌, inl, inr, refl, sym, ap, ◌∙◌, subst, arith}
+use Rattle.std.specs.Prelude.{option_map, unwrap_or, slice_set, IsSome, is_some}
+use Rattle.std.proofs.lemmas.Bool.{eqb-true, eq-eqb, cases_eq}
 use Rattle.slab.specs.Slab.{Updates, entries_from}
 use Rattle.slab.proofs.SlabLemmas.{Updates-with_value}
-use Rattle.smallvec.specs.SmallVec.{SmallVec, HasRoomFor}
-use Rattle.ic_name.specs.declared.ids.EventId.{EventId}
-use Rattle.ic_name.specs.Spots.{same_event}
-use Rattle.ic_roster.specs.declared.event_record.EventRecord.{EventRecord}
-use Rattle.ic_roster.specs.Placed.{PlacedEvent}
-use Rattle.ic_roster.specs.Slots.{slot_at, number_at}
-use Rattle.ic_roster.specs.EventSlots.{event_at, events_in}
-use Rattle.ic_roster.specs.Records.{in_line, record_of, causes_at, has}
-use Rattle.ic_roster.specs.RecordChanges.{shown_in, ShowsSame, HasRoom, Changes}
-use Rattle.ic_name.proofs.SameFacts.{same_event_true, same_event_self}
+use Rattle.ic_roster.specs.KeptEvents.{KeptEvent, lone}
+use Rattle.ic_roster.specs.Slots.{slot_at, shown}
+use Rattle.ic_roster.specs.EventSlots.{event_line, id_in, event_by, events_in}
+use Rattle.ic_roster.specs.Records.{causes_at, dependents_at, has}
+use Rattle.ic_roster.specs.RecordChanges.{ShowsSame, Changes}
 
--- one map after another
-mapped_twice : {X Y Z : Type 0} (f : X → Y) (g : Y → Z) (o : Option X) → option_map g (option_map f o) ≡ option_map (λ x. g (f x)) o
-mapped_twice f g None = refl
-mapped_twice f g (Some x) = refl
+module _ {X : Type 0} (f : KeptEvent → X) (tells : (r : KeptEvent) → f (lone r) ≡ f r) where
+  -- what is told without dependents
+  told : (o : Option KeptEvent) → option_map f (option_map lone o) ≡ option_map f o
+  told None = refl
+  told (Some r) = ap (λ x. Some x) (tells r)
 
--- an event, if it is of the line
-abbrev if_of_line : ℕ → Option PlacedEvent → Option PlacedEvent
-if_of_line line None = None
-if_of_line line (Some x) = cond (x.id.line == line) (Some x) None
-
--- the event of a record of the line
-line_shows : (o : Option EventRecord) (e : EventId) → option_map (λ r. event_at (e.slot, r)) (in_line o e) ≡ if_of_line e.line (option_map (λ r. event_at (e.slot, r)) o)
-line_shows None e = refl
-line_shows (Some r) e = by (r.line == e.line)
-  where
-    by : (b : Bool) → option_map (λ r. event_at (e.slot, r)) (cond b (Some r) None) ≡ cond b (Some (event_at (e.slot, r))) None
-    by true = refl
-    by false = refl
-
--- the records of an event show the same
-pub shows_record : (m n : List (Option EventRecord)) → ShowsSame m n → (e : EventId) → option_map (λ r. event_at (e.slot, r)) (record_of n e) ≡ option_map (λ r. event_at (e.slot, r)) (record_of m e)
-shows_record m n shows e = line_shows (slot_at n e.slot) e ∙ ap (if_of_line e.line) (shows e.slot) ∙ sym (line_shows (slot_at m e.slot) e)
+  -- is the same
+  pub same_told : (m n : List (Option KeptEvent)) → ShowsSame m n → (k : ℕ) → option_map f (slot_at n k) ≡ option_map f (slot_at m k)
+  same_told m n shows k = sym (told (slot_at n k)) ∙ ap (option_map f) (shows k) ∙ told (slot_at m k)
 
 -- an event has the same direct causes
-pub same_causes : (m n : List (Option EventRecord)) → ShowsSame m n → (e : EventId) → causes_at n e ≡ causes_at m e
-same_causes m n shows e =
-    let f = λ (r : EventRecord). event_at (e.slot, r) in
-    let g = λ (x : PlacedEvent). x.causes in
-    ap (λ o. unwrap_or o []) (sym (mapped_twice f g (record_of n e)) ∙ ap (option_map g) (shows_record m n shows e) ∙ mapped_twice f g (record_of m e))
+pub same_causes : (m n : List (Option KeptEvent)) → ShowsSame m n → (k : ℕ) → causes_at n k ≡ causes_at m k
+same_causes m n shows k = ap (λ o. unwrap_or o []) (same_told (λ r. r.causes) (λ r. refl) m n shows k)
+
+-- each slot has the same id
+same_ids : (m n : List (Option KeptEvent)) → ShowsSame m n → id_in n ≡ id_in m
+same_ids m n shows i k = record { slot = k; line = unwrap_or (same_told event_line (λ r. refl) m n shows k i) 0 }
 
 -- slots that show the same, the first of them under this key
 abbrev ShowSameFrom : {T X : Type 0} → (ℕ × T → X) → ℕ → List (Option T) → List (Option T) → Type 0
@@ -74,90 +57,60 @@ same_from f first (Some x ∷ xs) (Some y ∷ ys) h =
     λ i. s i ∷ r i
 
 -- the same events are shown
-pub same_events : (m n : List (Option EventRecord)) → ShowsSame m n → events_in n ≡ events_in m
-same_events m n shows = same_from event_at 0 m n (λ k. let number : 0 + k ≡ k = omega arith in rw number (shows k))
-
--- what the event of a record tells is the same
-pub same_numbers : (f : EventRecord → ℕ) (g : PlacedEvent → ℕ) → ((k : ℕ) (r : EventRecord) → f r ≡ g (event_at (k, r))) → (m n : List (Option EventRecord)) → ShowsSame m n → (k : ℕ) → number_at f n k ≡ number_at f m k
-same_numbers f g tells m n shows k = told (slot_at n k) ∙ ap (option_map g) (shows k) ∙ sym (told (slot_at m k))
-  where
-    told : (o : Option EventRecord) → option_map f o ≡ option_map g (option_map (λ r. event_at (k, r)) o)
-    told None = refl
-    told (Some r) = ap (λ i. Some i) (tells k r)
+pub same_events : (m n : List (Option KeptEvent)) → ShowsSame m n → events_in n ≡ events_in m
+same_events m n shows =
+    ap (λ ids. shown (event_by ids) n) (same_ids m n shows)
+    ∙ same_from (event_by (id_in m)) 0 m n (λ k. let number : 0 + k ≡ k = omega arith in rw number (same_told (λ r. event_by (id_in m) (k, r)) (λ r. refl) m n shows k))
 
 -- one write after another shows the same
-pub shows_then : (l m n : List (Option EventRecord)) → ShowsSame l m → ShowsSame m n → ShowsSame l n
+pub shows_then : (l m n : List (Option KeptEvent)) → ShowsSame l m → ShowsSame m n → ShowsSame l n
 shows_then l m n first second k = second k ∙ first k
 
--- an event is in a list of one where it is that one
-pub has_one : (e f : EventId) → has e (f ∷ []) ≡ same_event e f
-has_one e f = or_false (same_event e f)
+-- a value is there where it is there mapped
+some_mapped : {X Y : Type 0} (f : X → Y) (o : Option X) → is_some (option_map f o) ≡ is_some o
+some_mapped f None = refl
+some_mapped f (Some x) = refl
+
+-- an event stands where the same is shown
+pub stands_still : (m n : List (Option KeptEvent)) → ShowsSame m n → (k : ℕ) → is_some (slot_at n k) ≡ is_some (slot_at m k)
+stands_still m n shows k = sym (some_mapped lone (slot_at n k)) ∙ ap is_some (shows k) ∙ some_mapped lone (slot_at m k)
+
+-- a slot is in a list of one where it is that one
+pub has_one : (j k : ℕ) → has j (k ∷ []) ≡ (j == k)
+has_one j k = or_false (j == k)
   where
     or_false : (b : Bool) → b || false ≡ b
     or_false true = refl
     or_false false = refl
 
--- where there is room the record is of the event's line
-pub room_lines : (m : List (Option EventRecord)) (c : EventId) (old : EventRecord) → Some old ≡ slot_at m c.slot → HasRoom m c → old.line == c.line ≡ true
-room_lines m c old found room = by (old.line == c.line) (subst (λ o. IsSomeAnd (in_line o c) (λ r. HasRoomFor r.dependents 1)) (sym found) room)
-  where
-    by : (b : Bool) → IsSomeAnd (cond b (Some old) None) (λ r. HasRoomFor r.dependents 1) → b ≡ true
-    by true h = refl
-    by false h = absurd h
+-- slots that are found to differ do
+pub differ : (j k : ℕ) → (j == k) ≡ false → j ≢ k
+differ j k h s = let t : (j == k) ≡ true = eq-eqb j k s in absurd cc
 
 -- what a write to the dependents of an event leaves
-module _ (m : List (Option EventRecord)) (c : EventId) (old : EventRecord) (dependents : SmallVec EventId) (found : Some old ≡ slot_at m c.slot) (lined : old.line == c.line ≡ true) where
-  -- its record after it
-  abbrev new : EventRecord
-  new = record old { dependents = dependents }
-
+module _ (m : List (Option KeptEvent)) (c : ℕ) (old new : KeptEvent) (found : Some old ≡ slot_at m c) (same : lone new ≡ lone old) where
   -- all records after it
-  abbrev n : List (Option EventRecord)
-  n = slice_set m c.slot (Some new)
+  abbrev n : List (Option KeptEvent)
+  n = slice_set m c (Some new)
 
   -- the slot of the event is written, and no other
-  written : Updates (record { slots = m; vacant_key = 0; capacity = 0 }) (record { slots = n; vacant_key = 0; capacity = 0 }) c.slot (Some new)
-  written = Updates-with_value (record { slots = m; vacant_key = 0; capacity = 0 }) c.slot new (subst IsSome found refl)
+  written : Updates (record { slots = m; vacant_key = 0; capacity = 0 }) (record { slots = n; vacant_key = 0; capacity = 0 }) c (Some new)
+  written = Updates-with_value (record { slots = m; vacant_key = 0; capacity = 0 }) c new (subst IsSome found refl)
 
   -- each slot shows the same event
   shows_after : ShowsSame m n
-  shows_after k = by (cases_eq k c.slot)
+  shows_after k = by (cases_eq k c)
     where
-      by : (k ≡ c.slot) ⊎ (k ≢ c.slot) → shown_in n k ≡ shown_in m k
-      by (inl e) = subst (λ j. shown_in n j ≡ shown_in m j) (sym e) (rw (written.changed, ← found) refl)
-      by (inr d) = ap (option_map (λ r. event_at (k, r))) (written.others k d)
-
-  -- the event had the old record
-  record_before : (q : EventId) → same_event q c ≡ true → record_of m q ≡ Some old
-  record_before q h = ap (record_of m) (same_event_true q c h) ∙ ap (λ o. in_line o c) (sym found) ∙ ap (λ b. cond b (Some old) None) lined
-
-  -- it has the new one
-  record_here : (q : EventId) → same_event q c ≡ true → record_of n q ≡ Some new
-  record_here q h = ap (record_of n) (same_event_true q c h) ∙ ap (λ o. in_line o c) written.changed ∙ ap (λ b. cond b (Some new) None) lined
-
-  -- another event has what it had
-  record_elsewhere : (q : EventId) → same_event q c ≡ false → record_of n q ≡ record_of m q
-  record_elsewhere q h = by (cases_eq q.slot c.slot)
-    where
-      in_slot : q.slot ≡ c.slot → (b : Bool) → old.line == q.line ≡ b → in_line (Some new) q ≡ in_line (Some old) q
-      in_slot s true e =
-          let l : q.line ≡ c.line = sym (eqb-true old.line q.line e) ∙ eqb-true old.line c.line lined in
-          let same : q ≡ c = (λ i. record { slot = s i; line = l i }) in
-          let t : same_event q c ≡ true = ap (λ x. same_event x c) same ∙ same_event_self c in
-          absurd cc
-      in_slot s false e = rw (e) refl
-
-      by : (q.slot ≡ c.slot) ⊎ (q.slot ≢ c.slot) → record_of n q ≡ record_of m q
-      by (inl s) =
-          ap (λ o. in_line o q) (ap (slot_at n) s ∙ written.changed)
-          ∙ in_slot s (old.line == q.line) refl
-          ∙ ap (λ o. in_line o q) (found ∙ ap (slot_at m) (sym s))
-      by (inr d) = ap (λ o. in_line o q) (written.others q.slot d)
+      by : (k ≡ c) ⊎ (k ≢ c) → option_map lone (slot_at n k) ≡ option_map lone (slot_at m k)
+      by (inl e) = subst (λ j. option_map lone (slot_at n j) ≡ option_map lone (slot_at m j)) (sym e) (rw (written.changed, ← found) (ap (λ x. Some x) same))
+      by (inr d) = ap (option_map lone) (written.others k d)
 
   -- its dependents alone are changed
-  pub changes_after : (P : List EventId → List EventId → Type 0) → P old.dependents.items dependents.items → Changes P (c ∷ []) m n
+  pub changes_after : (P : List ℕ → List ℕ → Type 0) → P old.dependents new.dependents → Changes P (c ∷ []) m n
   changes_after P p = record {
     shows = shows_after;
-    changed = λ q h. let s = sym (has_one q c) ∙ h in rw (record_here q s, record_before q s) p;
-    others = λ q h. ap (λ o. unwrap_or (option_map (λ r. r.dependents.items) o) []) (record_elsewhere q (sym (has_one q c) ∙ h));
+    changed = λ k h.
+        let s : k ≡ c = eqb-true k c (sym (has_one k c) ∙ h) in
+        subst (λ j. P (dependents_at m j) (dependents_at n j)) (sym s) (rw (written.changed, ← found) p);
+    others = λ k h. ap (λ o. unwrap_or (option_map (λ r. r.dependents) o) []) (written.others k (differ k c (sym (has_one k c) ∙ h)));
   }

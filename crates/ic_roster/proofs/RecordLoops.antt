@@ -1,111 +1,120 @@
 -- Writes to the dependents of several events, one after the other.
-use Rattle.std.proofs.Common.{◌≡◌, ℕ, ◌<◌, Bool, true, false, ◌||◌, List, [], ◌∷◌, ◌++◌, length, get_or, take, Option, Some, None, refl, sym, ap, ◌∙◌, subst}
-use Rattle.std.specs.Prelude.{option_map, is_some}
+use Rattle.std.proofs.Common.{◌≡◌, ◌≢◌, ℕ, ◌<◌, ◌==◌, Bool, true, false, ◌||◌, List, [], ◌∷◌, ◌++◌, length, map, get_or, take, All, Option, refl, sym, ap, ◌∙◌, subst}
 use Rattle.std.specs.Option.{IsSomeAnd}
-use Rattle.smallvec.specs.SmallVec.{HasRoomFor}
-use Rattle.ic_path.specs.Orders.{IsIn, IsOnce}
+use Rattle.std.proofs.lemmas.Bool.{eqb-true, eq-eqb}
+use Rattle.std.proofs.lemmas.List.{length-map, take-map, get_or-map}
+use Rattle.std.proofs.lemmas.List.Elements.{All-get_or}
 use Rattle.ic_name.specs.declared.ids.EventId.{EventId}
-use Rattle.ic_name.specs.Spots.{same_event}
+use Rattle.ic_path.proofs.InLists.{in-map}
+use Rattle.ic_path.specs.Orders.{IsIn, IsOnce}
 use Rattle.ic_path.proofs.ListTests.{any-picked, any_in, any-end}
 use Rattle.ic_path.proofs.OnceLists.{pick_at, not_before}
-use Rattle.ic_roster.specs.declared.event_record.EventRecord.{EventRecord}
-use Rattle.ic_roster.specs.EventSlots.{event_at}
-use Rattle.ic_roster.specs.Records.{record_of, dependents_at, has}
-use Rattle.ic_roster.specs.RecordChanges.{ShowsSame, HasRoom, Changes}
-use Rattle.ic_roster.proofs.RecordFacts.{shows_record, shows_then, has_one}
-use Rattle.ic_name.proofs.SameFacts.{same_event_true, same_event_self}
+use Rattle.ic_roster.specs.KeptEvents.{KeptEvent}
+use Rattle.ic_roster.specs.Slots.{slot_at}
+use Rattle.ic_roster.specs.Records.{dependents_at, has}
+use Rattle.ic_roster.specs.RecordChanges.{HasRoom, Changes}
+use Rattle.ic_roster.proofs.RecordFacts.{shows_then, has_one, differ}
 
 -- what is found is in the list
-pub has_in : (e : EventId) (es : List EventId) → has e es ≡ true → IsIn e es
-has_in e es h = any_in (same_event e) e es (same_event_true e) h
+pub has_in : (k : ℕ) (ks : List ℕ) → has k ks ≡ true → IsIn k ks
+has_in k ks h = any_in (λ j. k == j) k ks (λ j. eqb-true k j) h
 
 -- what is in the list is found
-pub in_has : {e : EventId} {es : List EventId} → IsIn e es → has e es ≡ true
-in_has {e} i = any-picked (same_event e) i.1 (same_event_self e)
+pub in_has : {k : ℕ} {ks : List ℕ} → IsIn k ks → has k ks ≡ true
+in_has {k} i = any-picked (λ j. k == j) i.1 (eq-eqb k k refl)
 
--- an event of the list is in it
-pub has_here : (es : List EventId) (i : ℕ) (d : EventId) → i < length es → has (get_or es i d) es ≡ true
-has_here es i d h = any-picked (same_event (get_or es i d)) (pick_at es i d h) (same_event_self (get_or es i d))
+-- a slot of the list is in it
+pub has_here : (ks : List ℕ) (i : ℕ) (d : ℕ) → i < length ks → has (get_or ks i d) ks ≡ true
+has_here ks i d h = any-picked (λ j. get_or ks i d == j) (pick_at ks i d h) (eq-eqb (get_or ks i d) (get_or ks i d) refl)
 
 -- where none is twice, it isn't among those before it
-pub new_here : (es : List EventId) (i : ℕ) (d : EventId) → i < length es → IsOnce es → has (get_or es i d) (take i es) ≡ false
-new_here es i d h once = by (has (get_or es i d) (take i es)) refl
+pub new_here : (ks : List ℕ) (i : ℕ) (d : ℕ) → i < length ks → IsOnce ks → has (get_or ks i d) (take i ks) ≡ false
+new_here ks i d h once = by (has (get_or ks i d) (take i ks)) refl
   where
-    by : (b : Bool) → has (get_or es i d) (take i es) ≡ b → has (get_or es i d) (take i es) ≡ false
-    by true e = absurd (not_before es i d h once (has_in _ (take i es) e))
+    by : (b : Bool) → has (get_or ks i d) (take i ks) ≡ b → has (get_or ks i d) (take i ks) ≡ false
+    by true e = absurd (not_before ks i d h once (has_in _ (take i ks) e))
     by false e = e
 
--- whether an event is in a list with one more at its end
-has_end : (e c : EventId) (es : List EventId) (x y : Bool) → has e es ≡ x → same_event e c ≡ y → has e (es ++ c ∷ []) ≡ x || y
-has_end e c es x y h k = any-end (same_event e) c es ∙ rw (h, k) refl
+-- the slots of ids
+abbrev pub slots_of : List EventId → List ℕ
+slots_of es = map (λ (d : EventId). d.slot) es
 
--- the cases of an event of a longer list: it is among the others, it is the last, or it is neither
-pub data Cases (e c : EventId) (es : List EventId) : Type 0 where
-  among : has e es ≡ true → has e (es ++ c ∷ []) ≡ true → Cases e c es
-  last : has e es ≡ false → e ≡ c → has e (es ++ c ∷ []) ≡ true → Cases e c es
-  neither : has e es ≡ false → same_event e c ≡ false → has e (es ++ c ∷ []) ≡ false → Cases e c es
+-- the slot of an id of the list is among theirs
+pub id_here : (es : List EventId) (i : ℕ) (d : EventId) → i < length es → has ((get_or es i d).slot) (slots_of es) ≡ true
+id_here es i d h = in_has (in-map (λ (e : EventId). e.slot) (_, pick_at es i d h))
 
--- each event is in one of the cases
-pub cases_of : (e c : EventId) (es : List EventId) → Cases e c es
-cases_of e c es = by (has e es) (same_event e c) refl refl
+-- where no slot is twice, it isn't among those before it
+pub id_new : (es : List EventId) (i : ℕ) (d : EventId) → i < length es → IsOnce (slots_of es) → has ((get_or es i d).slot) (slots_of (take i es)) ≡ false
+id_new es i d h once =
+    let f = λ (e : EventId). e.slot in
+    let at : get_or (slots_of es) i d.slot ≡ (get_or es i d).slot = get_or-map f es i d d.slot h in
+    let before : take i (slots_of es) ≡ slots_of (take i es) = take-map f i es in
+    (λ u. has (sym at u) (sym before u)) ∙ new_here (slots_of es) i d.slot (rw (length-map es f) h) once
+
+-- what holds of each slot holds of that of an id of the list
+pub id_at : (P : ℕ → Type 0) (es : List EventId) (i : ℕ) (d : EventId) → i < length es → All P (slots_of es) → P ((get_or es i d).slot)
+id_at P es i d h all = All-get_or (λ (e : EventId). P e.slot) es i d h (λ k e l. subst P (get_or-map (λ (q : EventId). q.slot) es k e e.slot l) (all k e.slot (rw (length-map es (λ (q : EventId). q.slot)) l)))
+
+-- whether a slot is in a list with one more at its end
+has_end : (k c : ℕ) (ks : List ℕ) (x y : Bool) → has k ks ≡ x → (k == c) ≡ y → has k (ks ++ c ∷ []) ≡ x || y
+has_end k c ks x y h e = any-end (λ j. k == j) c ks ∙ rw (h, e) refl
+
+-- the cases of a slot of a longer list: it is among the others, it is the last, or it is neither
+pub data Cases (k c : ℕ) (ks : List ℕ) : Type 0 where
+  among : has k ks ≡ true → has k (ks ++ c ∷ []) ≡ true → Cases k c ks
+  last : has k ks ≡ false → k ≡ c → has k (ks ++ c ∷ []) ≡ true → Cases k c ks
+  neither : has k ks ≡ false → (k == c) ≡ false → has k (ks ++ c ∷ []) ≡ false → Cases k c ks
+
+-- each slot is in one of the cases
+cases_of : (k c : ℕ) (ks : List ℕ) → Cases k c ks
+cases_of k c ks = by (has k ks) (k == c) refl refl
   where
-    by : (x y : Bool) → has e es ≡ x → same_event e c ≡ y → Cases e c es
-    by true y h k = among h (has_end e c es true y h k)
-    by false true h k = last h (same_event_true e c k) (has_end e c es false true h k)
-    by false false h k = neither h k (has_end e c es false false h k)
+    by : (x y : Bool) → has k ks ≡ x → (k == c) ≡ y → Cases k c ks
+    by true y h e = among h (has_end k c ks true y h e)
+    by false true h e = last h (eqb-true k c e) (has_end k c ks false true h e)
+    by false false h e = neither h e (has_end k c ks false false h e)
 
 -- one more event's dependents are changed
-pub changes_more : (P : List EventId → List EventId → Type 0) (c : EventId) (es : List EventId) (a b d : List (Option EventRecord)) → has c es ≡ false
-    → Changes P es a b → Changes P (c ∷ []) b d → Changes P (es ++ c ∷ []) a d
-changes_more P c es a b d new first second = record {
+pub changes_more : (P : List ℕ → List ℕ → Type 0) (c : ℕ) (ks : List ℕ) (a b d : List (Option KeptEvent)) → has c ks ≡ false
+    → Changes P ks a b → Changes P (c ∷ []) b d → Changes P (ks ++ c ∷ []) a d
+changes_more P c ks a b d new first second = record {
   shows = shows_then a b d first.shows second.shows;
-  changed = λ e h. changed e h (cases_of e c es);
-  others = λ e h. others e h (cases_of e c es);
+  changed = λ k h. changed k h (cases_of k c ks);
+  others = λ k h. others k h (cases_of k c ks);
 }
   where
-    apart : (e : EventId) → has e es ≡ true → (y : Bool) → same_event e c ≡ y → has e (c ∷ []) ≡ false
-    apart e h true k = let s : e ≡ c = same_event_true e c k in let t : has c es ≡ true = sym (ap (λ x. has x es) s) ∙ h in absurd (cc)
-    apart e h false k = has_one e c ∙ k
+    apart : (k : ℕ) → has k ks ≡ true → (y : Bool) → (k == c) ≡ y → has k (c ∷ []) ≡ false
+    apart k h true e = let s : k ≡ c = eqb-true k c e in let t : has c ks ≡ true = sym (ap (λ x. has x ks) s) ∙ h in absurd (cc)
+    apart k h false e = has_one k c ∙ e
 
-    changed : (e : EventId) → has e (es ++ c ∷ []) ≡ true → Cases e c es → P (dependents_at a e) (dependents_at d e)
-    changed e h (among k _) = rw (second.others e (apart e k _ refl)) (first.changed e k)
-    changed e h (last k s _) = subst (λ x. P x (dependents_at d e)) (first.others e k) (second.changed e (has_one e c ∙ ap (λ x. same_event x c) s ∙ same_event_self c))
-    changed e h (neither _ _ k) = absurd (cc)
+    changed : (k : ℕ) → has k (ks ++ c ∷ []) ≡ true → Cases k c ks → P (dependents_at a k) (dependents_at d k)
+    changed k h (among e _) = rw (second.others k (apart k e _ refl)) (first.changed k e)
+    changed k h (last e s _) = subst (λ x. P x (dependents_at d k)) (first.others k e) (second.changed k (has_one k c ∙ eq-eqb k c s))
+    changed k h (neither _ _ e) = absurd (cc)
 
-    others : (e : EventId) → has e (es ++ c ∷ []) ≡ false → Cases e c es → dependents_at d e ≡ dependents_at a e
-    others e h (among _ k) = absurd (cc)
-    others e h (last _ _ k) = absurd (cc)
-    others e h (neither k l _) = second.others e (has_one e c ∙ l) ∙ first.others e k
-
--- a value is there where it is there mapped
-some_mapped : {X Y : Type 0} (f : X → Y) (o : Option X) → is_some (option_map f o) ≡ is_some o
-some_mapped f None = refl
-some_mapped f (Some x) = refl
-
--- an event stands where the same events are shown
-pub stands_still : (m n : List (Option EventRecord)) → ShowsSame m n → (e : EventId) → is_some (record_of n e) ≡ is_some (record_of m e)
-stands_still m n shows e =
-    let f = λ (r : EventRecord). event_at (e.slot, r) in
-    sym (some_mapped f (record_of n e)) ∙ ap is_some (shows_record m n shows e) ∙ some_mapped f (record_of m e)
+    others : (k : ℕ) → has k (ks ++ c ∷ []) ≡ false → Cases k c ks → dependents_at d k ≡ dependents_at a k
+    others k h (among _ e) = absurd (cc)
+    others k h (last _ _ e) = absurd (cc)
+    others k h (neither e l _) = second.others k (has_one k c ∙ l) ∙ first.others k e
 
 -- room stays where the record does
-room_still : (m n : List (Option EventRecord)) (e : EventId) → record_of n e ≡ record_of m e → HasRoom m e → HasRoom n e
-room_still m n e same room = subst (λ o. IsSomeAnd o (λ x. HasRoomFor x.dependents 1)) (sym same) room
+pub room_still : (m n : List (Option KeptEvent)) (k : ℕ) → slot_at n k ≡ slot_at m k → HasRoom m k → HasRoom n k
+room_still m n k same room = subst (λ o. IsSomeAnd o (λ x. 0 < x.spare)) (sym same) room
 
 -- those that are left keep their room as one event's dependents are written
-pub rooms_left : (m n : List (Option EventRecord)) (c : EventId) (done : List EventId) (e : EventId) → (has e done ≡ false → HasRoom m e) → (same_event e c ≡ false → record_of n e ≡ record_of m e) → has e (done ++ c ∷ []) ≡ false → HasRoom n e
-rooms_left m n c done e room others new = by (cases_of e c done)
+pub rooms_left : (m n : List (Option KeptEvent)) (c : ℕ) (done : List ℕ) (k : ℕ) → (has k done ≡ false → HasRoom m k) → (k ≢ c → slot_at n k ≡ slot_at m k) → has k (done ++ c ∷ []) ≡ false → HasRoom n k
+rooms_left m n c done k room others new = by (cases_of k c done)
   where
-    by : Cases e c done → HasRoom n e
-    by (among _ k) = absurd (cc)
-    by (last _ _ k) = absurd (cc)
-    by (neither k l _) = room_still m n e (others l) (room k)
+    by : Cases k c done → HasRoom n k
+    by (among _ e) = absurd (cc)
+    by (last _ _ e) = absurd (cc)
+    by (neither e l _) = room_still m n k (others (differ k c l)) (room e)
 
 -- one more event has room
-pub rooms_more : (m n : List (Option EventRecord)) (c : EventId) (done : List EventId) (e : EventId) → (has e done ≡ true → HasRoom m e) → (HasRoom m e → HasRoom n e) → HasRoom n c → has e (done ++ c ∷ []) ≡ true → HasRoom n e
-rooms_more m n c done e room kept this h = by (cases_of e c done)
+pub rooms_more : (m n : List (Option KeptEvent)) (c : ℕ) (done : List ℕ) (k : ℕ) → (has k done ≡ true → HasRoom m k) → (HasRoom m k → HasRoom n k) → HasRoom n c → has k (done ++ c ∷ []) ≡ true → HasRoom n k
+rooms_more m n c done k room kept this h = by (cases_of k c done)
   where
-    by : Cases e c done → HasRoom n e
-    by (among k _) = kept (room k)
+    by : Cases k c done → HasRoom n k
+    by (among e _) = kept (room e)
     by (last _ s _) = subst (HasRoom n) (sym s) this
-    by (neither _ _ k) = absurd (cc)
+    by (neither _ _ e) = absurd (cc)

@@ -3,6 +3,7 @@ pub mod Placed
 pub mod Slots
 pub mod Inverses
 pub mod AgentSlots
+pub mod KeptEvents
 pub mod EventSlots
 pub mod Records
 pub mod RecordChanges

@@ -1,11 +1,12 @@
 -- Agents and events that tell their names by places in the table.
-use Rattle.std.specs.Prelude.{◌≡◌, ◌≢◌, ◌<◌, ℕ, List, map, length, All}
+use Rattle.std.specs.Prelude.{◌≡◌, ◌≢◌, ◌<◌, ◌+◌, ℕ, List, map, length, All}
 use Rattle.ic_path.specs.Orders.{Pick, IsIn}
 use Rattle.ic_path.specs.Rings.{HasEachOnce}
 use Rattle.ic_name.specs.Names.{Name}
 use Rattle.ic_name.specs.declared.ids.AgentId.{AgentId}
 use Rattle.ic_name.specs.declared.ids.EventId.{EventId}
 use Rattle.ic_names.specs.Tables.{name_at}
+use Rattle.ic_roster.specs.declared.events.EventEntry.{EventEntry}
 use Rattle.ic_roster.specs.declared.interaction.Interaction.{Interaction}
 use Rattle.ic_roster.specs.declared.agent_records.PlacedAgent.{PlacedAgent}
 use Rattle.ic_roster.specs.Rosters.{Member, Stander, RosterView, event_in, IsNamed}
@@ -27,6 +28,14 @@ pub record PlacedEvent : Type 0 where
   pub rank : ℕ
   pub born : List AgentId
   pub causes : List EventId
+
+-- the id of the child in a slot of an event of this line
+abbrev pub child_in : ℕ → ℕ → AgentId
+child_in line k = record { slot = k; serial = line + 1 }
+
+-- what is told of the event of the list that has the id
+abbrev pub IsPlacedEntry : List PlacedEvent → EventId → EventEntry → Type 0
+IsPlacedEntry xs id entry = (x : PlacedEvent) × IsIn x xs × (x.id ≡ id) × (x.interaction ≡ entry.interaction) × (x.rank ≡ entry.rank)
 
 -- each event has a slot, a line and a place of the lead of its own
 pub record HaveOwnKeys (xs : List PlacedEvent) : Type 0 where

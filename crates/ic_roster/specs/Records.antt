@@ -1,35 +1,24 @@
--- The records of the events that stand.
-use Rattle.std.specs.Prelude.{◌≡◌, ◌==◌, Bool, List, [], Option, Some, None, option_map, unwrap_or, if◌then◌else◌}
+-- The records of the events that stand, and how causes and dependents are linked.
+use Rattle.std.specs.Prelude.{◌≡◌, ◌==◌, ℕ, Bool, List, [], Option, option_map, unwrap_or}
 use Rattle.std.specs.List.{list_any}
-use Rattle.ic_name.specs.declared.ids.EventId.{EventId}
-use Rattle.ic_name.specs.Spots.{same_event}
-use Rattle.ic_roster.specs.declared.event_record.EventRecord.{EventRecord}
+use Rattle.ic_roster.specs.KeptEvents.{KeptEvent}
 use Rattle.ic_roster.specs.Slots.{slot_at}
 use Rattle.ic_path.specs.Orders.{IsOnce}
 
--- a record, if it is of the line
-abbrev pub in_line : Option EventRecord → EventId → Option EventRecord
-in_line None e = None
-in_line (Some r) e = if r.line == e.line then Some r else None
+-- the slots of the direct causes of the event in a slot, none where none stands there
+abbrev pub causes_at : List (Option KeptEvent) → ℕ → List ℕ
+causes_at slots k = unwrap_or (option_map (λ r. r.causes) (slot_at slots k)) []
 
--- the record of an event: the one in its slot, if that is of its line
-abbrev pub record_of : List (Option EventRecord) → EventId → Option EventRecord
-record_of slots e = in_line (slot_at slots e.slot) e
+-- the slots of the events whose direct cause it is, none where none stands there
+abbrev pub dependents_at : List (Option KeptEvent) → ℕ → List ℕ
+dependents_at slots k = unwrap_or (option_map (λ r. r.dependents) (slot_at slots k)) []
 
--- its direct causes, none where it doesn't stand
-abbrev pub causes_at : List (Option EventRecord) → EventId → List EventId
-causes_at slots e = unwrap_or (option_map (λ r. r.causes.items) (record_of slots e)) []
-
--- the events whose direct cause it is, none where it doesn't stand
-abbrev pub dependents_at : List (Option EventRecord) → EventId → List EventId
-dependents_at slots e = unwrap_or (option_map (λ r. r.dependents.items) (record_of slots e)) []
-
--- whether the event is in the list
-abbrev pub has : EventId → List EventId → Bool
-has e es = list_any (same_event e) es
+-- whether the slot is in the list
+abbrev pub has : ℕ → List ℕ → Bool
+has k ks = list_any (λ j. k == j) ks
 
 -- the dependents of an event are those that have it among their causes, and no list has an event twice
-pub record AreLinked (slots : List (Option EventRecord)) : Type 0 where
-  pub linked : (e f : EventId) → has f (dependents_at slots e) ≡ has e (causes_at slots f)
-  pub causes_once : (e : EventId) → IsOnce (causes_at slots e)
-  pub dependents_once : (e : EventId) → IsOnce (dependents_at slots e)
+pub record AreLinked (slots : List (Option KeptEvent)) : Type 0 where
+  pub linked : (j k : ℕ) → has k (dependents_at slots j) ≡ has j (causes_at slots k)
+  pub causes_once : (k : ℕ) → IsOnce (causes_at slots k)
+  pub dependents_once : (k : ℕ) → IsOnce (dependents_at slots k)

@@ -9,6 +9,7 @@ use Rattle.ic_name.specs.declared.kinds.Kind.{Kind}
 use Rattle.ic_name.specs.declared.ids.AgentId.{AgentId}
 use Rattle.ic_name.specs.declared.ids.EventId.{EventId}
 use Rattle.ic_names.specs.Tables.{name_at}
+use Rattle.ic_roster.specs.declared.events.EventEntry.{EventEntry}
 use Rattle.ic_roster.specs.declared.interaction.Interaction.{Interaction}
 
 -- an agent under its id
@@ -83,6 +84,10 @@ pub record IsNamed (ns : List Name) (i : Interaction) : Type 0 where
   pub lead : i.lead.place < length ns
   pub other : i.other.place < length ns
   pub ordered : name_cmp (name_at ns i.lead.place) (name_at ns i.other.place) ≡ Less
+
+-- what is told of the event that stands under the id
+abbrev pub IsEntryOf : RosterView → EventId → EventEntry → Type 0
+IsEntryOf r id entry = (x : Stander) × IsIn x r.events × (x.id ≡ id) × (x.event ≡ event_in r.names entry.interaction) × (x.rank ≡ entry.rank)
 
 -- the agents that were there but those under the ids
 abbrev pub Loses : List AgentId → List Member → List Member → Type 0

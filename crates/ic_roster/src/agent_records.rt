@@ -1,8 +1,8 @@
-ghost use Rattle.std.specs.Prelude.{◌≡◌, ◌≢◌, ◌↔◌, ◌∷◌, [], length, IfSome, IfNone, IfOk, OnErr};
+ghost use Rattle.std.specs.Prelude.{◌≡◌, ◌≢◌, ◌↔◌, ◌∷◌, [], length, map, IfSome, IfNone, IfOk, OnErr};
 ghost use Rattle.ic_path.specs.Orders.{Alike, IsIn};
 ghost use Rattle.ic_name.specs.declared.kinds.Kind.{Kind as AKind};
 ghost use Rattle.ic_roster.specs.declared.agent_records.PlacedAgent.{PlacedAgent as APlacedAgent};
-ghost use Rattle.ic_roster.specs.Placed.{HaveOwnPlaces, IsNewPlace};
+ghost use Rattle.ic_roster.specs.Placed.{HaveOwnPlaces, IsNewPlace, child_in};
 
 use crate::agents::AgentEntry;
 use crate::reserving::reserve_slot;
@@ -160,13 +160,28 @@ impl AgentRecords {
         self.slots.take(agent.name.place);
     }
 
-    /// The agents under these ids go, those that there are, in constant time for each. It takes no memory.
-    pub fn remove_each(&mut self, ids: &[AgentId])
-        ensures { (m : APlacedAgent) → IsIn m self.new ↔ (IsIn m self.old × (IsIn m.id ids.now → ⊥)) }
+    /// The agents in these slots that are children of an event of this line go, in constant time for each. It takes no memory.
+    pub fn remove_children(&mut self, slots: &[u32], line: u32)
+        ensures { (m : APlacedAgent) → IsIn m self.new ↔ (IsIn m self.old × (IsIn m.id (map (child_in line) slots.now) → ⊥)) }
     {
-        for id in ids {
+        for slot in slots {
             self.lawful();
-            self.remove(*id);
+            self.remove_child(*slot, line);
+        }
+    }
+
+    /// The agent in the slot goes, if it is a child of an event of this line, in constant time. It takes no memory.
+    fn remove_child(&mut self, slot: u32, line: u32)
+        ensures gone { (x : APlacedAgent) → IsIn x self.old → x.id ≡ child_in line slot → Alike self.old (x ∷ self.new) }
+        ensures left { (x : APlacedAgent) → IsIn x self.new → IsIn x self.old }
+        ensures unchanged { ((x : APlacedAgent) → IsIn x self.old → x.id ≢ child_in line slot) → self.new ≡ self.old }
+    {
+        let Some(agent) = self.records.get(slot as usize) else {
+            return;
+        };
+        let serial = agent.serial;
+        if serial.checked_sub(1) == Some(line) {
+            self.remove(AgentId { slot, serial });
         }
     }
 }

@@ -1,18 +1,18 @@
-ghost use Rattle.std.specs.Prelude.{◌≡◌, ◌≢◌, ◌↔◌, ◌∷◌, [], length, map, IsNone, IsSomeAnd, IsTrue, IfSome, IfNone, IfOk, OnErr};
+ghost use Rattle.std.specs.Prelude.{◌≡◌, ◌≢◌, ◌↔◌, ◌+◌, ◌∷◌, [], length, map, All, IsNone, IsSomeAnd, IsTrue, IfSome, IfNone, IfOk, OnErr};
 ghost use Rattle.ic_path.specs.Orders.{Alike, IsIn, IsOnce};
 ghost use Rattle.ic_roster.specs.declared.agent_records.PlacedAgent.{PlacedAgent as APlacedAgent};
-ghost use Rattle.ic_roster.specs.Placed.{PlacedEvent, HaveOwnKeys, IsNewKey, AreKept, AreUsers};
+ghost use Rattle.ic_roster.specs.Placed.{PlacedEvent, HaveOwnKeys, IsNewKey, IsPlacedEntry, AreKept, AreUsers};
 
 use crate::agent_records::AgentRecords;
 use crate::dependents::{put_at_each, reserve_places, take_at_each};
+use crate::event_ids::EventIds;
 use crate::event_record::EventRecord;
-use crate::events::StandingEntry;
+use crate::events::{EventEntry, NewEvent};
 use crate::reserving::reserve_slot;
 use ic_name::EventId;
 use ic_names::NameId;
 use ic_slots::SlotIndex;
 use slab::Slab;
-use smallvec::SmallVec;
 use std::alloc::{AllocError, Global};
 use std::marker::Model;
 
@@ -74,30 +74,42 @@ impl EventRecords {
     }
 
     /// The event under an id, slot and line both; `None` for an id that holds no more. It takes no memory.
-    pub fn get(&self, id: EventId) -> Option<StandingEntry<'_>>
-        ensures found { IfSome result (λ entry. IsIn (record { id = id; interaction = entry.interaction; rank = entry.rank; born = entry.born.now; causes = entry.causes.now }) self.now) }
+    pub fn get(&self, id: EventId) -> Option<EventEntry>
+        ensures found { IfSome result (IsPlacedEntry self.now id) }
         ensures absent { IfNone result ((x : PlacedEvent) → IsIn x self.now → x.id ≢ id) }
     {
         let event = self.records.get(id.slot as usize)?;
-        if event.line != id.line {
+        if event.line() != id.line {
             return None;
         }
-        Some(StandingEntry {
-            interaction: event.interaction,
-            rank: event.rank,
-            born: event.born.as_slice(),
-            causes: event.causes.as_slice(),
+        Some(EventEntry {
+            interaction: event.interaction(),
+            rank: event.rank(),
         })
     }
 
-    /// The events that have the one under this id among their direct causes, each once, in no promised order; none where none
-    /// stands under it. It takes no memory.
-    pub fn dependents(&self, id: EventId) -> &[EventId]
-        ensures { AreUsers self.now id result.now }
+    /// The direct causes of the event under this id; none if no event stands under it. It takes no memory.
+    pub fn causes(&self, id: EventId) -> EventIds<'_>
+        ensures causes { (x : PlacedEvent) → IsIn x self.now → x.id ≡ id → result ≡ x.causes }
+        ensures absent { ((x : PlacedEvent) → IsIn x self.now → x.id ≢ id) → result ≡ [] }
     {
         match self.records.get(id.slot as usize) {
-            Some(event) if event.line == id.line => event.dependents.as_slice(),
-            _ => &[],
+            Some(event) if event.line() == id.line => EventIds::new(&self.records, event.causes()),
+            _ => EventIds::new(&self.records, &[]),
+        }
+    }
+
+    /// The events that have the one under this id among their direct causes, each once, in no promised order; none if no
+    /// event stands under it. It takes no memory.
+    pub fn dependents(&self, id: EventId) -> EventIds<'_>
+        ensures { AreUsers self.now id result }
+    {
+        match self.records.get(id.slot as usize) {
+            Some(event) if event.line() == id.line => EventIds::new(
+                &self.records,
+                event.dependents(),
+            ),
+            _ => EventIds::new(&self.records, &[]),
         }
     }
 
@@ -107,12 +119,12 @@ impl EventRecords {
     {
         let mut ids = Vec::with_capacity(alloc, self.records.len())?;
         for (_, event) in self.records.iter() {
-            let Some(slot) = self.leads.get(event.interaction.lead.place) else {
+            let Some(slot) = self.leads.get(event.lead().place) else {
                 unreachable!()
             };
             ids.push(EventId {
                 slot,
-                line: event.line,
+                line: event.line(),
             })?;
         }
         Ok(ids)
@@ -129,7 +141,7 @@ impl EventRecords {
         };
         Some(EventId {
             slot,
-            line: event.line,
+            line: event.line(),
         })
     }
 
@@ -142,31 +154,22 @@ impl EventRecords {
 
     /// One event more, fired in this line, with its direct causes, which stand, in constant time for each but for growth. At an
     /// error nothing changes.
-    pub fn insert(&mut self, line: u32, event: &StandingEntry<'_>) -> Result<EventId, AllocError>
+    pub fn insert(&mut self, line: u32, event: &NewEvent<'_>) -> Result<EventId, AllocError>
         requires is_new { IsNewKey self.old line event.now.interaction.lead.place }
         requires kept { AreKept self.old event.now.causes.now }
         requires once { IsOnce event.now.causes.now }
+        requires children { All (λ a. a.serial ≡ line + 1) event.now.born.now }
         ensures entered { IfOk result (λ id. (id.line ≡ line) × Alike (record { id = id; interaction = event.now.interaction; rank = event.now.rank; born = event.now.born.now; causes = event.now.causes.now } ∷ self.old) self.new) }
         ensures unchanged { OnErr result (self.new ≡ self.old) }
     {
-        let interaction = event.interaction;
-        let born = SmallVec::from_slice(self.alloc, event.born)?;
-        let its_causes = SmallVec::from_slice(self.alloc, event.causes)?;
+        let record = EventRecord::new(self.alloc, line, event)?;
         reserve_places(&mut self.records, event.causes)?;
         let slot = reserve_slot(&mut self.records)?;
-        self.leads.reserve(interaction.lead.place)?;
-        self.leads.put(interaction.lead.place, slot);
-        self.records.insert_reserved(EventRecord {
-            interaction,
-            line,
-            rank: event.rank,
-            born,
-            causes: its_causes,
-            dependents: SmallVec::new(self.alloc),
-        });
-        let id = EventId { slot, line };
-        put_at_each(&mut self.records, event.causes, id);
-        Ok(id)
+        self.leads.reserve(event.interaction.lead.place)?;
+        self.leads.put(event.interaction.lead.place, slot);
+        self.records.insert_reserved(record);
+        put_at_each(&mut self.records, event.causes, slot);
+        Ok(EventId { slot, line })
     }
 
     /// The event under the id goes, if it stands, and with it the agents that are its children. The place of its lead is
@@ -185,9 +188,9 @@ impl EventRecords {
     {
         self.get(id)?;
         let event = self.records.remove(id.slot as usize);
-        take_at_each(&mut self.records, event.causes.as_slice(), id);
-        agents.remove_each(event.born.as_slice());
-        let lead = event.interaction.lead;
+        take_at_each(&mut self.records, event.causes(), id.slot);
+        agents.remove_children(event.born(), event.line());
+        let lead = event.lead();
         self.leads.take(lead.place);
         Some(lead)
     }
@@ -199,8 +202,8 @@ impl EventRecords {
         ensures agents { (m : APlacedAgent) → IsIn m agents.new ↔ (IsIn m agents.old × ((x : PlacedEvent) → IsIn x self.old → IsIn m.id x.born → ⊥)) }
     {
         for (_, event) in self.records.iter() {
-            agents.remove_each(event.born.as_slice());
-            self.leads.take(event.interaction.lead.place);
+            agents.remove_children(event.born(), event.line());
+            self.leads.take(event.lead().place);
         }
         self.records.clear();
     }

@@ -1,19 +1,27 @@
-ghost use Rattle.std.specs.Prelude.{◌≡◌, ◌≢◌, ◌<◌, ◌↔◌, ◌∷◌, [], length, map, All, IsNone, IsSomeAnd, IsTrue, IfSome, IfNone, IfOk, OnErr};
+ghost use Rattle.std.specs.Prelude.{◌≡◌, ◌≢◌, ◌+◌, ◌<◌, ◌↔◌, ◌∷◌, [], length, map, All, IsNone, IsSomeAnd, IsTrue, IfSome, IfNone, IfOk, OnErr};
 ghost use Rattle.ic_path.specs.Orders.{Alike, IsIn, IsOnce};
 ghost use Rattle.ic_name.specs.Events.{pair};
 ghost use Rattle.ic_names.specs.Tables.{name_at, StandsAt};
 ghost use Rattle.ic_roster.specs.Born.{IsBorn};
-ghost use Rattle.ic_roster.specs.Rosters.{Member, Stander, IsNewEvent, Stands, AreDependents, event_in, IsNamed, Loses};
+ghost use Rattle.ic_roster.specs.Rosters.{Member, Stander, IsNewEvent, Stands, AreDependents, event_in, IsNamed, IsEntryOf, Loses};
 
+use crate::event_ids::EventIds;
 use crate::interaction::Interaction;
 use crate::roster::Roster;
 use ic_name::{AgentId, EventId, EventName};
 use ic_names::NameId;
 use std::alloc::{AllocError, Global};
 
-/// A standing event, with the ids of its children and of its direct causes.
+/// A standing event, to be read.
 #[derive(Clone, Copy)]
-pub struct StandingEntry<'a> {
+pub struct EventEntry {
+    pub interaction: Interaction,
+    pub rank: u32,
+}
+
+/// An event that comes to stand, with the ids of its children and of its direct causes.
+#[derive(Clone, Copy)]
+pub struct NewEvent<'a> {
     pub interaction: Interaction,
     pub rank: u32,
     pub born: &'a [AgentId],
@@ -36,18 +44,26 @@ impl Roster {
     }
 
     /// The event under an id, slot and line both; `None` for an id that holds no more. It takes no memory.
-    pub fn event(&self, id: EventId) -> Option<StandingEntry<'_>>
-        ensures found { IfSome result (λ entry. IsIn (record { id = id; event = event_in self.now.names entry.interaction; rank = entry.rank; born = entry.born.now; causes = entry.causes.now }) self.now.events) }
+    pub fn event(&self, id: EventId) -> Option<EventEntry>
+        ensures found { IfSome result (IsEntryOf self.now id) }
         ensures named { IfSome result (λ entry. IsNamed self.now.names entry.interaction) }
         ensures absent { IfNone result ((x : Stander) → IsIn x self.now.events → x.id ≢ id) }
     {
         self.events.get(id)
     }
 
-    /// The events that have the one under this id among their direct causes, each once, in no promised order; none where none
-    /// stands under it. It takes no memory.
-    pub fn dependents(&self, id: EventId) -> &[EventId]
-        ensures { AreDependents self.now.events id result.now }
+    /// The direct causes of the event under this id; none if no event stands under it. It takes no memory.
+    pub fn causes(&self, id: EventId) -> EventIds<'_>
+        ensures causes { (x : Stander) → IsIn x self.now.events → x.id ≡ id → result ≡ x.causes }
+        ensures absent { ((x : Stander) → IsIn x self.now.events → x.id ≢ id) → result ≡ [] }
+    {
+        self.events.causes(id)
+    }
+
+    /// The events that have the one under this id among their direct causes, each once, in no promised order; none if no
+    /// event stands under it. It takes no memory.
+    pub fn dependents(&self, id: EventId) -> EventIds<'_>
+        ensures { AreDependents self.now.events id result }
     {
         self.events.dependents(id)
     }
@@ -93,18 +109,15 @@ impl Roster {
         }
     }
 
-    /// One event more, fired in this line, with its direct causes, which stand, in constant time for each but for growth. At an
-    /// error nothing changes.
+    /// One event more, fired in this line, with its direct causes, which stand, in constant time for each but for growth. The
+    /// serial number of each child is one more than the line. At an error nothing changes.
     #[inline(always)]
-    pub fn insert_event(
-        &mut self,
-        line: u32,
-        event: &StandingEntry<'_>,
-    ) -> Result<EventId, AllocError>
+    pub fn insert_event(&mut self, line: u32, event: &NewEvent<'_>) -> Result<EventId, AllocError>
         requires named { IsNamed self.old.names event.now.interaction }
         requires is_new { IsNewEvent self.old.events line (event_in self.old.names event.now.interaction) }
         requires standing { All (Stands self.old.events) event.now.causes.now }
         requires once { IsOnce event.now.causes.now }
+        requires children { All (λ a. a.serial ≡ line + 1) event.now.born.now }
         ensures entered { IfOk result (λ id. (id.line ≡ line) × Alike (record { id = id; event = event_in self.old.names event.now.interaction; rank = event.now.rank; born = event.now.born.now; causes = event.now.causes.now } ∷ self.old.events) self.new.events) }
         ensures names { self.new.names ≡ self.old.names }
         ensures agents { self.new.agents ≡ self.old.agents }

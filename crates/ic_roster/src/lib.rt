@@ -5,6 +5,7 @@
 mod agent_records;
 pub mod agents;
 mod dependents;
+mod event_ids;
 mod event_record;
 mod event_records;
 pub mod events;
@@ -14,6 +15,7 @@ pub mod roster;
 
 pub use agent_records::PlacedAgent;
 pub use agents::AgentEntry;
-pub use events::StandingEntry;
+pub use event_ids::EventIds;
+pub use events::{EventEntry, NewEvent};
 pub use interaction::Interaction;
 pub use roster::Roster;

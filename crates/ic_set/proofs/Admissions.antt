@@ -1,5 +1,5 @@
 -- The steps of an admission, by what its calls say.
-use Rattle.std.proofs.Common.{◌≡◌, ◌≢◌, ℕ, ◌+◌, ◌<◌, ◌≤◌, List, Option, length, refl, sym, arith, ◌∙◌, subst}
+use Rattle.std.proofs.Common.{◌≡◌, ◌≢◌, ℕ, ◌+◌, ◌<◌, ◌≤◌, List, Option, length, All, refl, sym, ap, arith, ◌∙◌, subst}
 use Rattle.std.proofs.lemmas.List.{length-map}
 use Rattle.ic_name.specs.Names.{Name}
 use Rattle.ic_name.specs.Events.{Event}
@@ -17,7 +17,7 @@ use Rattle.ic_link.specs.declared.principals.Principals.{Principals}
 use Rattle.ic_theory.specs.Born.{born_agents}
 use Rattle.ic_theory.specs.Machine.{IsDeep}
 use Rattle.ic_theory.specs.Rules.{born_ends}
-use Rattle.ic_path.proofs.InLists.{in-map}
+use Rattle.ic_path.proofs.InLists.{in-map, map_cases, all_of_each}
 use Rattle.ic_roster.specs.Rosters.{Member, Stander, HaveOwnNames, HaveOwnLines}
 use Rattle.ic_set.specs.declared.pairs.ActivePair.{ActivePair}
 use Rattle.ic_set.specs.Views.{SetView, standing, AreChildren}
@@ -79,6 +79,11 @@ module _ (v w : SetView) (seen : v ≡ w) (ls : List Link) (k : IsKept v ls) (e 
       are : AreChildren e born enters.entered
       are = record { under = enters.under; named = enters.named ∙ its }
 
+      -- their serial number is one more than the line
+      of_line : All (λ a. a.serial ≡ line + 1) born
+      of_line = all_of_each _ born (λ a i. (let m = map_cases (λ (n : Member). n.id) enters.entered (subst (λ ds. IsIn a ds) (sym enters.under) i) in
+          ap (λ (d : AgentId). d.serial) (sym m.2) ∙ enters.serials m.0 m.1))
+
       -- the causes are those in what was seen
       its_causes : AreCausesOf v e ids
       its_causes = subst (λ (u : SetView). AreCausesOf u e ids) (sym seen) causes
@@ -87,6 +92,7 @@ module _ (v w : SetView) (seen : v ≡ w) (ls : List Link) (k : IsKept v ls) (e 
       pub can_put_in : IsLawful ls → CanPutIn e line rank p born (born_ends v.start.profile e.lead_kind e.other_kind) ids v.events ls
       can_put_in h = record {
         new = new_event v ls k e pair.active line new_line;
+        children = of_line;
         digits = digits v ls k e p pair line new_line enters.entered born are ms enters.alike own;
         few = rule_few v.start.profile e.lead_kind e.other_kind;
         no_links = λ d l q i. no_links v ls k e pair.active line new_line d q l i;

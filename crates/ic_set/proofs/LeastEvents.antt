@@ -1,13 +1,11 @@
 -- The least of standing events in canonical order, as more of them are seen.
-use Rattle.std.proofs.Common.{◌≡◌, ℕ, Bool, true, false, List, [], ◌∷◌, ◌++◌, take, drop, ◌⊎◌, inl, inr, sym, ap, subst, ◌∙◌}
+use Rattle.std.proofs.Common.{◌≡◌, ℕ, Bool, true, false, List, [], ◌∷◌, ◌++◌, ◌⊎◌, inl, inr, sym, ap, subst, ◌∙◌}
 use Rattle.std.specs.declared.cmp.Ordering.{Ordering}
 use Rattle.std.specs.declared.cmp.Ordering.TheVariants.{Less, Greater}
 use Rattle.std.specs.Ordering.{ordering_reverse, is_lt}
 use Rattle.ic_name.specs.Events.{Event}
 use Rattle.ic_name.specs.declared.ids.EventId.{EventId}
 use Rattle.ic_path.specs.Orders.{IsIn}
-use Rattle.ic_path.proofs.Picks.{pick_before}
-use Rattle.std.proofs.lemmas.List.{take-append-drop}
 use Rattle.ic_theory.specs.Causes.{canonical_cmp}
 use Rattle.ic_theory.proofs.Replies.{canonical_total}
 use Rattle.ic_path.proofs.ListEnds.{in-end_cases, in_end, in_before}
@@ -16,13 +14,19 @@ use Rattle.ic_set.specs.Removal.{AreNoted, TellsOrder, IsLeastOf}
 use Rattle.ic_set.proofs.Namings.{same_stander}
 use Rattle.ic_name.proofs.Orderings.{lt_less}
 
--- what compares two entries by their noted ranks compares the events under their ids
-pub compared : (ss : List Stander) → HaveOwnLines ss → (x y a b : Stander) (rank : Event → ℕ) (o : Ordering) → IsIn x ss → IsIn y ss → IsIn a ss → IsIn b ss → x.id ≡ a.id → y.id ≡ b.id → AreNoted ss rank
-    → ((r : Event → ℕ) → r a.event ≡ a.rank → r b.event ≡ b.rank → o ≡ canonical_cmp r a.event b.event) → o ≡ canonical_cmp rank x.event y.event
-compared ss own x y a b rank o i j k l e f noted h =
-    let first : a ≡ x = sym (same_stander ss x a own i k (inl e)) in
-    let second : b ≡ y = sym (same_stander ss y b own j l (inl f)) in
-    h rank (sym (noted a k)) (sym (noted b l)) ∙ ap (λ (z : Stander). canonical_cmp rank z.event b.event) first ∙ ap (λ (z : Stander). canonical_cmp rank x.event z.event) second
+-- an event of the list has this id, is this event, and has this rank
+abbrev IsTold : List Stander → EventId → Event → ℕ → Type 0
+IsTold ss d e rank = (z : Stander) × IsIn z ss × (z.id ≡ d) × (z.event ≡ e) × (z.rank ≡ rank)
+
+-- what compares two events by the ranks that are told of them compares those under their ids
+pub compared : (ss : List Stander) → HaveOwnLines ss → (x y : Stander) (d f : EventId) (a b : Event) (m n : ℕ) (rank : Event → ℕ) (o : Ordering) → IsIn x ss → IsIn y ss → IsTold ss d a m → IsTold ss f b n → x.id ≡ d → y.id ≡ f → AreNoted ss rank
+    → ((r : Event → ℕ) → r a ≡ m → r b ≡ n → o ≡ canonical_cmp r a b) → o ≡ canonical_cmp rank x.event y.event
+compared ss own x y d f a b m n rank o i j s t e g noted h =
+    let first : s.0 ≡ x = sym (same_stander ss x s.0 own i s.1 (inl (e ∙ sym s.2))) in
+    let second : t.0 ≡ y = sym (same_stander ss y t.0 own j t.1 (inl (g ∙ sym t.2))) in
+    let one : a ≡ x.event = sym s.3 ∙ ap (λ (z : Stander). z.event) first in
+    let other : b ≡ y.event = sym t.3 ∙ ap (λ (z : Stander). z.event) second in
+    h rank (ap rank (sym s.3) ∙ sym (noted s.0 s.1) ∙ s.4) (ap rank (sym t.3) ∙ sym (noted t.0 t.1) ∙ t.4) ∙ λ u. canonical_cmp rank (one u) (other u)
 
 -- no event is greater than itself
 not_itself : (rank : Event → ℕ) (e : Event) → canonical_cmp rank e e ≡ Greater → ⊥
@@ -59,7 +63,3 @@ least_stays ss ds least d before false_is tells h = record { among = in_before d
         let both : false ≡ true = sym false_is ∙ tells y x rank j i f e noted ∙ ap is_lt less in
         cc
     by x y rank i j e noted q (inr k) = h.none_before x y rank i j e k noted q
-
--- what is among the first is in the list
-pub in_taken : {X : Type 0} {x : X} (i : ℕ) (xs : List X) → IsIn x (take i xs) → IsIn x xs
-in_taken {X} {x} i xs j = subst (λ ys. IsIn x ys) (take-append-drop i xs) (_, pick_before (drop i xs) j.1)

@@ -26,7 +26,7 @@ use crate::pairs::ActivePair;
 use ic_cause::{direct_causes, rank_with};
 use ic_link::{LinkStore, MAX_JOINS, Principals};
 use ic_name::{AgentId, EventId, Kind};
-use ic_roster::{Interaction, Roster, StandingEntry};
+use ic_roster::{Interaction, NewEvent, Roster};
 use ic_start::outcome;
 use smallvec::SmallVec;
 use std::alloc::{AllocError, Global};
@@ -171,7 +171,7 @@ fn put_event<L: LinkStore>(
     ensures names { roster.new.names ≡ roster.old.names }
 {
     roster.lawful();
-    let event = StandingEntry {
+    let event = NewEvent {
         interaction: firing.interaction,
         rank: firing.rank,
         born: firing.born,

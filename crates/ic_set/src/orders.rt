@@ -37,10 +37,8 @@ impl<L: LinkStore> BareSet<L> {
         requires { Stands self.now.set id }
         ensures { IfOk result (λ ids. AreInOrder self.now.set (IsCauseOf self.now.set id) ids.items) }
     {
-        match self.roster.event(id) {
-            Some(event) => ids_of(self.alloc, &self.in_order(event.causes)?),
-            None => unreachable!(),
-        }
+        let ids = self.roster.causes(id).to_vec(self.alloc)?;
+        ids_of(self.alloc, &self.in_order(&ids)?)
     }
 
     /// The direct dependents of a standing event, in canonical order.
@@ -48,7 +46,8 @@ impl<L: LinkStore> BareSet<L> {
         requires { Stands self.now.set id }
         ensures { IfOk result (λ ids. AreInOrder self.now.set (DependsOn self.now.set id) ids.items) }
     {
-        ids_of(self.alloc, &self.in_order(self.roster.dependents(id))?)
+        let ids = self.roster.dependents(id).to_vec(self.alloc)?;
+        ids_of(self.alloc, &self.in_order(&ids)?)
     }
 
     /// These standing events, in canonical order.

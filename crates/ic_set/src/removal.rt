@@ -12,7 +12,7 @@ use crate::orders::{canonical_order, placed_event};
 use ic_link::LinkStore;
 use ic_name::EventId;
 use ic_names::NameId;
-use ic_roster::Roster;
+use ic_roster::{EventIds, Roster};
 
 impl<L: LinkStore> BareSet<L> {
     /// The least direct dependent of a standing event, in canonical order; `None` if nothing depends on it. It takes no
@@ -56,17 +56,18 @@ impl<L: LinkStore> BareSet<L> {
 }
 
 /// The least of these standing events in canonical order, if there are any.
-fn least_of(roster: &Roster, ids: &[EventId]) -> Option<EventId>
-    requires { (d : AnEventId) → IsIn d ids.now → (x : Stander) × IsIn x roster.now.events × (x.id ≡ d) }
-    ensures found { IfSome result (λ least. IsLeastOf roster.now.events ids.now least) }
-    ensures absent { IfNone result ((d : AnEventId) → IsIn d ids.now → ⊥) }
+fn least_of(roster: &Roster, ids: EventIds<'_>) -> Option<EventId>
+    requires { (d : AnEventId) → IsIn d ids → (x : Stander) × IsIn x roster.now.events × (x.id ≡ d) }
+    ensures found { IfSome result (λ least. IsLeastOf roster.now.events ids.entry least) }
+    ensures absent { IfNone result ((d : AnEventId) → IsIn d ids.entry → ⊥) }
 {
     roster.lawful();
+    let mut left = ids;
     let mut least = None;
-    for id in ids {
+    while let Some(id) = left.next() {
         match least {
-            Some(found) if !comes_before(roster, *id, found) => {}
-            _ => least = Some(*id),
+            Some(found) if !comes_before(roster, id, found) => {}
+            _ => least = Some(id),
         }
     }
     least

@@ -1,12 +1,13 @@
-ghost use Rattle.std.specs.Prelude.{◌≡◌, ◌≢◌, All, IsTrue, IfSome};
+ghost use Rattle.std.specs.Prelude.{◌≡◌, ◌≢◌, ◌+◌, All, IsTrue, IfSome};
 ghost use Rattle.ic_path.specs.Orders.{IsIn, IsOnce};
+ghost use Rattle.ic_name.specs.declared.ids.AgentId.{AgentId as AnAgentId};
 ghost use Rattle.ic_name.specs.declared.ids.EventId.{EventId as AnEventId};
 ghost use Rattle.ic_roster.specs.Rosters.{Stander, Stands, IsNamed};
 
 use crate::name::{agents_of, event_name};
 use ic_name::{AgentId, AgentName, EventId, Kind};
 use ic_names::NameId;
-use ic_roster::{Interaction, Roster, StandingEntry};
+use ic_roster::{EventIds, Interaction, NewEvent, Roster};
 use std::alloc::Global;
 use std::cmp::Ordering;
 
@@ -67,8 +68,18 @@ fn are_elsewhere(ids: &[EventId], line: u32) -> bool
     ids.iter().all(|id| id.line != line)
 }
 
+/// Whether the serial number of each of these agents is one more than the line.
+fn are_children(born: &[AgentId], line: u32) -> bool
+    ensures { IsTrue result → All (λ (a : AnAgentId). a.serial ≡ line + 1) born.now }
+{
+    let Some(serial) = line.checked_add(1) else {
+        return false;
+    };
+    born.iter().all(|agent| agent.serial == serial)
+}
+
 /// Enters the event of two start agents after these causes, with rank 7. It is `None` where one of this line or this lead
-/// stands.
+/// stands, or where the agents aren't children of an event of this line.
 pub(crate) fn stand_after(
     alloc: Global,
     roster: &mut Roster,
@@ -85,13 +96,13 @@ pub(crate) fn stand_after(
 {
     let interaction = interaction(alloc, roster, agents.0, agents.1)?;
     let new = line_is_new(alloc, roster, line)?;
-    if !new {
+    if !new || !are_children(born, line) {
         return None;
     }
     match roster.led_by(interaction.lead) {
         Some(_) => None,
         None => {
-            let event = StandingEntry {
+            let event = NewEvent {
                 interaction,
                 rank: 7,
                 born,
@@ -145,17 +156,19 @@ fn read(roster: &Roster, id: EventId) -> Option<Read> {
     Some((agents_of(&event), entry.rank))
 }
 
-/// Whether these are the children and the causes of the event under an id.
-pub(crate) fn has_parts(
-    roster: &Roster,
-    id: EventId,
-    born: &[AgentId],
-    causes: &[EventId],
-) -> bool {
-    match roster.event(id) {
-        Some(entry) => entry.born == born && entry.causes == causes,
-        None => false,
+/// Whether these ids are read, in this order.
+fn are_read(mut ids: EventIds<'_>, expected: &[EventId]) -> bool {
+    for id in expected {
+        if ids.next() != Some(*id) {
+            return false;
+        }
     }
+    ids.next().is_none()
+}
+
+/// Whether an event stands under an id, and these are its causes.
+pub(crate) fn has_causes(roster: &Roster, id: EventId, causes: &[EventId]) -> bool {
+    roster.event(id).is_some() && are_read(roster.causes(id), causes)
 }
 
 /// The ids of two agents.
@@ -169,7 +182,7 @@ const BORN: [AgentId; 2] = [
 fn told_of_one(alloc: Global, roster: &mut Roster) -> Option<(u32, usize, Read, bool)> {
     let id = stand(alloc, roster, (3, 9), 4, &BORN)?;
     roster.lawful();
-    let found = has_parts(roster, id, &BORN, &[])
+    let found = has_causes(roster, id, &[])
         && finds(alloc, roster, 3, 9, Some(id))
         && finds(alloc, roster, 9, 3, Some(id))
         && finds(alloc, roster, 3, 2, None);
@@ -210,10 +223,11 @@ fn goes(alloc: Global, roster: &mut Roster, id: EventId, lead: u16) -> bool {
 
 /// The event under an id goes, if one stands under it that is no cause of another.
 pub(crate) fn take_out(roster: &mut Roster, id: EventId) -> Option<NameId> {
-    if !roster.dependents(id).is_empty() {
-        return None;
+    let dependent = roster.dependents(id).next();
+    match dependent {
+        Some(_) => None,
+        None => roster.remove_event(id),
     }
-    roster.remove_event(id)
 }
 
 /// Whether the event of the agents 3 and 9 goes once, and how many events there are then.

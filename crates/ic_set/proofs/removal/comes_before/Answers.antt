@@ -17,5 +17,5 @@ returns c =
     let first = rw c.names-names.ensures at (c.placed_event-a.ensures.keyed (rw c.names-names.ensures c.in-Some.ensures.named)) in
     let second = rw c.names-names.ensures at (c.placed_event-b.ensures.keyed (rw c.names-names.ensures c.in-Some-event.ensures.named)) in
     λ x y rank i j e f noted.
-    (c.is_lt.ensures ∙ ap is_lt (compared c.args.roster.now.events c.lawful.ensures.lines x y _ _ rank c.canonical_order.result i j c.in-Some.ensures.found c.in-Some-event.ensures.found e f noted
+    (c.is_lt.ensures ∙ ap is_lt (compared c.args.roster.now.events c.lawful.ensures.lines x y c.args.first c.args.second _ _ _ _ rank c.canonical_order.result i j c.in-Some.ensures.found c.in-Some-event.ensures.found e f noted
     (λ r h k. order ∙ keyed_canonical ns c.lawful.ensures.table _ _ _ _ _ _ c.placed_event-a.ensures.interaction c.placed_event-b.ensures.interaction c.placed_event-a.ensures.rank c.placed_event-b.ensures.rank first second r h k)))

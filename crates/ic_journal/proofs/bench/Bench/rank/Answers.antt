@@ -1,6 +1,7 @@
-use Rattle.std.proofs.Common.{List, subst}
+use Rattle.std.proofs.Common.{List, sym, ap, subst, ◌∙◌}
+use Rattle.ic_name.specs.declared.ids.EventId.{EventId}
 use Rattle.ic_path.specs.Orders.{IsIn}
-use Rattle.ic_roster.specs.Rosters.{event_in, Stander}
+use Rattle.ic_roster.specs.Rosters.{Stander}
 use Rattle.ic_journal.proofs.bench.Bench.rank.Goals as goal
 
 pub unreachable-requires : goal.unreachable-requires
@@ -11,5 +12,7 @@ unreachable-requires g c =
 
 pub returns : goal.returns
 returns g c =
-    let there : IsIn (record { id = c.in-Some.standing; event = event_in c.roster.result.now.names c.in-Some-event.entry.interaction; rank = c.in-Some-event.entry.rank; born = c.in-Some-event.entry.born.now; causes = c.in-Some-event.entry.causes.now }) c.bare-set.result.now.set.events = subst (λ (xs : List Stander). IsIn (record { id = c.in-Some.standing; event = event_in c.roster.result.now.names c.in-Some-event.entry.interaction; rank = c.in-Some-event.entry.rank; born = c.in-Some-event.entry.born.now; causes = c.in-Some-event.entry.causes.now }) xs) c.roster.ensures.events c.in-Some-event.ensures.found in
-    rw (← c.self.view_is, ← c.bare-set.ensures) (record { id = c.in-Some.standing; event = event_in c.roster.result.now.names c.in-Some-event.entry.interaction; rank = c.in-Some-event.entry.rank; born = c.in-Some-event.entry.born.now; causes = c.in-Some-event.entry.causes.now }, (there, c.in-Some.ensures.found.3), λ rank h. c.lawful.ensures.set.ranks rank h (record { id = c.in-Some.standing; event = event_in c.roster.result.now.names c.in-Some-event.entry.interaction; rank = c.in-Some-event.entry.rank; born = c.in-Some-event.entry.born.now; causes = c.in-Some-event.entry.causes.now }) there)
+    let x = c.in-Some-event.ensures.found in
+    let there : IsIn x.0 c.bare-set.result.now.set.events = subst (λ (xs : List Stander). IsIn x.0 xs) c.roster.ensures.events x.1 in
+    rw (← c.self.view_is, ← c.bare-set.ensures)
+    (x.0, (there, ap (λ (d : EventId). d.line) x.2 ∙ c.in-Some.ensures.found.3), λ rank h. sym x.4 ∙ c.lawful.ensures.set.ranks rank h x.0 there)

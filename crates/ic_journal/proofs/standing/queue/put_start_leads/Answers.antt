@@ -2,6 +2,7 @@ use Rattle.std.proofs.Common.{◌≡◌, ℕ, ◌+◌, ◌-◌, ◌<◌, List, �
 use Rattle.std.specs.Prelude.{slice_index_or}
 use Rattle.std.proofs.lemmas.List.{drop_all}
 use Rattle.ic_name.specs.Names.{Name}
+use Rattle.ic_name.specs.Events.{Event}
 use Rattle.ic_name.specs.declared.ids.EventId.{EventId}
 use Rattle.ic_names.specs.Queues.{leads_of}
 use Rattle.ic_names.specs.Tables.{name_at}
@@ -50,7 +51,7 @@ loop-place-preserved-then-depth-eq0 g c =
     record {
       queue = rw names at c.put.ensures.queue;
       stay = λ n k. stays n (i.stay n k);
-      led = λ x there j bare. elim (one_more c.args.set.now.set.events c.lawful.ensures.set.own_lines c.args.events.now (c.loop-place.place - 1) _ (omega (arith, end, more)) _ found refl (name_at ns at) refl x there j) [
+      led = λ x there j bare. elim (one_more c.args.set.now.set.events c.lawful.ensures.set.own_lines c.args.events.now (c.loop-place.place - 1) _ (omega (arith, end, more)) found.0 found.1 found.2 (name_at ns at) (ap (λ (e : Event). e.lead) found.3) x there j) [
         | inl k ↦ stays x.event.lead (i.led x there (subst (λ m. IsIn x.id (drop m c.args.events.now)) (sym next) k) bare)
         | inr same ↦ (at, record { within = named.lead; named = sym same }, (c.put.ensures.entered at).1 (inl refl))
       ];
@@ -72,7 +73,7 @@ loop-place-preserved g c =
     record {
       queue = i.queue;
       stay = i.stay;
-      led = λ x there j bare. elim (one_more c.args.set.now.set.events c.lawful.ensures.set.own_lines c.args.events.now (c.loop-place.place - 1) _ (omega (arith, end, more)) _ found refl (name_at ns at) refl x there j) [
+      led = λ x there j bare. elim (one_more c.args.set.now.set.events c.lawful.ensures.set.own_lines c.args.events.now (c.loop-place.place - 1) _ (omega (arith, end, more)) found.0 found.1 found.2 (name_at ns at) (ap (λ (e : Event). e.lead) found.3) x there j) [
         | inl k ↦ i.led x there (subst (λ m. IsIn x.id (drop m c.args.events.now)) (sym next) k) bare
         | inr same ↦ (let none = ap length (ap (λ (n : Name). n.digits) (sym same) ∙ bare) in absurd (omega (arith, depth, none, deep)))
       ];

@@ -17,7 +17,7 @@ pub unreachable-requires : goal.unreachable-requires
 unreachable-requires c =
     let held : AreHeld c.self.inside.records.slots ((c.in-Some.field-0-0, c.in-Some.event.now) ∷ c.next.new.self) = rw c.in-Some.ensures.steps at c.loop-event.invariant.1 in
     let here = first_held c.self.inside.records.slots _ _ held in
-    let found : slot_of c.self.inside.leads c.in-Some.event.now.interaction.lead.place ≡ Some c.in-Some.field-0-0 = indexed event_lead _ c.self.inside.leads c.self.invariant.0.led _ c.in-Some.event.now here in
+    let found : slot_of c.self.inside.leads c.lead.result.place ≡ Some c.in-Some.field-0-0 = rw c.lead.ensures (indexed event_lead _ c.self.inside.leads c.self.invariant.0.led _ c.in-Some.event.now here) in
     let none : None ≡ Some c.in-Some.field-0-0 = sym c.in_default.is ∙ c.get.ensures ∙ found in
     cc
 
@@ -25,11 +25,11 @@ pub loop-event-preserved : goal.loop-event-preserved
 loop-event-preserved c =
     let held : AreHeld c.self.inside.records.slots ((c.in-Some.field-0-0, c.in-Some.event.now) ∷ c.next.new.self) = rw c.in-Some.ensures.steps at c.loop-event.invariant.1 in
     let here = first_held c.self.inside.records.slots _ _ held in
-    let found : slot_of c.self.inside.leads c.in-Some.event.now.interaction.lead.place ≡ Some c.in-Some.field-0-0 = indexed event_lead _ c.self.inside.leads c.self.invariant.0.led _ c.in-Some.event.now here in
+    let found : slot_of c.self.inside.leads c.lead.result.place ≡ Some c.in-Some.field-0-0 = rw c.lead.ensures (indexed event_lead _ c.self.inside.leads c.self.invariant.0.led _ c.in-Some.event.now here) in
     let both : Some c.in-Some-get.slot ≡ Some c.in-Some.field-0-0 = sym c.in-Some-get.is ∙ c.get.ensures ∙ found in
     let same : c.in-Some-get.slot ≡ c.in-Some.field-0-0 = cc in
-    let id : EventId = record { slot = c.in-Some-get.slot; line = c.in-Some.event.now.line } in
-    let shown : id ≡ id_at (c.in-Some.field-0-0, c.in-Some.event.now) = ap (λ k. id_at (k, c.in-Some.event.now)) same in
+    let id : EventId = record { slot = c.in-Some-get.slot; line = c.line.result } in
+    let shown : id ≡ id_at (c.in-Some.field-0-0, c.in-Some.event.now) = (λ u. record { slot = same u; line = c.line.ensures u }) in
     let all : c.loop-event.ids.items ++ map id_at ((c.in-Some.field-0-0, c.in-Some.event.now) ∷ c.next.new.self) ≡ map id_at c.into_iter-event-iterator.result = rw c.in-Some.ensures.steps at c.loop-event.invariant.0 in
     (rw c.in_ok-push.ensures.items (listed_more c.loop-event.ids.items id _ _ _ all shown), others_held c.self.inside.records.slots _ _ held)
 

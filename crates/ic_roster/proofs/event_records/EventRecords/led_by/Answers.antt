@@ -23,4 +23,5 @@ pub returns-clause-found : goal.returns-clause-found
 returns-clause-found c =
     let found : slot_of c.self.inside.leads c.args.lead.place ≡ Some c.in_ok-slot.slot = sym c.in_ok-slot.ensures in
     let here : slot_at c.self.inside.records.slots c.in_ok-slot.slot ≡ Some c.in-Some.event.now = sym c.in-Some.ensures in
-    rw (← c.self.view_is) (lead_found _ c.self.inside.leads c.self.invariant.0 c.args.lead c.in_ok-slot.slot _ found here)
+    let x = lead_found _ c.self.inside.leads c.self.invariant.0 c.args.lead c.in_ok-slot.slot _ found here in
+    rw (← c.self.view_is) (x.0, x.1, x.2 ∙ λ u. record { slot = c.in_ok-slot.slot; line = sym c.line.ensures u }, x.3)

@@ -1,9 +1,10 @@
 use Rattle.std.proofs.Common.{◌≡◌, ◌∙◌, refl, sym, ap}
+use Rattle.ic_name.specs.Events.{Event}
 use Rattle.ic_names.specs.Tables.{name_at, StandsAt}
 use Rattle.ic_roster.specs.Rosters.{Stander, IsNamed}
 use Rattle.ic_roster.proofs.Options.{if_none}
 use Rattle.ic_roster.proofs.Named.{absent_lead}
-use Rattle.ic_roster.proofs.OwnEvents.{found_entry, led_there, same_lead}
+use Rattle.ic_roster.proofs.OwnEvents.{led_there, same_lead}
 use Rattle.ic_roster.proofs.roster.Roster.find_event.Goals as goal
 
 pub returns-in_err-lead-clause-absent : goal.returns-in_err-lead-clause-absent
@@ -21,21 +22,23 @@ unreachable-requires c = let x = c.in_ok-id.ensures.found in c.in-None.ensures.a
 
 pub returns-in-Some-clause-found : goal.returns-in-Some-clause-found
 returns-in-Some-clause-found c =
-    let entry = found_entry c.args.self.now c.in_ok-id.id c.in-Some.event in
+    let z = c.in-Some.ensures.found in
     let x = c.in_ok-id.ensures.found in
     let lead : name_at c.args.self.now.names c.in_ok-lead.lead.place ≡ c.args.name.now.lead = rw (← c.self.view_is) (c.in_ok-lead.ensures.found.named ∙ c.lead.ensures) in
-    let led = led_there c.args.self.now.events x.0 entry c.lawful.ensures.lines x.1 c.in-Some.ensures.found (sym x.2) (x.3 ∙ lead) in
-    let other : name_at c.args.self.now.names c.in-Some.event.interaction.other.place ≡ c.args.name.now.other = rw (← c.self.view_is) ((c.if-is.ensures.0 refl).named ∙ c.other.ensures) in
-    (entry, c.in-Some.ensures.found, refl, λ i. record { lead = led i; other = other i })
+    let led = led_there c.args.self.now.events x.0 z.0 c.lawful.ensures.lines x.1 z.1 (z.2 ∙ sym x.2) (x.3 ∙ lead) in
+    let named : name_at c.args.self.now.names c.in-Some.event.interaction.other.place ≡ c.args.name.now.other = rw (← c.self.view_is) ((c.if-is.ensures.0 refl).named ∙ c.other.ensures) in
+    let other : z.0.event.other ≡ c.args.name.now.other = ap (λ (e : Event). e.other) z.3 ∙ named in
+    (z.0, z.1, z.2, λ i. record { lead = led i; other = other i })
 
 pub returns-in-Some-2-clause-absent : goal.returns-in-Some-2-clause-absent
 returns-in-Some-2-clause-absent c = λ x i e.
-    (let entry = found_entry c.args.self.now c.in_ok-id.id c.in-Some.event in
+    (let z = c.in-Some.ensures.found in
     let y = c.in_ok-id.ensures.found in
     let lead : name_at c.args.self.now.names c.in_ok-lead.lead.place ≡ c.args.name.now.lead = rw (← c.self.view_is) (c.in_ok-lead.ensures.found.named ∙ c.lead.ensures) in
-    let led = led_there c.args.self.now.events y.0 entry c.lawful.ensures.lines y.1 c.in-Some.ensures.found (sym y.2) (y.3 ∙ lead) in
-    let same = same_lead c.args.self.now.events x entry c.lawful.ensures.lines i c.in-Some.ensures.found (led ∙ ap (λ p. p.lead) (sym e)) in
-    let other : name_at c.args.self.now.names c.in-Some.event.interaction.other.place ≡ c.other.result.now = ap (λ (z : Stander). z.event.other) (sym same) ∙ ap (λ p. p.other) e ∙ sym c.other.ensures in
+    let led = led_there c.args.self.now.events y.0 z.0 c.lawful.ensures.lines y.1 z.1 (z.2 ∙ sym y.2) (y.3 ∙ lead) in
+    let same = same_lead c.args.self.now.events x z.0 c.lawful.ensures.lines i z.1 (led ∙ ap (λ p. p.lead) (sym e)) in
+    let told : name_at c.args.self.now.names c.in-Some.event.interaction.other.place ≡ z.0.event.other = ap (λ (f : Event). f.other) (sym z.3) in
+    let other : name_at c.args.self.now.names c.in-Some.event.interaction.other.place ≡ c.other.result.now = told ∙ ap (λ (z : Stander). z.event.other) (sym same) ∙ ap (λ p. p.other) e ∙ sym c.other.ensures in
     let named : IsNamed c.args.self.now.names c.in-Some.event.interaction = c.in-Some.ensures.named in
     let there : StandsAt c.args.self.now.names c.other.result.now c.in-Some.event.interaction.other.place = record { within = named.other; named = other } in
     let stands : StandsAt c.self.inside.names c.other.result.now c.in-Some.event.interaction.other.place = rw (← c.self.view_is) at there in

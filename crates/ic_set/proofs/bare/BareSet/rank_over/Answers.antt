@@ -1,8 +1,10 @@
-use Rattle.std.proofs.Common.{List, take, get_or, ap, subst}
+use Rattle.std.proofs.Common.{◌≤◌, ◌+◌, max, List, [], ◌∷◌, ◌++◌, take, ap, subst}
 use Rattle.std.proofs.lemmas.List.{take_more, take_all}
 use Rattle.ic_name.specs.declared.ids.EventId.{EventId}
 use Rattle.ic_path.specs.Orders.{IsIn}
-use Rattle.ic_roster.specs.Rosters.{event_in, Stander, HaveOwnLines}
+use Rattle.ic_roster.specs.Rosters.{Stander, HaveOwnLines}
+use Rattle.ic_name.specs.declared.limits.TheConstants.{MAX_LINES}
+use Rattle.ic_set.specs.Admission.{IsRankOver}
 use Rattle.ic_set.specs.Views.{NamedView}
 use Rattle.ic_set.proofs.CauseRanks.{rank_over_none, rank_more}
 use Rattle.ic_link.proofs.InPlace.{in_at}
@@ -16,19 +18,20 @@ loop-cause-preserved g c =
     let ids = c.args.causes.now in
     let i = c.loop-cause.cause-index in
     let none : EventId = record { slot = 0; line = 0 } in
-    let entry = c.in-Some.entry in
-    let x : Stander = record { id = get_or ids i none; event = event_in c.self.inside.roster.names entry.interaction; rank = entry.rank; born = entry.born.now; causes = entry.causes.now } in
-    let there = subst (λ (ss : List Stander). IsIn x ss) (ap (λ (w : NamedView). w.set.events) c.self.view_is) c.in-Some.ensures.found in
+    let ss = c.args.self.now.set.events in
+    let rank = c.loop-cause.rank in
+    let x = c.in-Some.ensures.found in
+    let there = subst (λ (ss : List Stander). IsIn x.0 ss) (ap (λ (w : NamedView). w.set.events) c.self.view_is) x.1 in
     let own = subst (λ (w : NamedView). HaveOwnLines w.set.events) c.self.view_is c.self.invariant.set.own_lines in
-    rw (take_more ids i none c.loop-cause-test.true, c.rank_with-rank.ensures) (rank_more c.args.self.now.set.events (take i ids) c.loop-cause.rank x own c.loop-cause.invariant there)
+    let more : IsRankOver ss (take i ids ++ x.0.id ∷ []) (max rank (x.0.rank + 1)) = rank_more ss (take i ids) rank x.0 own c.loop-cause.invariant there in
+    rw (take_more ids i none c.loop-cause-test.true, c.rank_with-rank.ensures)
+    (subst (λ d. IsRankOver ss (take i ids ++ d ∷ []) (max rank (c.in-Some.entry.rank + 1))) x.2 (subst (λ n. IsRankOver ss (take i ids ++ x.0.id ∷ []) (max rank (n + 1))) x.4 more))
 
 pub rank_with-rank-requires : goal.rank_with-rank-requires
 rank_with-rank-requires g c =
-    let none : EventId = record { slot = 0; line = 0 } in
-    let entry = c.in-Some.entry in
-    let x : Stander = record { id = get_or c.args.causes.now c.loop-cause.cause-index none; event = event_in c.self.inside.roster.names entry.interaction; rank = entry.rank; born = entry.born.now; causes = entry.causes.now } in
-    let there = subst (λ (ss : List Stander). IsIn x ss) (ap (λ (w : NamedView). w.set.events) c.self.view_is) c.in-Some.ensures.found in
-    c.requires.low x there
+    let x = c.in-Some.ensures.found in
+    let there = subst (λ (ss : List Stander). IsIn x.0 ss) (ap (λ (w : NamedView). w.set.events) c.self.view_is) x.1 in
+    subst (λ n. n ≤ MAX_LINES) x.4 (c.requires.low x.0 there)
 
 pub unreachable-requires : goal.unreachable-requires
 unreachable-requires g c =

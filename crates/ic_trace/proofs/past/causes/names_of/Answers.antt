@@ -1,10 +1,10 @@
-use Rattle.std.proofs.Common.{◌≡◌, List, [], ◌∷◌, ◌++◌, get_or, ◌⊎◌, inl, inr, sym, ap, subst, ◌∙◌}
+use Rattle.std.proofs.Common.{◌≡◌, List, [], ◌∷◌, ◌++◌, ◌⊎◌, inl, inr, sym, ap, subst, ◌∙◌}
 use Rattle.std.proofs.lemmas.List.{take_more, map-append}
 use Rattle.ic_name.specs.Events.{pair}
 use Rattle.ic_name.specs.declared.ids.EventId.{EventId}
 use Rattle.ic_path.specs.Orders.{IsIn}
 use Rattle.ic_path.proofs.Picks.{in-cons_cases, none_in}
-use Rattle.ic_roster.specs.Rosters.{Stander, event_in}
+use Rattle.ic_roster.specs.Rosters.{Stander}
 use Rattle.ic_theory.proofs.Future.{pick_part}
 use Rattle.ic_link.proofs.InPlace.{in_at}
 use Rattle.ic_trace.proofs.past.causes.names_of.Goals as goal
@@ -32,11 +32,11 @@ loop-id-preserved c =
     let ids = c.args.ids.now in
     let i = c.loop-id.id-index in
     let so_far = c.loop-id.invariant in
-    let is = ap pair (sym c.in_ok-event.ensures) ∙ sym c.in_ok-name.ensures in
-    let x : Stander = record { id = get_or ids i none; event = event_in c.args.roster.now.names c.in-Some.entry.interaction; rank = c.in-Some.entry.rank; born = c.in-Some.entry.born.now; causes = c.in-Some.entry.causes.now } in (
-      so_far.0 ++ x ∷ [],
-      at_end (λ (y : Stander). IsIn y c.args.roster.now.events) so_far.0 x so_far.1 c.in-Some.ensures.found,
-      map-append (λ (y : Stander). y.id) so_far.0 (x ∷ []) ∙ ap (λ ds. ds ++ get_or ids i none ∷ []) so_far.2 ∙ sym (take_more ids i none c.loop-id-test.true),
-      map-append (λ (y : Stander). pair y.event) so_far.0 (x ∷ []) ∙ ap (λ ps. ps ++ pair (event_in c.args.roster.now.names c.in-Some.entry.interaction) ∷ []) so_far.3 ∙ ap (λ p. c.loop-id.names.items ++ p ∷ []) is
+    let x = c.in-Some.ensures.found in
+    let is = ap pair (x.3 ∙ sym c.in_ok-event.ensures) ∙ sym c.in_ok-name.ensures in (
+      so_far.0 ++ x.0 ∷ [],
+      at_end (λ (y : Stander). IsIn y c.args.roster.now.events) so_far.0 x.0 so_far.1 x.1,
+      map-append (λ (y : Stander). y.id) so_far.0 (x.0 ∷ []) ∙ (λ u. so_far.2 u ++ x.2 u ∷ []) ∙ sym (take_more ids i none c.loop-id-test.true),
+      map-append (λ (y : Stander). pair y.event) so_far.0 (x.0 ∷ []) ∙ ap (λ ps. ps ++ pair x.0.event ∷ []) so_far.3 ∙ ap (λ p. c.loop-id.names.items ++ p ∷ []) is
           ∙ sym c.in_ok-push.ensures.items,
     )
