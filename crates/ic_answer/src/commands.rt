@@ -34,7 +34,7 @@ pub fn carry_out<L: LinkStore, G: Gate>(
         Command::Malformed => Ok(Answer::Refused(Refused::Command)),
         Command::Net => Ok(Answer::text_or_memory(reading::net(alloc, bench))),
         Command::Active => Ok(Answer::text_or_memory(reading::active(alloc, bench))),
-        Command::Journal => Ok(Answer::text_or_memory(reading::journal(bench))),
+        Command::Journal => Ok(Answer::text_or_memory(bench.journal())),
         Command::Why(event) => Ok(Answer::answer_or_memory(why(alloc, bench, &event))),
         Command::Fire(event) => Ok(fire(alloc, bench, &event)),
         Command::Undo(event) => Ok(undo(alloc, bench, &event)),

@@ -26,7 +26,7 @@ impl Listing {
     }
 
     /// Makes room for a line and for a head after it. The list stays the same.
-    pub(crate) fn reserve(&mut self, line: &[u8], head: &[u8]) -> Result<(), AllocError>
+    pub(crate) fn reserve_line(&mut self, line: &[u8], head: &[u8]) -> Result<(), AllocError>
         ensures stays { (es : List AnEvent) → Lists self.old es → Lists self.new es }
         ensures lines { self.new.lines.items ≡ self.old.lines.items }
         ensures room { OnOk result (vec_len self.new.lines + (length line.now + length head.now) ≤ vec_capacity self.new.lines) }

@@ -2,7 +2,7 @@ ghost use Rattle.std.specs.Prelude.{◌≡◌, ◌++◌, IfOk, OnOk};
 ghost use Rattle.ic_name.specs.Events.{Event};
 ghost use Rattle.ic_set.specs.Pairs.{IsPairOf};
 ghost use Rattle.ic_journal.specs.Views.{set_of};
-ghost use Rattle.ic_command.specs.declared.command.Command.TheVariants.{Active, Journal, Net};
+ghost use Rattle.ic_command.specs.declared.command.Command.TheVariants.{Active, Net};
 ghost use Rattle.ic_answer.specs.Texts.{event_line};
 ghost use Rattle.ic_answer.specs.Turns.{Tells};
 
@@ -51,11 +51,4 @@ fn push_active<L: LinkStore>(
     write_pair(&lead, &other, text)?;
     text.push(b'\n')?;
     Ok(())
-}
-
-/// The standing events with their ranks, in canonical order.
-pub(crate) fn journal<L: LinkStore>(bench: &Bench<L>) -> Result<Vec<u8>, AllocError>
-    ensures { IfOk result (λ text. Tells bench.now Journal text.items) }
-{
-    bench.journal()
 }

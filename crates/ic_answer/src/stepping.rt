@@ -80,7 +80,7 @@ fn ready<L: LinkStore>(
     let name = bench.name_of_pair(pair)?;
     let line = name_line(alloc, b"", &name)?;
     let head = head_of(alloc, count)?;
-    list.reserve(&line, &head)?;
+    list.reserve_line(&line, &head)?;
     Ok((line, head))
 }
 

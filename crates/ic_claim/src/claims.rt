@@ -187,9 +187,4 @@ impl Claims {
             .shared
             .join_seat::<Home>(&mut seat.inner, other.inner);
     }
-
-    /// Gives the table up.
-    pub fn close(self) {
-        self.table.close().free();
-    }
 }

@@ -84,7 +84,6 @@ fn drawn_by_two<R: Threads + Sync>(
         return Ok(None);
     }
     claims.is_stopped(&mut seat);
-    claims.close();
     Ok(Some((numbers, home.numbers)))
 }
 
@@ -208,7 +207,6 @@ fn the_most_seats_and_tickets(rt: HostRuntime) -> Result<(), Fail> {
         assert_eq!(rt; claims.split(&mut first).number(), number);
     }
     assert_eq!(rt; claims.draw(&mut first), Some(Ticket { number: 0 }));
-    claims.close();
     Ok(())
 }
 

@@ -49,7 +49,7 @@ fn marked<L: LinkStore>(
     }
     bench.lawful();
     let mark = mark(alloc, bench)?;
-    let text = marked_text(alloc, &name, mark.len())?;
+    let text = marked_text(alloc, &name, mark.event_count())?;
     let since = bench.lines() as usize;
     put(marks, place, NamedMark { name, mark, since })?;
     Ok(Answer::Text(text))

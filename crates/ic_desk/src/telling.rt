@@ -80,6 +80,6 @@ fn push_mark(alloc: Global, text: &mut Vec<u8>, named: &NamedMark) -> Result<(),
     ensures { OnOk result (text.new.items ≡ text.old.items ++ mark_line (note_of named.now)) }
 {
     text.extend_from_slice(named.name().bytes())?;
-    let count = format!(in alloc; " {}\n", named.mark().len())?;
+    let count = format!(in alloc; " {}\n", named.mark().event_count())?;
     text.extend_from_slice(count.as_bytes())
 }

@@ -37,7 +37,7 @@ impl Mark {
     }
 
     /// The number of its events. It takes no memory.
-    pub fn len(&self) -> u32
+    pub fn event_count(&self) -> u32
         ensures { result ≡ length self.now.events }
     {
         self.events.len() as u32

@@ -137,7 +137,6 @@ fn sweep_as<B: Ledger + Send + Sync, G: Gate, R: Threads + Wait + Sync>(
     // The step shows that there are no more tickets than the budget.
     claims.is_stopped(&mut seat);
     home.push_reserved(pass);
-    claims.close();
     match settle(opening, home, shared) {
         Ok(settled) => {
             settled.bench.lawful();

@@ -1,5 +1,7 @@
+use Rattle.std.proofs.lemmas.Result.{IfOk-weaker}
 use Rattle.ic_command.specs.declared.command.Command.TheVariants.{Net, Active, Journal, Why}
 use Rattle.ic_answer.specs.Texts.{answer_text}
+use Rattle.ic_answer.proofs.StandingNet.{told_journal}
 use Rattle.ic_answer.proofs.ToldReplies.{nothing_told, malformed_told, answer_told, text_told}
 use Rattle.ic_answer.proofs.commands.carry_out.Goals as goal
 
@@ -18,7 +20,7 @@ returns-in-Active-clause-turns g c =
 
 pub returns-in-Journal-clause-turns : goal.returns-in-Journal-clause-turns
 returns-in-Journal-clause-turns g c =
-    text_told c.args.bench.now c.args.command Journal (answer_text c.text_or_memory-in-Journal.result) c.journal.result c.in-Journal.is tt c.journal.ensures c.text_or_memory-in-Journal.ensures.text c.text_or_memory-in-Journal.ensures.memory
+    text_told c.args.bench.now c.args.command Journal (answer_text c.text_or_memory-in-Journal.result) c.journal.result c.in-Journal.is tt (IfOk-weaker c.journal.result _ _ (λ text e. told_journal c.args.bench.now e.0 e.1 text.items e.2) c.journal.ensures) c.text_or_memory-in-Journal.ensures.text c.text_or_memory-in-Journal.ensures.memory
 
 pub returns-in-Why-clause-turns : goal.returns-in-Why-clause-turns
 returns-in-Why-clause-turns g c =

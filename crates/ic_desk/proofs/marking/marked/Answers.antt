@@ -41,7 +41,7 @@ returns-clause-turns g c =
           omega (arith, few, one, two, three))
       | else-is_none-via-else-is_none w ↦ absurd (has_some c.place_of-place.result c.is_none.result c.is_none.ensures w.if-is_none.false none)
     ])
-    c.in_ok-put.ensures.puts c.in_ok-mark.ensures (c.in_ok-text.ensures ∙ ap (marked_text c.args.name) c.len.ensures)
+    c.in_ok-put.ensures.puts c.in_ok-mark.ensures (c.in_ok-text.ensures ∙ ap (marked_text c.args.name) c.event_count.ensures)
 
 pub returns-clause-desk : goal.returns-clause-desk
 returns-clause-desk g c =
