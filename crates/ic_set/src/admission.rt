@@ -206,6 +206,10 @@ fn put_links<L: LinkStore>(
     ensures joins { OnOk result (AreJoins (L.links store.old) (made_links event firing.now.pair firing.now.born.now 0 firing.now.ends.now) joins.new) }
     ensures unchanged { OnErr result (Alike (L.links store.old) (L.links store.new)) }
 {
+    if firing.ends.is_empty() {
+        *joins = [None; MAX_JOINS];
+        return Ok(());
+    }
     let mut spots = [(NO_SPOT, NO_SPOT); MAX_LINKS];
     write_spots(firing, &mut spots);
     store.put_made(event, &spots[..firing.ends.len()], joins)
