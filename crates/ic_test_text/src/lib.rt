@@ -4,6 +4,8 @@
 #[cfg(test)]
 mod link;
 #[cfg(test)]
+mod made;
+#[cfg(test)]
 mod net;
 #[cfg(test)]
 mod start;
