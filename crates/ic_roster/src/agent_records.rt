@@ -69,7 +69,7 @@ impl AgentRecords {
     }
 
     /// Makes room for the records of so many agents more. At an error nothing changes.
-    pub fn reserve(&mut self, count: usize) -> Result<(), AllocError>
+    pub fn reserve_records(&mut self, count: usize) -> Result<(), AllocError>
         ensures { self.new ≡ self.old }
     {
         self.records.reserve(count)

@@ -25,7 +25,7 @@ impl Roster {
         ensures { self.new ≡ self.old }
     {
         self.names.reserve(count)?;
-        self.agents.reserve(count)
+        self.agents.reserve_records(count)
     }
 
     /// The number of agents.
@@ -76,7 +76,12 @@ impl Roster {
 
     /// One agent more, whose name stands at this place, under an id with this serial number, in constant time but for
     /// growth. At an error nothing changes.
-    pub fn insert(&mut self, name: NameId, kind: Kind, serial: u32) -> Result<AgentId, AllocError>
+    pub fn insert_agent(
+        &mut self,
+        name: NameId,
+        kind: Kind,
+        serial: u32,
+    ) -> Result<AgentId, AllocError>
         requires inside { name.place < length self.old.names }
         requires is_new { IsNewName self.old.agents (name_at self.old.names name.place) }
         ensures entered { IfOk result (λ id. (id.serial ≡ serial) × Alike (record { id = id; name = name_at self.old.names name.place; kind = kind } ∷ self.old.agents) self.new.agents) }
@@ -88,7 +93,7 @@ impl Roster {
     }
 
     /// The agent under the id goes, if there is one, in constant time. It takes no memory.
-    pub fn remove(&mut self, id: AgentId)
+    pub fn remove_agent(&mut self, id: AgentId)
         ensures gone { (x : Member) → IsIn x self.old.agents → x.id ≡ id → Alike self.old.agents (x ∷ self.new.agents) }
         ensures names { self.new.names ≡ self.old.names }
         ensures events { self.new.events ≡ self.old.events }

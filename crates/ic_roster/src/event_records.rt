@@ -60,7 +60,7 @@ impl EventRecords {
     }
 
     /// Makes room for the records of so many events more. At an error nothing changes.
-    pub fn reserve(&mut self, count: usize) -> Result<(), AllocError>
+    pub fn reserve_records(&mut self, count: usize) -> Result<(), AllocError>
         ensures { self.new ≡ self.old }
     {
         self.records.reserve(count)

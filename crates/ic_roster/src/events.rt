@@ -33,7 +33,7 @@ impl Roster {
     pub fn reserve_events(&mut self, count: usize) -> Result<(), AllocError>
         ensures { self.new ≡ self.old }
     {
-        self.events.reserve(count)
+        self.events.reserve_records(count)
     }
 
     /// The number of standing events.
@@ -53,7 +53,7 @@ impl Roster {
     }
 
     /// The direct causes of the event under this id; none if no event stands under it. It takes no memory.
-    pub fn causes(&self, id: EventId) -> EventIds<'_>
+    pub fn event_causes(&self, id: EventId) -> EventIds<'_>
         ensures causes { (x : Stander) → IsIn x self.now.events → x.id ≡ id → result ≡ x.causes }
         ensures absent { ((x : Stander) → IsIn x self.now.events → x.id ≢ id) → result ≡ [] }
     {
@@ -62,7 +62,7 @@ impl Roster {
 
     /// The events that have the one under this id among their direct causes, each once, in no promised order; none if no
     /// event stands under it. It takes no memory.
-    pub fn dependents(&self, id: EventId) -> EventIds<'_>
+    pub fn event_dependents(&self, id: EventId) -> EventIds<'_>
         ensures { AreDependents self.now.events id result }
     {
         self.events.dependents(id)

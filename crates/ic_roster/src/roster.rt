@@ -67,7 +67,7 @@ impl Roster {
     }
 
     /// The place of the name, which is entered with its ancestors where they weren't there. At an error nothing changes.
-    pub fn enter(&mut self, name: &AgentName) -> Result<NameId, AllocError>
+    pub fn enter_name(&mut self, name: &AgentName) -> Result<NameId, AllocError>
         ensures entered { IfOk result (λ id. StandsAt self.new.names name.now id.place) }
         ensures grown { IfOk result (λ id. GrowsUpTo self.old.names name.now self.new.names) }
         ensures agents { self.new.agents ≡ self.old.agents }
@@ -79,7 +79,7 @@ impl Roster {
 
     /// The place of the child with this digit, which is entered where it wasn't there, in constant time but for growth. It
     /// is `Deep` where the parent has `MAX_DEPTH` digits, and only there. At an error nothing changes.
-    pub fn enter_child(&mut self, parent: NameId, digit: u8) -> Result<NameId, ChildFault>
+    pub fn enter_child_name(&mut self, parent: NameId, digit: u8) -> Result<NameId, ChildFault>
         requires inside { parent.place < length self.old.names }
         requires small { digit < 4 }
         ensures entered { IfOk result (λ id. StandsAt self.new.names (child_name (name_at self.old.names parent.place) digit) id.place) }

@@ -39,7 +39,7 @@ pub(crate) fn agents_of_kinds(
         let Some(name) = AgentName::start(alloc, number as u16) else {
             unreachable!()
         };
-        let name = roster.enter(&name)?;
+        let name = roster.enter_name(&name)?;
         agents.push(NewAgent {
             name,
             kind: kinds[number],
@@ -97,12 +97,12 @@ fn enter_child(
     ensures events { roster.new.events ≡ roster.old.events }
     ensures unchanged { OnErr result (roster.new.agents ≡ roster.old.agents) }
 {
-    let name = match roster.enter_child(lead, digit) {
+    let name = match roster.enter_child_name(lead, digit) {
         Ok(name) => name,
         Err(ChildFault::Memory) => return Err(AllocError),
         Err(ChildFault::Deep) => unreachable!(),
     };
-    roster.insert(name, kind, serial)
+    roster.insert_agent(name, kind, serial)
 }
 
 /// Enters these agents, all with this serial number, and gives their ids. At an error nothing changes.
@@ -122,7 +122,7 @@ pub(crate) fn enter_all(
     let mut ids = SmallVec::new(alloc);
     ids.reserve(entering.len())?;
     for agent in entering {
-        let Ok(id) = roster.insert(agent.name, agent.kind, serial) else {
+        let Ok(id) = roster.insert_agent(agent.name, agent.kind, serial) else {
             remove_all(roster, ids.as_slice());
             return Err(AllocError);
         };
@@ -138,6 +138,6 @@ pub(crate) fn remove_all(roster: &mut Roster, ids: &[AgentId])
     ensures events { roster.new.events ≡ roster.old.events }
 {
     for id in ids {
-        roster.remove(*id);
+        roster.remove_agent(*id);
     }
 }

@@ -37,7 +37,7 @@ impl<L: LinkStore> BareSet<L> {
         requires { Stands self.now.set id }
         ensures { IfOk result (λ ids. AreInOrder self.now.set (IsCauseOf self.now.set id) ids.items) }
     {
-        let ids = self.roster.causes(id).to_vec(self.alloc)?;
+        let ids = self.roster.event_causes(id).to_vec(self.alloc)?;
         ids_of(self.alloc, &self.in_order(&ids)?)
     }
 
@@ -46,7 +46,7 @@ impl<L: LinkStore> BareSet<L> {
         requires { Stands self.now.set id }
         ensures { IfOk result (λ ids. AreInOrder self.now.set (DependsOn self.now.set id) ids.items) }
     {
-        let ids = self.roster.dependents(id).to_vec(self.alloc)?;
+        let ids = self.roster.event_dependents(id).to_vec(self.alloc)?;
         ids_of(self.alloc, &self.in_order(&ids)?)
     }
 

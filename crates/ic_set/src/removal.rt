@@ -22,7 +22,7 @@ impl<L: LinkStore> BareSet<L> {
         ensures found { IfSome result (λ dependent. IsLeast self.now.set id dependent) }
         ensures absent { IfNone result (IsFree self.now.set id) }
     {
-        least_of(&self.roster, self.roster.dependents(id))
+        least_of(&self.roster, self.roster.event_dependents(id))
     }
 
     /// A standing event goes on which nothing depends: with it its children go, and its links. The place of its lead's name

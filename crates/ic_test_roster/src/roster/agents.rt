@@ -15,12 +15,12 @@ fn enter(
     serial: u32,
 ) -> Option<AgentId> {
     let name = AgentName::read(alloc, text).ok()?;
-    let Ok(place) = roster.enter(&name) else {
+    let Ok(place) = roster.enter_name(&name) else {
         return None;
     };
     match roster.named(place) {
         Some(_) => None,
-        None => roster.insert(place, kind, serial).ok(),
+        None => roster.insert_agent(place, kind, serial).ok(),
     }
 }
 
@@ -94,7 +94,7 @@ fn are_read(alloc: Global, roster: &Roster) -> bool {
 /// Enters the agent 1, with the serial number 6, and lets it go again.
 fn enter_and_remove(alloc: Global, roster: &mut Roster) -> Option<AgentId> {
     let id = enter(alloc, roster, b"1", Kind::Delta, 6)?;
-    roster.remove(id);
+    roster.remove_agent(id);
     Some(id)
 }
 
@@ -110,7 +110,7 @@ fn enter_in_its_place(alloc: Global, roster: &mut Roster) -> Option<bool> {
     let old = enter_and_remove(alloc, roster)?;
     let new = enter(alloc, roster, b"2", Kind::Gamma, 4)?;
     let holds = roster.agent(old).is_some();
-    roster.remove(old);
+    roster.remove_agent(old);
     Some(new.slot == old.slot && !holds)
 }
 
@@ -177,7 +177,7 @@ fn enter_parent(alloc: Global, roster: &mut Roster) -> Option<NameId>
     ensures { IfSome result (λ id. id.place < length roster.new.names) }
 {
     let name = AgentName::start(alloc, 7)?;
-    roster.enter(&name).ok()
+    roster.enter_name(&name).ok()
 }
 
 /// The place where the name of child 2 of agent 7 is found.
@@ -190,7 +190,7 @@ fn place_of_child(alloc: Global, roster: &Roster) -> Option<NameId> {
 /// Whether the name of child 2 of agent 7 is entered, and then the one that is found.
 fn child_is_entered(alloc: Global, roster: &mut Roster) -> Option<bool> {
     let parent = enter_parent(alloc, roster)?;
-    let id = roster.enter_child(parent, 2).ok()?;
+    let id = roster.enter_child_name(parent, 2).ok()?;
     Some(place_of_child(alloc, roster) == Some(id))
 }
 

@@ -20,7 +20,7 @@ fn have_causes(roster: &Roster, first: EventId, second: EventId, third: EventId)
 
 /// Whether these are the dependents of an event, each listed once, in whatever order.
 fn is_needed_by(alloc: Global, roster: &Roster, id: EventId, dependents: &[EventId]) -> bool {
-    match roster.dependents(id).to_vec(alloc) {
+    match roster.event_dependents(id).to_vec(alloc) {
         Ok(ids) => are_alike(&ids, dependents),
         Err(_) => false,
     }
@@ -67,7 +67,7 @@ fn what_three_show(alloc: Global, roster: &mut Roster) -> Option<(bool, bool, bo
 fn causes_and_dependents_are_kept_until_an_event_goes(rt: HostRuntime) {
     let mut roster = Roster::new(rt.alloc());
     let none = EventId { slot: 0, line: 4 };
-    assert!(rt; roster.dependents(none).next().is_none());
+    assert!(rt; roster.event_dependents(none).next().is_none());
     assert_eq!(rt;
         what_three_show(rt.alloc(), &mut roster),
         Some((true, true, true))

@@ -36,8 +36,8 @@ fn entered(
     ensures named { IfSome result (λ i. IsNamed roster.new.names i) }
     ensures events { roster.new.events ≡ roster.old.events }
 {
-    roster.enter(lead_name).ok()?;
-    roster.enter(other_name).ok()?;
+    roster.enter_name(lead_name).ok()?;
+    roster.enter_name(other_name).ok()?;
     let lead = roster.names().find(lead_name)?;
     let other = roster.names().find(other_name)?;
     match roster.names().cmp(lead, other) {
@@ -168,7 +168,7 @@ fn are_read(mut ids: EventIds<'_>, expected: &[EventId]) -> bool {
 
 /// Whether an event stands under an id, and these are its causes.
 pub(crate) fn has_causes(roster: &Roster, id: EventId, causes: &[EventId]) -> bool {
-    roster.event(id).is_some() && are_read(roster.causes(id), causes)
+    roster.event(id).is_some() && are_read(roster.event_causes(id), causes)
 }
 
 /// The ids of two agents.
@@ -223,7 +223,7 @@ fn goes(alloc: Global, roster: &mut Roster, id: EventId, lead: u16) -> bool {
 
 /// The event under an id goes, if one stands under it that is no cause of another.
 pub(crate) fn take_out(roster: &mut Roster, id: EventId) -> Option<NameId> {
-    let dependent = roster.dependents(id).next();
+    let dependent = roster.event_dependents(id).next();
     match dependent {
         Some(_) => None,
         None => roster.remove_event(id),

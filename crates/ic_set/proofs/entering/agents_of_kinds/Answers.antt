@@ -11,7 +11,7 @@ pub loop-number-preserved : goal.loop-number-preserved
 loop-number-preserved c =
     let i = c.loop-number.invariant in
     let old = c.loop-number.roster.names in
-    let new = c.enter.new.self.names in
+    let new = c.enter_name.new.self.names in
     let so_far = c.loop-number.agents.items in
     let entered = c.in_ok-name.ensures in
     let kept = kept_agents old new (λ m k. grown_keeps old new _ m k entered.grown) so_far i.inside in

@@ -23,8 +23,8 @@ loop-agent-init c =
       room = omega arith;
     }
 
-pub insert-requires : goal.insert-requires
-insert-requires c =
+pub insert_agent-requires : goal.insert_agent-requires
+insert_agent-requires c =
     let i = c.loop-agent.agent-index in
     let all = c.args.entering.now in
     let none : NewAgent = record { name = record { place = 0 }; kind = Gamma } in

@@ -1,7 +1,7 @@
 use Rattle.ic_set.proofs.entering.enter_child.Goals as goal
 
-pub insert-requires : goal.insert-requires
-insert-requires c =
+pub insert_agent-requires : goal.insert_agent-requires
+insert_agent-requires c =
     let entered = c.in-Ok.ensures.entered in
     record {
       inside = entered.within;

@@ -8,9 +8,9 @@ loop-id-init c = record { left = λ gone left e a. (gone, e, a); names = refl; e
 pub loop-id-preserved : goal.loop-id-preserved
 loop-id-preserved c = record {
   left = λ gone left e a.
-      (let r = c.loop-id.invariant.left gone left e a in next_gone r.0 left _ _ c.args.ids.now c.loop-id.id-index (record { slot = 0; serial = 0 }) c.loop-id-test.true r.1 r.2 c.remove.ensures.gone);
-  names = c.remove.ensures.names ∙ c.loop-id.invariant.names;
-  events = c.remove.ensures.events ∙ c.loop-id.invariant.events;
+      (let r = c.loop-id.invariant.left gone left e a in next_gone r.0 left _ _ c.args.ids.now c.loop-id.id-index (record { slot = 0; serial = 0 }) c.loop-id-test.true r.1 r.2 c.remove_agent.ensures.gone);
+  names = c.remove_agent.ensures.names ∙ c.loop-id.invariant.names;
+  events = c.remove_agent.ensures.events ∙ c.loop-id.invariant.events;
 }
 
 pub returns-clause-left : goal.returns-clause-left

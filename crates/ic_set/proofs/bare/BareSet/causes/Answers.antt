@@ -14,7 +14,7 @@ pub in_order-requires : goal.in_order-requires
 in_order-requires g c =
     let v : SetView = record { start = c.self.inside.start; agents = c.self.inside.roster.agents; events = c.self.inside.roster.events } in
     let stands : Stands v c.args.id = rw (← c.self.view_is) at c.requires in
-    let ids = c.in_ok-ids.ensures ∙ c.causes.ensures.causes stands.0 stands.1 stands.2 in
+    let ids = c.in_ok-ids.ensures ∙ c.event_causes.ensures.causes stands.0 stands.1 stands.2 in
     rw (c.deref.ensures.value, ids) (record {
       once = causes_once v c.self.invariant.set.own_lines c.self.invariant.set.causes _ stands.1;
       standing = rw (← c.self.view_is) (causes_stand v c.self.invariant.set.own_lines c.self.invariant.set.causes _ stands.1);
@@ -25,7 +25,7 @@ returns g c =
     let v : SetView = record { start = c.self.inside.start; agents = c.self.inside.roster.agents; events = c.self.inside.roster.events } in
     let b : NamedView = record { set = v; names = c.self.inside.roster.names } in
     let stands : Stands v c.args.id = rw (← c.self.view_is) at c.requires in
-    let ids = c.in_ok-ids.ensures ∙ c.causes.ensures.causes stands.0 stands.1 stands.2 in
+    let ids = c.in_ok-ids.ensures ∙ c.event_causes.ensures.causes stands.0 stands.1 stands.2 in
     let placed : ArePlaced b (λ x. IsIn x.id stands.0.causes) c.in_ok-in_order.field-0.items = rw (← c.self.view_is, c.deref.ensures.value, ids) at c.in_ok-in_order.ensures in
     let same = subst (λ (d : EventId). (y : Stander) → IsIn y v.events → IsIn y.id stands.0.causes ↔ IsCauseOf v d y) stands.2 (causes_of v c.self.invariant.set.own_lines c.self.invariant.set.causes _ stands.1) in
     rw (← c.self.view_is) (IfOk-weaker c.ids_of.result _ _ (λ ids e. ids_in_order b _ _ ids.items (placed_so b _ same placed) e) (rw c.deref-2.ensures.value at c.ids_of.ensures))

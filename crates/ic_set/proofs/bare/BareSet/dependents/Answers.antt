@@ -12,8 +12,8 @@ in_order-requires g c =
     let v : SetView = record { start = c.self.inside.start; agents = c.self.inside.roster.agents; events = c.self.inside.roster.events } in
     let stands : Stands v c.args.id = rw (← c.self.view_is) at c.requires in
     rw (c.deref.ensures.value, c.in_ok-ids.ensures) (record {
-      once = c.dependents.ensures.once;
-      standing = rw (← c.self.view_is) (dependents_stand v _ c.self.invariant _ stands _ c.dependents.ensures);
+      once = c.event_dependents.ensures.once;
+      standing = rw (← c.self.view_is) (dependents_stand v _ c.self.invariant _ stands _ c.event_dependents.ensures);
     })
 
 pub returns : goal.returns
@@ -21,6 +21,6 @@ returns g c =
     let v : SetView = record { start = c.self.inside.start; agents = c.self.inside.roster.agents; events = c.self.inside.roster.events } in
     let b : NamedView = record { set = v; names = c.self.inside.roster.names } in
     let stands : Stands v c.args.id = rw (← c.self.view_is) at c.requires in
-    let placed : ArePlaced b (λ x. IsIn x.id c.dependents.result) c.in_ok-in_order.field-0.items = rw (← c.self.view_is, c.deref.ensures.value, c.in_ok-ids.ensures) at c.in_ok-in_order.ensures in
-    let same = dependents_of v c.self.invariant.set.own_lines c.self.invariant.set.causes c.args.id _ stands c.dependents.ensures in
+    let placed : ArePlaced b (λ x. IsIn x.id c.event_dependents.result) c.in_ok-in_order.field-0.items = rw (← c.self.view_is, c.deref.ensures.value, c.in_ok-ids.ensures) at c.in_ok-in_order.ensures in
+    let same = dependents_of v c.self.invariant.set.own_lines c.self.invariant.set.causes c.args.id _ stands c.event_dependents.ensures in
     rw (← c.self.view_is) (IfOk-weaker c.ids_of.result _ _ (λ ids e. ids_in_order b _ _ ids.items (placed_so b _ same placed) e) (rw c.deref-2.ensures.value at c.ids_of.ensures))
