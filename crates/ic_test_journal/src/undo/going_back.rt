@@ -22,7 +22,7 @@ const UNDO: [(Step, u8); 1] = [(Step::Undo(0), 0)];
 fn goes_to_one(alloc: Global, player: &mut Player) -> Result<bool, Fail> {
     let fired = player.plays(&FIRE)?;
     let one = mark(alloc, &player.bench)?;
-    Ok(fired && one.len() == 1 && player.plays(&UNDO)? && goes(alloc, player, &one, 0, 1))
+    Ok(fired && one.event_count() == 1 && player.plays(&UNDO)? && goes(alloc, player, &one, 0, 1))
 }
 
 /// The bench is marked before its first event, goes back to what stood after it, and then to the mark.
@@ -31,7 +31,11 @@ struct BackToMarks;
 impl Game for BackToMarks {
     fn is_won(&self, alloc: Global, player: &mut Player) -> Result<bool, Fail> {
         let nothing = mark(alloc, &player.bench)?;
-        Ok(nothing.len() == 0 && goes_to_one(alloc, player)? && goes(alloc, player, &nothing, 1, 0))
+        Ok(
+            nothing.event_count() == 0
+                && goes_to_one(alloc, player)?
+                && goes(alloc, player, &nothing, 1, 0),
+        )
     }
 }
 
