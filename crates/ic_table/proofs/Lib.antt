@@ -61,4 +61,5 @@ mod SweptRecords
 pub mod FilledEvents
 pub mod EnteredEvents
 pub mod GivenRooms
+pub mod JoinedMade
 pub mod MadeAtOnce

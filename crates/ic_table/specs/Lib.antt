@@ -8,6 +8,7 @@ pub mod LinkRecords
 pub mod Records
 pub mod Changes
 pub mod Tables
+pub mod Making
 pub mod Splices
 pub mod Marks
 pub mod Steps

@@ -5,6 +5,7 @@ mod changes;
 mod counting;
 mod labels;
 mod link_records;
+mod making;
 mod rebuilding;
 mod records;
 mod splices;
