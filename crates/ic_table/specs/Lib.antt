@@ -8,7 +8,7 @@ pub mod LinkRecords
 pub mod Records
 pub mod Changes
 pub mod Tables
-pub mod Making
+pub mod Joining
 pub mod Splices
 pub mod Marks
 pub mod Steps

@@ -3,10 +3,9 @@
 
 mod changes;
 mod counting;
+mod joining;
 mod labels;
 mod link_records;
-mod making;
-mod rebuilding;
 mod records;
 mod splices;
 pub mod table;
