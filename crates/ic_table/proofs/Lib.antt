@@ -54,7 +54,6 @@ pub mod TakenPaths
 pub mod TakenTips
 pub mod LooseTakes
 mod ClearedEvents
-pub mod JoinedNext
 mod JoinedStarts
 mod ClearedRows
 mod StrippedRecords
