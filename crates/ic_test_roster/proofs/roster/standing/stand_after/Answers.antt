@@ -1,4 +1,4 @@
-use Rattle.std.proofs.Common.{◌≡◌, [], ◌∷◌, Result, Ok, Err, sym, subst, All}
+use Rattle.std.proofs.Common.{◌≡◌, ◌∷◌, Result, Ok, Err, sym, subst, All}
 use Rattle.std.specs.Prelude.{IfOk, OnErr}
 use Rattle.ic_path.specs.Orders.{Alike}
 use Rattle.ic_path.proofs.Picks.{in_more}
