@@ -1,4 +1,4 @@
-ghost use Rattle.std.specs.Prelude.{◌≡◌, ◌+◌, ◌<◌, ◌++◌, ◌∷◌, [], map, IfOk, OnOk, OnErr};
+ghost use Rattle.std.specs.Prelude.{◌≡◌, ◌+◌, ◌<◌, ◌≤◌, ◌++◌, ◌∷◌, [], length, map, IfOk, OnOk, OnErr};
 ghost use Rattle.ic_roster.specs.KeptEvents.{lone};
 ghost use Rattle.ic_roster.specs.RecordChanges.{Takes};
 
@@ -50,8 +50,9 @@ impl Model for EventRecord {
 
 impl EventRecord {
     /// The record of an event of this line that has no dependents yet. It is an error if memory runs out, or if there are more
-    /// children or causes than can be counted.
+    /// causes than can be counted in 32 bits.
     pub fn new(alloc: Global, line: u32, event: &NewEvent<'_>) -> Result<EventRecord, AllocError>
+        requires four { length event.now.born.now ≤ 4 }
         ensures interaction { IfOk result (λ r. r.interaction ≡ event.now.interaction) }
         ensures line { IfOk result (λ r. r.line ≡ line) }
         ensures rank { IfOk result (λ r. r.rank ≡ event.now.rank) }
@@ -59,9 +60,7 @@ impl EventRecord {
         ensures causes { IfOk result (λ r. r.causes ≡ map (λ d. d.slot) event.now.causes.now) }
         ensures none { IfOk result (λ r. r.dependents ≡ []) }
     {
-        let Ok(born) = u8::try_from(event.born.len()) else {
-            return Err(AllocError);
-        };
+        let born = event.born.len() as u8;
         let Ok(causes) = u32::try_from(event.causes.len()) else {
             return Err(AllocError);
         };

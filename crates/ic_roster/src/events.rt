@@ -1,4 +1,4 @@
-ghost use Rattle.std.specs.Prelude.{◌≡◌, ◌≢◌, ◌+◌, ◌<◌, ◌↔◌, ◌∷◌, [], length, map, All, IsNone, IsSomeAnd, IsTrue, IfSome, IfNone, IfOk, OnErr};
+ghost use Rattle.std.specs.Prelude.{◌≡◌, ◌≢◌, ◌+◌, ◌<◌, ◌≤◌, ◌↔◌, ◌∷◌, [], length, map, All, IsNone, IsSomeAnd, IsTrue, IfSome, IfNone, IfOk, OnErr};
 ghost use Rattle.ic_path.specs.Orders.{Alike, IsIn, IsOnce};
 ghost use Rattle.ic_name.specs.Events.{pair};
 ghost use Rattle.ic_names.specs.Tables.{name_at, StandsAt};
@@ -109,8 +109,8 @@ impl Roster {
         }
     }
 
-    /// One event more, fired in this line, with its direct causes, which stand, in constant time for each but for growth. The
-    /// serial number of each child is one more than the line. At an error nothing changes.
+    /// One event more, fired in this line, with its direct causes, which stand, in constant time for each but for growth. It has
+    /// at most four children. The serial number of each child is one more than the line. At an error nothing changes.
     #[inline(always)]
     pub fn insert_event(&mut self, line: u32, event: &NewEvent<'_>) -> Result<EventId, AllocError>
         requires named { IsNamed self.old.names event.now.interaction }
@@ -118,6 +118,7 @@ impl Roster {
         requires standing { All (Stands self.old.events) event.now.causes.now }
         requires once { IsOnce event.now.causes.now }
         requires children { All (λ a. a.serial ≡ line + 1) event.now.born.now }
+        requires four { length event.now.born.now ≤ 4 }
         ensures entered { IfOk result (λ id. (id.line ≡ line) × Alike (record { id = id; event = event_in self.old.names event.now.interaction; rank = event.now.rank; born = event.now.born.now; causes = event.now.causes.now } ∷ self.old.events) self.new.events) }
         ensures names { self.new.names ≡ self.old.names }
         ensures agents { self.new.agents ≡ self.old.agents }

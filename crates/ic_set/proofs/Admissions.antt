@@ -32,10 +32,10 @@ use Rattle.ic_set.proofs.Namings.{own_lines_alike}
 use Rattle.ic_set.proofs.KeptOrders.{kept_alike}
 use Rattle.ic_set.proofs.RankBounds.{rank_below_length}
 use Rattle.ic_set.proofs.NewEvents.{sound_more, new_event, no_links, causes_kept, causes_once}
-use Rattle.ic_set.proofs.Children.{new_children}
+use Rattle.ic_set.proofs.Children.{length-born, new_children}
 use Rattle.ic_set.proofs.GrownSets.{Grows}
 use Rattle.ic_set.proofs.JoinedPairs.{joins_awake}
-use Rattle.ic_set.proofs.RuleDigits.{rule_few}
+use Rattle.ic_set.proofs.RuleDigits.{rule_few, rule_four}
 use Rattle.ic_set.proofs.Admitted.{digits, lawful_more, kept_more}
 
 -- a set is the same as it was seen, in whatever order
@@ -93,6 +93,7 @@ module _ (v w : SetView) (seen : v ≡ w) (ls : List Link) (k : IsKept v ls) (e 
       can_put_in h = record {
         new = new_event v ls k e pair.active line new_line;
         children = of_line;
+        four = subst (λ n. n ≤ 4) (sym (length-born e born enters.entered are)) (rule_four e.lead_kind e.other_kind);
         digits = digits v ls k e p pair line new_line enters.entered born are ms enters.alike own;
         few = rule_few v.start.profile e.lead_kind e.other_kind;
         no_links = λ d l q i. no_links v ls k e pair.active line new_line d q l i;

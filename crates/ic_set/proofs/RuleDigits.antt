@@ -66,6 +66,18 @@ rule_few Straight Gamma Gamma = lit≤ tt
 rule_few v Delta Delta = lit≤ tt
 rule_few v Eps Eps = lit≤ tt
 
+-- a rule makes four children at most
+pub rule_four : (a b : Kind) → length (born_kinds a b) ≤ 4
+rule_four Gamma Delta = lit≤ tt
+rule_four Delta Gamma = lit≤ tt
+rule_four Gamma Eps = lit≤ tt
+rule_four Delta Eps = lit≤ tt
+rule_four Eps Gamma = lit≤ tt
+rule_four Eps Delta = lit≤ tt
+rule_four Gamma Gamma = lit≤ tt
+rule_four Delta Delta = lit≤ tt
+rule_four Eps Eps = lit≤ tt
+
 -- where each child has an id, so has each that the rule names
 pub rule_digits : (born : List AgentId) (v : Profile) (a b : Kind) → length born ≡ length (born_kinds a b) → HaveDigits born (born_ends v a b)
 rule_digits born v a b e = digits_from born (born_ends v a b) (subst (λ n. are_ends n (born_ends v a b) ≡ true) (sym e) (rule_passes v a b))

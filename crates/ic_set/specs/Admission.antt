@@ -24,11 +24,12 @@ pub record IsRankOver (ss : List Stander) (ids : List EventId) (rank : ℕ) : Ty
   pub above : (x : Stander) → IsIn x ss → IsIn x.id ids → x.rank + 1 ≤ rank
   pub least : (rank ≡ 0) ⊎ ((x : Stander) × IsIn x ss × IsIn x.id ids × (rank ≡ x.rank + 1))
 
--- an event can be put in under each id with this line: it is new, its children are of the line, its links can be put in, and
--- its causes stand
+-- an event can be put in under each id with this line: it is new, its children are of the line, it has at most four children,
+-- its links can be put in, and its causes stand
 pub record CanPutIn (e : Event) (line rank : ℕ) (p : ActivePair) (born : List AgentId) (ends : List (RuleEnd × RuleEnd)) (its_causes : List EventId) (ss : List Stander) (ls : List Link) : Type 0 where
   pub new : IsNewEvent ss line e
   pub children : All (λ a. a.serial ≡ line + 1) born
+  pub four : length born ≤ 4
   pub digits : HaveDigits born ends
   pub few : length ends ≤ 8
   pub no_links : (d : EventId) (l : Link) → d.line ≡ line → IsIn l ls → made_by d l ≡ false

@@ -1,4 +1,4 @@
-ghost use Rattle.std.specs.Prelude.{◌≡◌, ◌≢◌, ◌+◌, All, IsTrue, IfSome};
+ghost use Rattle.std.specs.Prelude.{◌≡◌, ◌≢◌, ◌+◌, ◌≤◌, length, All, IsTrue, IfSome};
 ghost use Rattle.ic_path.specs.Orders.{IsIn, IsOnce};
 ghost use Rattle.ic_name.specs.declared.ids.AgentId.{AgentId as AnAgentId};
 ghost use Rattle.ic_name.specs.declared.ids.EventId.{EventId as AnEventId};
@@ -78,8 +78,8 @@ fn are_children(born: &[AgentId], line: u32) -> bool
     born.iter().all(|agent| agent.serial == serial)
 }
 
-/// Enters the event of two start agents after these causes, with rank 7. It is `None` where one of this line or this lead
-/// stands, or where the agents aren't children of an event of this line.
+/// Enters the event of two start agents after these causes, with rank 7 and at most four children. It is `None` where one of
+/// this line or this lead stands, or where the agents aren't children of an event of this line.
 pub(crate) fn stand_after(
     alloc: Global,
     roster: &mut Roster,
@@ -90,6 +90,7 @@ pub(crate) fn stand_after(
 ) -> Option<EventId>
     requires standing { All (Stands roster.old.events) causes.now }
     requires once { IsOnce causes.now }
+    requires four { length born.now ≤ 4 }
     ensures there { IfSome result (λ id. Stands roster.new.events id) }
     ensures in_line { IfSome result (λ id. id.line ≡ line) }
     ensures kept { (d : AnEventId) → Stands roster.old.events d → Stands roster.new.events d }
@@ -120,7 +121,9 @@ fn stand(
     agents: (u16, u16),
     line: u32,
     born: &[AgentId],
-) -> Option<EventId> {
+) -> Option<EventId>
+    requires four { length born.now ≤ 4 }
+{
     stand_after(alloc, roster, agents, line, born, &[])
 }
 

@@ -41,27 +41,33 @@ made : (c : goal.After-way_told-1) → c.loop-cause.slots.items ≡ agents c.arg
 made c = c.loop-cause.invariant ∙ ap (λ ids. agents c.args.event.now.born.now ++ events ids) (take_all c.loop-cause.cause-index c.args.event.now.causes.now c.loop-cause-test.false)
 
 -- as many are children
-few_born : (c : goal.After-way_told-1) → length (agents c.args.event.now.born.now) ≡ c.in-Ok.born
-few_born c = length-map c.args.event.now.born.now (λ (a : AgentId). a.slot) ∙ sym c.in-Ok.ensures.1
+few_born : (c : goal.After-way_told-1) → length (agents c.args.event.now.born.now) ≡ length c.args.event.now.born.now
+few_born c = length-map c.args.event.now.born.now (λ (a : AgentId). a.slot)
 
 -- as many are causes
-few_causes : (c : goal.After-way_told-1) → length (events c.args.event.now.causes.now) ≡ c.in-Ok-try_from.causes
-few_causes c = length-map c.args.event.now.causes.now (λ (d : EventId). d.slot) ∙ sym c.in-Ok-try_from.ensures.1
+few_causes : (c : goal.After-way_told-1) → length (events c.args.event.now.causes.now) ≡ c.in-Ok.causes
+few_causes c = length-map c.args.event.now.causes.now (λ (d : EventId). d.slot) ∙ sym c.in-Ok.ensures.1
 
 pub invariant_of-result : goal.invariant_of-result
 invariant_of-result c =
+    let born = c.args.event.now.born.now in
     let front = few_born c in
     let middle = few_causes c in
-    let long : length c.loop-cause.slots.items ≡ length (agents c.args.event.now.born.now) + length (events c.args.event.now.causes.now) = ap length (made c) ∙ length-append (agents c.args.event.now.born.now) (events c.args.event.now.causes.now) in
-    let fits : c.in-Ok.born + c.in-Ok-try_from.causes ≤ length c.loop-cause.slots.items = omega (arith, front, middle, long) in
+    let long : length c.loop-cause.slots.items ≡ length (agents born) + length (events c.args.event.now.causes.now) = ap length (made c) ∙ length-append (agents born) (events c.args.event.now.causes.now) in
+    let fits : length born + c.in-Ok.causes ≤ length c.loop-cause.slots.items = omega (arith, front, middle, long) in
     fits
 
 pub returns-clause-born : goal.returns-clause-born
-returns-clause-born c = ap (take c.in-Ok.born) (made c) ∙ made_front (agents c.args.event.now.born.now) (events c.args.event.now.causes.now) c.in-Ok.born c.in-Ok-try_from.causes (few_born c) (few_causes c)
+returns-clause-born c =
+    let born = c.args.event.now.born.now in
+    ap (take (length born)) (made c) ∙ made_front (agents born) (events c.args.event.now.causes.now) (length born) c.in-Ok.causes (few_born c) (few_causes c)
 
 pub returns-clause-causes : goal.returns-clause-causes
 returns-clause-causes c =
-    ap (λ ks. take c.in-Ok-try_from.causes (drop c.in-Ok.born ks)) (made c) ∙ made_middle (agents c.args.event.now.born.now) (events c.args.event.now.causes.now) c.in-Ok.born c.in-Ok-try_from.causes (few_born c) (few_causes c)
+    let born = c.args.event.now.born.now in
+    ap (λ ks. take c.in-Ok.causes (drop (length born) ks)) (made c) ∙ made_middle (agents born) (events c.args.event.now.causes.now) (length born) c.in-Ok.causes (few_born c) (few_causes c)
 
 pub returns-clause-none : goal.returns-clause-none
-returns-clause-none c = ap (drop (c.in-Ok.born + c.in-Ok-try_from.causes)) (made c) ∙ made_end (agents c.args.event.now.born.now) (events c.args.event.now.causes.now) c.in-Ok.born c.in-Ok-try_from.causes (few_born c) (few_causes c)
+returns-clause-none c =
+    let born = c.args.event.now.born.now in
+    ap (drop (length born + c.in-Ok.causes)) (made c) ∙ made_end (agents born) (events c.args.event.now.causes.now) (length born) c.in-Ok.causes (few_born c) (few_causes c)
