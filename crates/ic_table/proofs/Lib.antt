@@ -63,3 +63,5 @@ pub mod EnteredEvents
 pub mod GivenRooms
 pub mod JoinedMade
 pub mod MadeAtOnce
+
+pub mod RunWalks

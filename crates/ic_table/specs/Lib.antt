@@ -5,6 +5,7 @@ pub mod KeyedRows
 pub mod EventRows
 pub mod StartRows
 pub mod LinkRecords
+pub mod Runs
 pub mod Records
 pub mod Changes
 pub mod Tables

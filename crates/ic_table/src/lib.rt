@@ -7,6 +7,7 @@ mod joining;
 mod labels;
 mod link_records;
 mod records;
+mod runs;
 mod splices;
 pub mod table;
 mod two_slots;
