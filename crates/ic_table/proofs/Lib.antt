@@ -63,5 +63,4 @@ pub mod EnteredEvents
 pub mod GivenRooms
 pub mod JoinedMade
 pub mod MadeAtOnce
-
 pub mod RunWalks
