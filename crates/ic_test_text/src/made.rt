@@ -24,28 +24,30 @@ fn link(event: EventId, place: u32, ends: (Spot, Spot)) -> Link
     }
 }
 
-/// Puts in two links of an event at once, as its only ones. An error comes if they find no room, or memory runs out.
+/// Puts in two links of an event at once, as its only ones. It is `false` if they find no room. An error comes if memory runs
+/// out. `put_made` wants room for both and `has_room` tells of one link, so each first goes in by `add` and is taken out again.
 fn put_two<L: LinkStore>(
     store: &mut L,
     event: EventId,
     first: (Spot, Spot),
     second: (Spot, Spot),
     joins: &mut [Option<Principals>; MAX_JOINS],
-) -> Result<(), AllocError> {
+) -> Result<bool, AllocError> {
     store.take_of(event);
     let one = link(event, 0, first);
     if !has_room(store, &one) {
-        return Err(AllocError);
+        return Ok(false);
     }
     store.add(one)?;
     let other = link(event, 1, second);
     if !has_room(store, &other) {
-        return Err(AllocError);
+        return Ok(false);
     }
     store.add(other)?;
     store.lawful();
     store.take_of(event);
-    store.put_made(event, &[first, second], joins)
+    store.put_made(event, &[first, second], joins)?;
+    Ok(true)
 }
 
 /// The event that stands in a line of a history.
@@ -53,56 +55,77 @@ fn event(line: u32) -> EventId {
     EventId { slot: line, line }
 }
 
+/// The first agent of a slot.
+fn agent(slot: u32) -> AgentId {
+    AgentId { slot, serial: 0 }
+}
+
 /// A port of the agent in the slot.
 fn port(slot: u32, port: u8) -> Spot {
-    Spot::Agent(AgentId { slot, serial: 0 }, port)
+    Spot::Agent(agent(slot), port)
 }
 
 /// The agents in these slots, joined by their principal ports.
 fn pair(one: u32, other: u32) -> Option<Principals> {
     Some(Principals {
-        one: AgentId {
-            slot: one,
-            serial: 0,
-        },
-        other: AgentId {
-            slot: other,
-            serial: 0,
-        },
+        one: agent(one),
+        other: agent(other),
     })
 }
 
-/// The auxiliary ports of agents 0 and 1 lead to the principal ports of agents 2 and 3, and to each other. Agents 0 and 1 are
-/// a pair. Once it has fired, agents 2 and 3 are a pair, and there is a ring.
+/// An event that makes two links, and what the store answers of them.
+#[derive(Clone, Copy)]
+struct Firing {
+    /// The line of the history in which the event stands.
+    line: u32,
+    /// The ends of its links, in the order of their places.
+    ends: [(Spot, Spot); 2],
+    /// The principal ports that the links join.
+    joins: [Option<Principals>; MAX_JOINS],
+    /// The number of rings once they are in.
+    rings: u64,
+}
+
+/// Three events in turn. After two of them, the auxiliary ports of agents 0 and 1 lead to the principal ports of agents 2 and
+/// 3, and to each other, and agents 0 and 1 are a pair. Once it has fired, agents 2 and 3 are a pair, and there is a ring.
+fn firings() -> [Firing; 3] {
+    [
+        Firing {
+            line: 1,
+            ends: [(port(0, 1), port(2, 0)), (port(1, 1), port(3, 0))],
+            joins: [None; MAX_JOINS],
+            rings: 0,
+        },
+        Firing {
+            line: 2,
+            ends: [(port(0, 2), port(1, 2)), (port(0, 0), port(1, 0))],
+            joins: [None, pair(0, 1), None, None],
+            rings: 0,
+        },
+        Firing {
+            line: 3,
+            ends: [(port(0, 1), port(1, 1)), (port(0, 2), port(1, 2))],
+            joins: [pair(2, 3), None, None, None],
+            rings: 1,
+        },
+    ]
+}
+
+/// Puts in the links of each firing in turn. The store answers as each of them says.
+fn put_firings<L: LinkStore>(rt: &impl Abort, store: &mut L) -> Result<(), AllocError> {
+    for firing in &firings() {
+        let mut joins = [pair(0, 0); MAX_JOINS];
+        let [first, second] = firing.ends;
+        assert!(rt; put_two(store, event(firing.line), first, second, &mut joins)?);
+        assert!(rt; joins == firing.joins);
+        assert_eq!(rt; store.rings(), firing.rings);
+    }
+    Ok(())
+}
+
 fn a_pair_fires<L: LinkStore>(rt: &impl Abort, alloc: Global) -> Result<(), Fail> {
     let mut store = L::empty(alloc);
-    let mut joins = [pair(0, 0); MAX_JOINS];
-    let outer = (port(0, 1), port(2, 0));
-    put_two(
-        &mut store,
-        event(1),
-        outer,
-        (port(1, 1), port(3, 0)),
-        &mut joins,
-    )?;
-    assert_eq!(rt; joins[0], None);
-    assert_eq!(rt; joins[3], None);
-    let inner = (port(0, 2), port(1, 2));
-    put_two(
-        &mut store,
-        event(2),
-        inner,
-        (port(0, 0), port(1, 0)),
-        &mut joins,
-    )?;
-    assert_eq!(rt; joins[0], None);
-    assert_eq!(rt; joins[1], pair(0, 1));
-    assert_eq!(rt; store.rings(), 0);
-    let first = (port(0, 1), port(1, 1));
-    put_two(&mut store, event(3), first, inner, &mut joins)?;
-    assert_eq!(rt; joins[0], pair(2, 3));
-    assert_eq!(rt; joins[1], None);
-    assert_eq!(rt; store.rings(), 1);
+    put_firings(rt, &mut store)?;
     assert_eq!(rt; store.far(port(2, 0)), Far::End(port(3, 0)));
     assert_eq!(rt; store.far(port(0, 2)), Far::Joint);
     store.take_of(event(3));
