@@ -4,4 +4,5 @@ pub mod OwnSlots
 pub mod FoundSlots
 pub mod Lawful
 pub mod NoStrays
+pub mod OwnRooms
 pub mod Turned

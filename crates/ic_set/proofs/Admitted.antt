@@ -12,6 +12,7 @@ use Rattle.ic_path.specs.Rings.{HasEachOnce}
 use Rattle.ic_path.proofs.Picks.{pick_behind, pick_before, in_first, in_more, in-cons_cases}
 use Rattle.ic_path.proofs.Alikes.{alike_self, alike_back, alike_then, alike_more, alike-map, alike-in}
 use Rattle.ic_link.specs.Links.{IsLawful}
+use Rattle.ic_link.specs.Made.{no_id, HaveDigits}
 use Rattle.ic_theory.specs.Born.{born_agents, born_links}
 use Rattle.ic_theory.specs.Causes.{IsRank, IsCause}
 use Rattle.ic_theory.specs.Future.{Includes}
@@ -34,7 +35,7 @@ use Rattle.ic_set.specs.Ids.{IsNaming}
 use Rattle.ic_set.specs.Causes.{IsCauseId, HaveCauses}
 use Rattle.ic_set.specs.Sets.{HasChildren, IsStandingSet, IsKept}
 use Rattle.ic_set.specs.Pairs.{IsPairOf}
-use Rattle.ic_set.specs.Joining.{no_id, made_links, HaveDigits}
+use Rattle.ic_set.specs.Joining.{made_links}
 use Rattle.ic_set.specs.Admission.{AreCausesOf, IsRankOver}
 use Rattle.ic_set.proofs.Namings.{naming_of, tells_apart, extends, same_stander}
 use Rattle.ic_set.proofs.KeptRanks.{part_ranks}

@@ -6,10 +6,10 @@ use Rattle.ic_name.specs.Names.{Name}
 use Rattle.ic_name.specs.declared.kinds.Kind.{Kind}
 use Rattle.ic_path.specs.Orders.{IsIn}
 use Rattle.ic_path.proofs.Picks.{in_first, in_more}
+use Rattle.ic_link.specs.Made.{no_id}
 use Rattle.ic_theory.specs.Born.{named}
 use Rattle.ic_roster.specs.Rosters.{Member}
 use Rattle.ic_set.specs.Views.{agent_of}
-use Rattle.ic_set.specs.Joining.{no_id}
 
 -- the agent that is entered at a place has the id and the name of that place
 pub nth_entered : (name : ℕ → Name) (k : ℕ) (ms : List Member) (kinds : List Kind) → map agent_of ms ≡ named name k kinds → (i : ℕ) → i < length ms

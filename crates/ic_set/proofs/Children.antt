@@ -10,6 +10,7 @@ use Rattle.ic_name.proofs.SameFacts.{same_name_self}
 use Rattle.ic_path.specs.Orders.{Pick, IsIn, Alike}
 use Rattle.ic_path.proofs.Picks.{in_first, in_more}
 use Rattle.ic_path.proofs.Alikes.{alike-in, picked_alike}
+use Rattle.ic_link.specs.Made.{no_id}
 use Rattle.ic_theory.specs.Born.{named, born_agents}
 use Rattle.ic_theory.specs.Rules.{born_kinds}
 use Rattle.ic_theory.specs.Starts.{Start}
@@ -22,7 +23,6 @@ use Rattle.ic_path.proofs.InLists.{in-map}
 use Rattle.ic_roster.specs.Rosters.{Member}
 use Rattle.ic_set.specs.Views.{agent_of, AreChildren}
 use Rattle.ic_set.specs.Entering.{CanEnter}
-use Rattle.ic_set.specs.Joining.{no_id}
 
 -- the agent that is entered at a place has the id and the name of that place
 nth_entered : (name : ℕ → Name) (k : ℕ) (ms : List Member) (kinds : List Kind) → map agent_of ms ≡ named name k kinds → (i : ℕ) → i < length ms

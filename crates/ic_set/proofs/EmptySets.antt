@@ -12,6 +12,7 @@ use Rattle.ic_path.specs.Links.{IsSlim}
 use Rattle.ic_path.proofs.Picks.{none_in, pick_before}
 use Rattle.ic_path.proofs.Alikes.{alike_self, alike_back, alike_then, alike-in, alike-map, picked_alike}
 use Rattle.ic_link.specs.Links.{shape}
+use Rattle.ic_link.specs.Made.{no_id}
 use Rattle.ic_theory.specs.Starts.{Start, IsProper, start_agents}
 use Rattle.ic_theory.specs.Born.{placed}
 use Rattle.ic_theory.proofs.AnyOrder.{named-alike}
@@ -26,7 +27,7 @@ use Rattle.ic_set.specs.Views.{agent_of}
 use Rattle.ic_set.specs.Ids.{IsNaming}
 use Rattle.ic_set.specs.Sets.{IsKept}
 use Rattle.ic_set.specs.Entering.{CanEnter, Enters}
-use Rattle.ic_set.specs.Joining.{no_id, moved_link, HaveNumbers}
+use Rattle.ic_set.specs.Joining.{moved_link, HaveNumbers}
 use Rattle.ic_set.proofs.Namings.{naming_of, tells_apart}
 use Rattle.ic_set.proofs.ByPlace.{nth_entered, length-entered}
 use Rattle.ic_set.proofs.SlimSets.{slim_shown}

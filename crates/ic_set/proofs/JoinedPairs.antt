@@ -20,17 +20,17 @@ use Rattle.ic_path.proofs.InLists.{in-append_cases, in-map, map_cases}
 use Rattle.ic_path.proofs.Orders.{degree-alike, far-alike, far-far, far_bare, slim-alike}
 use Rattle.ic_path.proofs.Picks.{in_first, in_more, in-cons_cases, none_in, pick_before}
 use Rattle.ic_link.specs.Links.{shape}
-use Rattle.ic_link.specs.Made.{AreJoins}
+use Rattle.ic_link.specs.Made.{no_id, no_spots, spot_of, spots_of, HasDigit, HaveDigits, AreJoins}
 use Rattle.ic_link.specs.declared.principals.Principals.{Principals}
 use Rattle.ic_link.proofs.FirstJoins.{one_agent}
 use Rattle.ic_link.proofs.InPlace.{in_at, at_seam}
-use Rattle.ic_link.proofs.MadeLinks.{no_spots, made_at, length_made}
+use Rattle.ic_link.proofs.MadeLinks.{made_at, length_made}
 use Rattle.ic_theory.specs.Rules.{born_ends}
 use Rattle.ic_theory.proofs.Counts.{degree-append}
 use Rattle.ic_roster.specs.Rosters.{Member, Stander}
 use Rattle.ic_cause.proofs.SameEnds.{degree_is}
 use Rattle.ic_set.specs.declared.pairs.ActivePair.{ActivePair}
-use Rattle.ic_set.specs.Joining.{no_id, spot_of, spots_of, made_links, HasDigit, HaveDigits}
+use Rattle.ic_set.specs.Joining.{made_links}
 use Rattle.ic_set.specs.Pairs.{AreJoined, IsPairOf, IsBetween, AreActiveJoins, Awakes}
 use Rattle.ic_set.specs.Sets.{IsKept}
 use Rattle.ic_set.specs.Views.{SetView, standing, agent_of}
@@ -46,7 +46,7 @@ use Rattle.ic_set.proofs.RuleEnds.{IsOuter, rule_outer, rule_inner}
 
 -- each link that an event makes comes of the ends of one
 made_ends : (d : EventId) (p : ActivePair) (born : List AgentId) (k : ℕ) (xs : List (RuleEnd × RuleEnd)) (l : Link) → IsIn l (made_links d p born k xs)
-    → (x : RuleEnd × RuleEnd) × IsIn x xs × (l.a ≡ spot_of p born x.0) × (l.b ≡ spot_of p born x.1)
+    → (x : RuleEnd × RuleEnd) × IsIn x xs × (l.a ≡ spot_of p.lead p.other born x.0) × (l.b ≡ spot_of p.lead p.other born x.1)
 made_ends d p born k [] l i = absurd (none_in i)
 made_ends d p born k (x ∷ xs) l i = elim (in-cons_cases i) [
   | inl e ↦ (x, in_first x xs, ap (λ (m : Link). m.a) e, ap (λ (m : Link). m.b) e)
@@ -153,7 +153,7 @@ module _ (v w : SetView) (ls ls' : List Link) (k : IsKept v ls) (k' : IsKept w l
       }
 
   -- the ends of the pair's links that aren't a child's are at auxiliary ports, so no link ends at the principal port of an agent of before
-  end_off : (n : Member) → IsIn n v.agents → (x : RuleEnd) → HasDigit born x → IsOuter x → spot_of p born x ≢ Agent n.id 0
+  end_off : (n : Member) → IsIn n v.agents → (x : RuleEnd) → HasDigit born x → IsOuter x → spot_of p.lead p.other born x ≢ Agent n.id 0
   end_off n there (Child i j) h o q = no_child v w k.set k'.set e born g n there (subst (λ a. IsIn a born) (one_agent q) (in_at born i no_id h))
   end_off n there (Lead j) h o q = o (port_none q)
   end_off n there (Other j) h o q = o (port_none q)
@@ -184,16 +184,16 @@ module _ (v w : SetView) (ls ls' : List Link) (k : IsKept v ls) (k' : IsKept w l
   late front back l split far_on a q =
       let no_ends : RuleEnd × RuleEnd = (Child 0 0, Child 0 0) in
       let i = length front in
-      let long = length_made d 0 (map (spots_of p born) ends) ∙ length-map ends (spots_of p born) in
+      let long = length_made d 0 (map (spots_of p.lead p.other born) ends) ∙ length-map ends (spots_of p.lead p.other born) in
       let whole = ap length split in
       let parts = length-append front (l ∷ back) in
       let here : i < length ends = omega (arith, long, whole, parts) in
       let its : slice_index_or made i l ≡ l = ap (λ xs. slice_index_or xs i l) split ∙ at_seam front l back l in
-      let is = made_at d (map (spots_of p born) ends) i l no_spots (omega (arith, length-map ends (spots_of p born), here)) in
+      let is = made_at d (map (spots_of p.lead p.other born) ends) i l no_spots (omega (arith, length-map ends (spots_of p.lead p.other born), here)) in
       let inner = rule_inner v.start.profile e.lead_kind e.other_kind i far_on here in
       let digits = its_digits _ (in_at ends i no_ends here) in
-      let first : l.a ≡ spot_of p born (slice_index_or ends i no_ends).0 = ap (λ (m : Link). m.a) (sym its ∙ is) ∙ ap (λ (x : Spot × Spot). x.0) (get_or-map (spots_of p born) ends i no_ends no_spots here) in
-      let spot : l.a ≡ Agent (slice_index_or born inner.digit no_id) (suc inner.port) = first ∙ ap (spot_of p born) inner.child in
+      let first : l.a ≡ spot_of p.lead p.other born (slice_index_or ends i no_ends).0 = ap (λ (m : Link). m.a) (sym its ∙ is) ∙ ap (λ (x : Spot × Spot). x.0) (get_or-map (spots_of p.lead p.other born) ends i no_ends no_spots here) in
+      let spot : l.a ≡ Agent (slice_index_or born inner.digit no_id) (suc inner.port) = first ∙ ap (spot_of p.lead p.other born) inner.child in
       let digit : HasDigit born (Child inner.digit (suc inner.port)) = subst (HasDigit born) inner.child digits.0 in
       let m = nth_child e born g.children g.are inner.digit digit in
       let once = subst (λ x. degree shape (made ++ ls) (Agent x (suc inner.port)) ≤ 1) {x = m.0.id} m.2 (child_once m.0 m.1 (suc inner.port)) in

@@ -16,6 +16,7 @@ use Rattle.ic_path.specs.Orders.{here, IsIn}
 use Rattle.ic_path.proofs.Degrees.{slim-pick}
 use Rattle.ic_path.proofs.Picks.{none_in, in_first, in_more, in-cons_cases}
 use Rattle.ic_link.specs.Links.{shape, IsLawful}
+use Rattle.ic_link.specs.Made.{no_id, spot_of, spots_of, HasDigit, HaveDigits}
 use Rattle.ic_link.proofs.Lawful.{lawful-alike, lawful-added}
 use Rattle.ic_link.proofs.MadeLinks.{its_made}
 use Rattle.ic_theory.specs.Born.{placed, port_of}
@@ -24,7 +25,7 @@ use Rattle.ic_cause.specs.Naming.{Naming, IsHeld, link_of, port_of as port_under
 use Rattle.ic_cause.proofs.OnePort.{HasSpot}
 use Rattle.ic_path.proofs.ListEnds.{last_first}
 use Rattle.ic_set.specs.declared.pairs.ActivePair.{ActivePair}
-use Rattle.ic_set.specs.Joining.{no_id, spot_of, spots_of, made_links, HasDigit, HaveDigits}
+use Rattle.ic_set.specs.Joining.{made_links}
 use Rattle.ic_name.proofs.SameFacts.{same_event_self}
 
 module _ (d : EventId) (p : ActivePair) (born : List AgentId) where
@@ -34,12 +35,12 @@ module _ (d : EventId) (p : ActivePair) (born : List AgentId) where
   lawful_made ls h others k [] thin = h
   lawful_made ls h others k (x ∷ xs) thin =
       let rest = made_links d p born (k + 1) xs ++ ls in
-      let l : Link = record { id = record { maker = maker.Event d; place = k }; a = spot_of p born x.0; b = spot_of p born x.1 } in
+      let l : Link = record { id = record { maker = maker.Event d; place = k }; a = spot_of p.lead p.other born x.0; b = spot_of p.lead p.other born x.1 } in
       let ih : IsLawful rest = lawful_made ls h others (k + 1) xs (slim-pick shape (here {x = l}) thin) in
       lawful-alike (last_first l rest) (lawful-added rest l ih (record { fresh = λ m i. fresh m (pick_part (made_links d p born (k + 1) xs) ls i.1); room = thin }))
     where
       fresh : (m : Link) → IsIn m (made_links d p born (k + 1) xs) ⊎ IsIn m ls → m.id ≢ record { maker = maker.Event d; place = k }
-      fresh m (inl i) e = let low = (its_made d (k + 1) (map (spots_of p born) xs) m i).1 in let same : m.id.place ≡ k = ap (λ y. y.place) e in omega arith
+      fresh m (inl i) e = let low = (its_made d (k + 1) (map (spots_of p.lead p.other born) xs) m i).1 in let same : m.id.place ≡ k = ap (λ y. y.place) e in omega arith
       fresh m (inr i) e =
           let same : m.id.maker ≡ maker.Event d = ap (λ y. y.maker) e in
           let its : made_by d m ≡ true = rw same (same_event_self d) in
@@ -52,13 +53,13 @@ module _ (d : EventId) (p : ActivePair) (born : List AgentId) where
       (other_held : n.has_agent p.other ≡ true) (other_is : n.agent p.other ≡ e.other)
       (child : (i : ℕ) → i < length born → (n.has_agent (slice_index_or born i no_id) ≡ true) × (n.agent (slice_index_or born i no_id) ≡ child_name e.lead i)) where
     -- an end of theirs is held
-    end_held : (x : RuleEnd) → HasDigit born x → HasSpot n (spot_of p born x)
+    end_held : (x : RuleEnd) → HasDigit born x → HasSpot n (spot_of p.lead p.other born x)
     end_held (Child i j) h = (child i h).0
     end_held (Lead j) h = lead_held
     end_held (Other j) h = other_held
 
     -- and is the port that the rule names
-    end_is : (x : RuleEnd) → HasDigit born x → port_under n (spot_of p born x) ≡ port_of e x
+    end_is : (x : RuleEnd) → HasDigit born x → port_under n (spot_of p.lead p.other born x) ≡ port_of e x
     end_is (Child i j) h = ap (λ m. port.Of m j) (child i h).1
     end_is (Lead j) h = ap (λ m. port.Of m j) lead_is
     end_is (Other j) h = ap (λ m. port.Of m j) other_is

@@ -10,8 +10,8 @@ use Rattle.ic_name.specs.declared.rules.Profile.TheVariants.{Classic, Straight}
 use Rattle.ic_name.specs.declared.rules.RuleEnd.{RuleEnd}
 use Rattle.ic_name.specs.declared.rules.RuleEnd.TheVariants.{Child, Lead, Other}
 use Rattle.ic_path.proofs.Picks.{none_in, in-cons_cases}
+use Rattle.ic_link.specs.Made.{HasDigit, HaveDigits}
 use Rattle.ic_theory.specs.Rules.{born_kinds, born_ends}
-use Rattle.ic_set.specs.Joining.{HasDigit, HaveDigits}
 
 -- whether the end is of the pair, or of one of so many children
 abbrev is_end : ℕ → RuleEnd → Bool

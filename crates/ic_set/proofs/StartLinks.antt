@@ -13,11 +13,12 @@ use Rattle.ic_name.specs.declared.ports.Port.TheVariants as port
 use Rattle.ic_path.specs.Orders.{here, IsIn}
 use Rattle.ic_path.proofs.Picks.{none_in, two_picks, in_others, in-cons_cases}
 use Rattle.ic_link.specs.Links.{HaveOwnIds}
+use Rattle.ic_link.specs.Made.{no_id}
 use Rattle.ic_theory.specs.Born.{placed}
 use Rattle.ic_start.specs.Starts.{port_at, join_of, IsStartSpot, AreStartLinks}
 use Rattle.ic_cause.specs.Naming.{Naming, IsHeld, has_maker, maker_of, link_of, port_of}
 use Rattle.ic_cause.proofs.OnePort.{HasSpot, AreHeld}
-use Rattle.ic_set.specs.Joining.{no_id, moved_spot, moved_link, HasNumber, HaveNumbers}
+use Rattle.ic_set.specs.Joining.{moved_spot, moved_link, HasNumber, HaveNumbers}
 use Rattle.ic_path.proofs.ListPlaces.{found_in}
 
 -- so the numbers of a link's spots have ids

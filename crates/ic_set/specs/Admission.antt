@@ -9,11 +9,12 @@ use Rattle.ic_name.specs.declared.rules.RuleEnd.{RuleEnd}
 use Rattle.ic_path.specs.Orders.{IsIn, Alike, IsOnce}
 use Rattle.ic_path.specs.Rings.{HasEachOnce}
 use Rattle.ic_link.specs.Links.{IsLawful}
+use Rattle.ic_link.specs.Made.{HaveDigits}
 use Rattle.ic_theory.specs.Causes.{IsCause}
 use Rattle.ic_roster.specs.Rosters.{Stander, HaveOwnLines, IsNewEvent, Stands}
 use Rattle.ic_set.specs.declared.pairs.ActivePair.{ActivePair}
 use Rattle.ic_set.specs.Views.{SetView, standing}
-use Rattle.ic_set.specs.Joining.{made_links, HaveDigits}
+use Rattle.ic_set.specs.Joining.{made_links}
 
 -- the ids are those of the standing events on the path between the event's agents, each once
 abbrev pub AreCausesOf : SetView → Event → List EventId → Type 0

@@ -6,7 +6,7 @@ ghost use Rattle.ic_name.specs.declared.limits.TheConstants.{MAX_LINES};
 ghost use Rattle.ic_name.specs.Spots.{made_by};
 ghost use Rattle.ic_path.specs.Orders.{IsIn, Alike};
 ghost use Rattle.ic_link.specs.Links.{IsLawful};
-ghost use Rattle.ic_link.specs.Made.{AreJoins};
+ghost use Rattle.ic_link.specs.Made.{AreJoins, HaveDigits};
 ghost use Rattle.ic_theory.specs.Born.{born_agents};
 ghost use Rattle.ic_theory.specs.Machine.{IsDeep};
 ghost use Rattle.ic_theory.specs.Rules.{born_kinds};
@@ -14,17 +14,16 @@ ghost use Rattle.ic_roster.specs.Rosters.{Stander, event_in, IsNamed};
 ghost use Rattle.ic_set.specs.Admission.{AreCausesOf, IsRankOver, CanPutIn, PutsIn, LeavesAll};
 ghost use Rattle.ic_set.specs.Changes.{Admits, IsSame};
 ghost use Rattle.ic_set.specs.Entering.{CanEnter, Enters, GrowsBy};
-ghost use Rattle.ic_set.specs.Joining.{made_links, HaveDigits};
+ghost use Rattle.ic_set.specs.Joining.{made_links};
 ghost use Rattle.ic_set.specs.Pairs.{IsPairOf, IsActivePair, Awakes};
 ghost use Rattle.ic_set.specs.Removal.{Stands, LosesEach};
 
 use crate::bare::BareSet;
 use crate::entering::{enter_children, remove_all};
 use crate::firing::Firing;
-use crate::joining::{MAX_LINKS, NO_SPOT, write_spots};
 use crate::pairs::ActivePair;
 use ic_cause::{direct_causes, rank_with};
-use ic_link::{LinkStore, MAX_JOINS, Principals};
+use ic_link::{LinkStore, MAX_JOINS, Principals, RuleLinks};
 use ic_name::{AgentId, EventId, Kind};
 use ic_roster::{Interaction, NewEvent, Roster};
 use ic_start::outcome;
@@ -210,7 +209,12 @@ fn put_links<L: LinkStore>(
         *joins = [None; MAX_JOINS];
         return Ok(());
     }
-    let mut spots = [(NO_SPOT, NO_SPOT); MAX_LINKS];
-    write_spots(firing, &mut spots);
-    store.put_made(event, &spots[..firing.ends.len()], joins)
+    let made = RuleLinks {
+        event,
+        lead: firing.pair.lead,
+        other: firing.pair.other,
+        born: firing.born,
+        ends: firing.ends,
+    };
+    store.put_made(&made, joins)
 }

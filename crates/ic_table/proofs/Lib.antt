@@ -64,3 +64,4 @@ pub mod GivenRooms
 pub mod JoinedMade
 pub mod MadeAtOnce
 pub mod RunWalks
+mod MadeRooms

@@ -4,11 +4,14 @@ use Rattle.ic_path.proofs.Alikes.{alike_back, alike_then, alike_more, alike_past
 use Rattle.ic_path.proofs.InLists.{filter_cases}
 use Rattle.ic_path.proofs.Picks.{in-cons_cases, none_in}
 use Rattle.ic_name.specs.Spots.{made_by, is_maker}
+use Rattle.ic_name.specs.declared.ids.AgentId.{AgentId}
 use Rattle.ic_name.specs.declared.ids.EventId.{EventId}
 use Rattle.ic_name.specs.declared.ids.Link.{Link}
 use Rattle.ic_name.specs.declared.ids.LinkId.{LinkId}
+use Rattle.ic_name.specs.declared.rules.RuleEnd.{RuleEnd}
 use Rattle.ic_name.proofs.SameFacts.{same_event_self}
 use Rattle.ic_link.specs.Links.{Drops, IsLawful, event_link}
+use Rattle.ic_link.specs.Made.{HasDigit, HaveDigits}
 use Rattle.ic_link.proofs.Lawful.{lawful-alike}
 use Rattle.ic_link.proofs.TakenBack.{links_taken_back}
 use Rattle.ic_test_text.proofs.made.put_two.Goals as goal
@@ -67,9 +70,25 @@ again e one other old was first mid left a b drops in_one in_both back lawful =
     let same : Alike was left = links_taken_back e (other ∷ one ∷ []) was mid left (λ l i. its_both e one other l a b i) (none_left e old was drops) both back in
     lawful-alike (alike_back (alike_then (alike_more (one ∷ other ∷ []) (alike_back same)) (alike_then (alike_past (one ∷ []) (other ∷ []) was) both))) lawful
 
+-- Each end of the two links is one of a child that is there, or of the two agents.
+both_have : (born : List AgentId) (first second : RuleEnd × RuleEnd) → HasDigit born first.0 → HasDigit born first.1 → HasDigit born second.0 → HasDigit born second.1 → HaveDigits born (first ∷ second ∷ [])
+both_have born first second a b d e x i = elim (in-cons_cases i) [
+  | inl q ↦ rw q (a, b)
+  | inr j ↦ (elim (in-cons_cases j) [
+    | inl q ↦ rw q (d, e)
+    | inr k ↦ absurd (none_in k)
+  ])
+]
+
+pub put_made-requires-clause-digits : goal.put_made-requires-clause-digits
+put_made-requires-clause-digits g c =
+    let one = c.have_digits.ensures c.if-not-have_digits.false in
+    let other = c.have_digits-2.ensures c.if-not-have_digits-2.false in
+    both_have (c.agent.result ∷ c.agent-2.result ∷ []) c.args.first c.args.second one.0 one.1 other.0 other.1
+
 pub put_made-requires-clause-lawful : goal.put_made-requires-clause-lawful
 put_made-requires-clause-lawful g c =
     let ls = g.L.LinkStore.links in
     let all = again c.args.event c.link-one.result c.link-other.result _ _ _ _ _ (ap (λ (l : Link). l.id) c.link-one.ensures) (ap (λ (l : Link). l.id) c.link-other.ensures) c.take_of.ensures c.in_ok-add.ensures.ok c.in_ok-add-2.ensures.ok c.take_of-2.ensures
     (record { slim = c.lawful.ensures.slim; own_ids = c.lawful.ensures.own_ids }) in
-    rw (c.link-one.ensures, c.link-other.ensures) at all
+    rw (c.link-one.ensures, c.link-other.ensures, c.spot.ensures, c.spot-2.ensures, c.spot-3.ensures, c.spot-4.ensures) at all
