@@ -1,12 +1,13 @@
 -- Anchors and blocks of names, and those of their children.
-use Rattle.std.proofs.Common.{◌≡◌, ◌≢◌, ℕ, suc, ◌+◌, ◌*◌, ◌%◌, ◌^◌, ◌<◌, ◌≤◌, List, [], ◌∷◌, ◌++◌, length, take, drop, get_or, sym, ◌∙◌, ap, arith, length-append, mul_assoc}
+use Rattle.std.proofs.Common.{◌≡◌, ◌≢◌, ℕ, suc, ◌+◌, ◌*◌, ◌%◌, ◌^◌, ◌<◌, ◌≤◌, List, [], ◌∷◌, ◌++◌, length, take, drop, get_or, sym, ◌∙◌, ap, arith, length-append, mul_assoc, ◌⊎◌, inl, inr}
 use Rattle.std.specs.Prelude.{All}
+use Rattle.std.proofs.lemmas.Bool.{cases_eq}
 use Rattle.std.proofs.Math.Nat.{pow-suc, pow-le-pow_right}
 use Rattle.std.proofs.lemmas.List.{length-drop, length-take-le, drop-append-le, drop_at, take_more}
 use Rattle.std.proofs.lemmas.List.Elements.{All-drop, All-take}
 use Rattle.ic_name.specs.Names.{Name, depth, start_name, child_name}
 use Rattle.ic_names.specs.Keys.{IsProper, front_of}
-use Rattle.ic_names.specs.Blocks.{anchor_depth, anchor_of, number_of, block_of}
+use Rattle.ic_names.specs.Blocks.{anchor_depth, anchor_of, number_of, block_of, last_of}
 use Rattle.ic_names.proofs.Fronts.{front_below, front-nil}
 
 -- a number of digits with one more behind them
@@ -50,6 +51,14 @@ block-child_behind n d behind =
     let more : drop (anchor_depth (child_name n d)) (n.digits ++ d ∷ []) ≡ drop (anchor_depth n) n.digits ++ d ∷ [] =
     ap (λ k. drop k (n.digits ++ d ∷ [])) (behind_anchor n d behind) ∙ drop-append-le (anchor_depth n) n.digits (d ∷ []) (anchor_within n) in
     sym (number-push (drop (anchor_depth n) n.digits) d) ∙ ap number_of (sym more)
+
+-- the last digit of a child's block is its digit
+pub block-child_last : (n : Name) (d : ℕ) → d < 4 → last_of (block_of (child_name n d)) ≡ d
+block-child_last n d small = by (cases_eq (depth n % 32) 0)
+  where
+    by : (depth n % 32 ≡ 0) ⊎ (depth n % 32 ≢ 0) → last_of (block_of (child_name n d)) ≡ d
+    by (inl at) = omega (arith, block-child_at n d at, small)
+    by (inr behind) = omega (arith, block-child_behind n d behind, small)
 
 -- fewer than 32 digits leave room for one more
 number_below : (ds : List ℕ) → All (λ d. d < 4) ds → length ds ≤ 31 → number_of ds < 4 ^ 31

@@ -8,12 +8,12 @@ use Rattle.ic_names.specs.declared.entry.Entry.{Entry}
 use Rattle.ic_names.specs.Keys.{key_of}
 use Rattle.ic_names.specs.Blocks.{anchor_of, block_of}
 use Rattle.ic_names.specs.Tables.{name_at, StandsAt, IsAbsent, IsPlaceOf}
-use Rattle.ic_names.specs.Rows.{AreRows, name_from, IsBefore, entry_at, child_at, start_at}
+use Rattle.ic_names.specs.Rows.{AreRows, name_from, origin_of, IsBefore, entry_at, child_at, start_at}
 use Rattle.ic_names.proofs.Grown.{child_not_start, child_not_self, child_same, name_at-old, name_at-new, stands_old, absent_still, Turns, place_grows, table_grows, from_still}
 
 -- an entry says what it said, but for the places of children
 pub record IsSameEntry (e f : Entry) : Type 0 where
-  pub origin : e.origin ≡ f.origin
+  pub origin : origin_of e ≡ origin_of f
   pub key : e.key.0 ≡ f.key.0
   pub block : e.block.0 ≡ f.block.0
   pub anchor : e.anchor ≡ f.anchor
@@ -23,8 +23,8 @@ pub record IsSameEntry (e f : Entry) : Type 0 where
 pub record Grows (ns : List Name) (es es' : List Entry) (ss ss' : List (Option ℕ)) (n : Name) : Type 0 where
   pub longer : length es' ≡ length es + 1
   pub old : (k : ℕ) → k < length es → IsSameEntry (entry_at es' k) (entry_at es k)
-  pub from : name_from ns (entry_at es' (length es)).origin ≡ n
-  pub before : IsBefore (length es) (entry_at es' (length es)).origin
+  pub from : name_from ns (origin_of (entry_at es' (length es))) ≡ n
+  pub before : IsBefore (length es) (origin_of (entry_at es' (length es)))
   pub key : (entry_at es' (length es)).key.0 ≡ key_of n
   pub block : (entry_at es' (length es)).block.0 ≡ block_of n
   pub anchor : StandsAt (ns ++ n ∷ []) (anchor_of n) (entry_at es' (length es)).anchor
@@ -45,7 +45,7 @@ no_children {ns} {es} {ss} n d rows same absent = absent_still ns n (child_name 
     before : IsAbsent ns (child_name n d)
     before k within named =
         let inside : k < length es = omega arith in
-        let parent = parent_there ns (entry_at es k).origin k d n (rows.parents k inside) (sym (rows.named k inside) ∙ named) in
+        let parent = parent_there ns (origin_of (entry_at es k)) k d n (rows.parents k inside) (sym (rows.named k inside) ∙ named) in
         absent parent.0 (omega (arith, parent.1)) parent.2
 
 pub rows_grow : (ns : List Name) (es es' : List Entry) (ss ss' : List (Option ℕ)) (n : Name) → AreRows ns es ss → length ns ≡ length es → IsName n → IsAbsent ns n → length ns + 1 < 2 ^ 32 → Grows ns es es' ss ss' n → AreRows (ns ++ n ∷ []) es' ss'
@@ -63,7 +63,7 @@ rows_grow ns es es' ss ss' n rows same is absent few grows = record {
   where
     there : (m : Name) (d : ℕ) → n ≡ child_name m d → (p : ℕ) × (p < length ns) × (name_at ns p ≡ m)
     there m d e =
-        let parent = parent_there ns (entry_at es' (length es)).origin (length es) d m grows.before (grows.from ∙ e) in
+        let parent = parent_there ns (origin_of (entry_at es' (length es))) (length es) d m grows.before (grows.from ∙ e) in
         (parent.0, omega (arith, parent.1), parent.2)
 
     split : (k : ℕ) → k < length es' → (k < length es) ⊎ (k ≡ length es)
@@ -73,22 +73,22 @@ rows_grow ns es es' ss ss' n rows same is absent few grows = record {
         by (inl low) = inl low
         by (inr high) = inr (omega (arith, grows.longer))
 
-    named : (k : ℕ) → k < length es' → name_at (ns ++ n ∷ []) k ≡ name_from (ns ++ n ∷ []) (entry_at es' k).origin
+    named : (k : ℕ) → k < length es' → name_at (ns ++ n ∷ []) k ≡ name_from (ns ++ n ∷ []) (origin_of (entry_at es' k))
     named k h = by (split k h)
       where
-        by : (k < length es) ⊎ (k ≡ length es) → name_at (ns ++ n ∷ []) k ≡ name_from (ns ++ n ∷ []) (entry_at es' k).origin
+        by : (k < length es) ⊎ (k ≡ length es) → name_at (ns ++ n ∷ []) k ≡ name_from (ns ++ n ∷ []) (origin_of (entry_at es' k))
         by (inl low) =
             let origin = (grows.old k low).origin in
-            name_at-old ns n k (omega arith) ∙ rows.named k low ∙ sym (from_still ns n (entry_at es k).origin k (rows.parents k low) (omega arith)) ∙ ap (λ o. name_from (ns ++ n ∷ []) o) (sym origin)
-        by (inr e) = subst (λ j. name_at (ns ++ n ∷ []) j ≡ name_from (ns ++ n ∷ []) (entry_at es' j).origin) (sym e)
-            (name_at-new ns n (length es) same ∙ sym grows.from ∙ sym (from_still ns n (entry_at es' (length es)).origin (length es) grows.before (omega arith)))
+            name_at-old ns n k (omega arith) ∙ rows.named k low ∙ sym (from_still ns n (origin_of (entry_at es k)) k (rows.parents k low) (omega arith)) ∙ ap (λ o. name_from (ns ++ n ∷ []) o) (sym origin)
+        by (inr e) = subst (λ j. name_at (ns ++ n ∷ []) j ≡ name_from (ns ++ n ∷ []) (origin_of (entry_at es' j))) (sym e)
+            (name_at-new ns n (length es) same ∙ sym grows.from ∙ sym (from_still ns n (origin_of (entry_at es' (length es))) (length es) grows.before (omega arith)))
 
-    parents : (k : ℕ) → k < length es' → IsBefore k (entry_at es' k).origin
+    parents : (k : ℕ) → k < length es' → IsBefore k (origin_of (entry_at es' k))
     parents k h = by (split k h)
       where
-        by : (k < length es) ⊎ (k ≡ length es) → IsBefore k (entry_at es' k).origin
+        by : (k < length es) ⊎ (k ≡ length es) → IsBefore k (origin_of (entry_at es' k))
         by (inl low) = subst (λ o. IsBefore k o) (sym (grows.old k low).origin) (rows.parents k low)
-        by (inr e) = subst (λ j. IsBefore j (entry_at es' j).origin) (sym e) grows.before
+        by (inr e) = subst (λ j. IsBefore j (origin_of (entry_at es' j))) (sym e) grows.before
 
     keys : (k : ℕ) → k < length es' → (entry_at es' k).key.0 ≡ key_of (name_at (ns ++ n ∷ []) k)
     keys k h = by (split k h)

@@ -6,6 +6,7 @@ pub mod WrittenDigits
 pub mod PlaceNames
 pub mod RowNames
 pub mod RowReads
+pub mod Origins
 pub mod Grown
 pub mod GrownRows
 pub mod PutRows

@@ -3,7 +3,7 @@ use Rattle.std.proofs.Common.{◌≡◌, ℕ, ◌+◌, ◌-◌, ◌*◌, ◌/◌
 use Rattle.std.specs.List.{refill}
 use Rattle.std.proofs.Math.ListN.{get_or}
 use Rattle.std.proofs.Math.Seq.{take-append_seam}
-use Rattle.std.proofs.lemmas.List.{take_more, take_all, take-append-drop, append_assoc, drop_more, drop_all, drop-set, get_or-drop, length-drop}
+use Rattle.std.proofs.lemmas.List.{take_more, take_all, take_at, take-append-drop, append_assoc, drop_more, drop_all, drop-set, get_or-drop, length-drop}
 use Rattle.std.proofs.lemmas.List.Elements.{All-get_or}
 use Rattle.ic_name.specs.Names.{Name, depth}
 use Rattle.ic_names.specs.Keys.{IsProper}
@@ -62,3 +62,15 @@ joined_digits n k digits rest are =
 -- a list that is filled anew with one as long
 pub refilled : (old new : List ℕ) → length new ≡ length old → refill (length old) old new ≡ new
 refilled old new same = ap (λ k. take k (new ++ drop (length new) old)) (sym same) ∙ take-append_seam new (drop (length new) old)
+
+-- a name of at most 32 digits has the digits that were put, and one without digits has none
+pub short_digits : (n : Name) (first deep : ℕ) (digits old : List ℕ) → depth n ≤ 32 → deep ≡ depth n → first ≡ anchor_depth n → drop first digits ≡ drop first n.digits ++ drop deep old → take deep digits ≡ n.digits
+short_digits n first deep digits old short is anchor put =
+    let none : first ≡ 0 = omega (arith, short, anchor) in
+    let all : digits ≡ n.digits ++ drop deep old = ap (λ k. drop k digits) (sym none) ∙ put ∙ ap (λ k. drop k n.digits ++ drop deep old) none in
+    ap (λ ds. take deep ds) all ∙ take_at n.digits (drop deep old) deep (sym is)
+
+pub no_digits : (n : Name) (deep : ℕ) (digits : List ℕ) → deep ≡ depth n → deep ≤ 0 → take deep digits ≡ n.digits
+no_digits n deep digits is none =
+    let zero_deep : deep ≡ 0 = omega (arith, none) in
+    ap (λ k. take k digits) zero_deep ∙ ap (λ k. take k n.digits) (sym zero_deep) ∙ take_all deep n.digits (omega (arith, is))

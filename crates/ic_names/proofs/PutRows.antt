@@ -13,22 +13,22 @@ use Rattle.ic_names.specs.declared.block.Block.{Block}
 use Rattle.ic_names.specs.Keys.{key_of}
 use Rattle.ic_names.specs.Blocks.{anchor_of, block_of}
 use Rattle.ic_names.specs.Tables.{name_at, StandsAt, IsAbsent}
-use Rattle.ic_names.specs.Rows.{AreRows, name_from, IsBefore, entry_at, child_at, start_at, names_of}
+use Rattle.ic_names.specs.Rows.{AreRows, name_from, origin_of, IsBefore, entry_at, child_at, start_at, names_of}
 use Rattle.ic_names.proofs.RowNames.{names_of-length, names_of-push, names_of-set}
 use Rattle.ic_names.proofs.Grown.{stands_new, child_not_start, child_same, Turns, placed, kept}
 use Rattle.ic_names.proofs.GrownRows.{IsSameEntry, Grows, rows_grow}
 
 -- the entry of a new name of this origin, to stand behind these names
 pub record IsNewEntry (ns : List Name) (e : Entry) (o : Origin) (n : Name) : Type 0 where
-  pub origin : e.origin ≡ o
+  pub origin : origin_of e ≡ o
   pub key : e.key.0 ≡ key_of n
   pub block : e.block.0 ≡ block_of n
   pub anchor : StandsAt (ns ++ n ∷ []) (anchor_of n) e.anchor
   pub children : e.children ≡ None ∷ None ∷ None ∷ None ∷ []
 
-pub new_entry : {ns : List Name} (e : Entry) (k : NameKey) (b : Block) (a : ℕ) (o : Origin) (n : Name) → e ≡ record { key = k; block = b; children = None ∷ None ∷ None ∷ None ∷ []; anchor = a; origin = o } → k.0 ≡ key_of n → b.0 ≡ block_of n → StandsAt (ns ++ n ∷ []) (anchor_of n) a → IsNewEntry ns e o n
-new_entry {ns} e k b a o n is key block anchor = record {
-  origin = ap (λ x. x.origin) is;
+pub new_entry : {ns : List Name} (e : Entry) (k : NameKey) (b : Block) (a p : ℕ) (o : Origin) (n : Name) → e ≡ record { key = k; block = b; children = None ∷ None ∷ None ∷ None ∷ []; anchor = a; parent = p } → k.0 ≡ key_of n → b.0 ≡ block_of n → StandsAt (ns ++ n ∷ []) (anchor_of n) a → origin_of e ≡ o → IsNewEntry ns e o n
+new_entry {ns} e k b a p o n is key block anchor origin = record {
+  origin = origin;
   key = ap (λ x. x.key.0) is ∙ key;
   block = ap (λ x. x.block.0) is ∙ block;
   anchor = subst (λ x. StandsAt (ns ++ n ∷ []) (anchor_of n) x) (sym (ap (λ x. x.anchor) is)) anchor;
@@ -50,7 +50,7 @@ none_of_four (suc (suc (suc (suc d)))) = refl
 -- one entry says the same twice
 same_entry : (e f : Entry) → e ≡ f → IsSameEntry e f
 same_entry e f h = record {
-  origin = ap (λ x. x.origin) h;
+  origin = ap origin_of h;
   key = ap (λ x. x.key.0) h;
   block = ap (λ x. x.block.0) h;
   anchor = ap (λ x. x.anchor) h;
@@ -69,8 +69,8 @@ start_grows : {ns : List Name} (es : List Entry) (ss : List (Option ℕ)) (numbe
 start_grows {ns} es ss number i o e new inside same place = record {
   longer = omega (arith, length-append es (e ∷ []));
   old = λ k h. same_entry _ _ (entry_at-old es e k h);
-  from = ap (λ f. name_from ns f.origin) (entry_at-new es e) ∙ ap (λ g. name_from ns g) new.origin;
-  before = subst (λ g. IsBefore (length es) g) (sym (ap (λ f. f.origin) (entry_at-new es e) ∙ new.origin)) tt;
+  from = ap (λ f. name_from ns (origin_of f)) (entry_at-new es e) ∙ ap (λ g. name_from ns g) new.origin;
+  before = subst (λ g. IsBefore (length es) g) (sym (ap origin_of (entry_at-new es e) ∙ new.origin)) tt;
   key = ap (λ f. f.key.0) (entry_at-new es e) ∙ new.key;
   block = ap (λ f. f.block.0) (entry_at-new es e) ∙ new.block;
   anchor = rw (entry_at-new es e) new.anchor;
@@ -88,7 +88,7 @@ start_grows {ns} es ss number i o e new inside same place = record {
         by (inr ne) = kept (λ h. ne (ap (λ m. m.start) h)) (get_or-set_other ss i k o None (λ h. ne (h ∙ same)))
 
 -- the name of a start agent behind the others
-pub put_start_names : (es ls : List Entry) (number : ℕ) (e : Entry) → ls ≡ es ++ e ∷ [] → e.origin ≡ Start number → names_of ls ≡ names_of es ++ start_name number ∷ []
+pub put_start_names : (es ls : List Entry) (number : ℕ) (e : Entry) → ls ≡ es ++ e ∷ [] → origin_of e ≡ Start number → names_of ls ≡ names_of es ++ start_name number ∷ []
 put_start_names es ls number e pushed origin = ap (λ l. names_of l) pushed ∙ names_of-push es e ∙ ap (λ g. names_of es ++ name_from (names_of es) g ∷ []) origin
 
 pub start_proper : (k : ℕ) → k < MAX_START_AGENTS → IsName (start_name k)
@@ -102,15 +102,15 @@ put_start_rows es ls ss number i o e rows pushed new proper absent few inside sa
 
 -- the entry of the parent after the child has been put behind the others
 pub record IsParentEntry (f q : Entry) (d k : ℕ) : Type 0 where
-  pub origin : f.origin ≡ q.origin
+  pub origin : origin_of f ≡ origin_of q
   pub key : f.key.0 ≡ q.key.0
   pub block : f.block.0 ≡ q.block.0
   pub anchor : f.anchor ≡ q.anchor
   pub children : f.children ≡ set q.children d (Some k)
 
-pub parent_written : (q r : Entry) (i d k : ℕ) (o : Option ℕ) → q ≡ r → i ≡ d → o ≡ Some k → IsParentEntry (record { key = q.key; block = q.block; children = set q.children i o; anchor = q.anchor; origin = q.origin }) r d k
+pub parent_written : (q r : Entry) (i d k : ℕ) (o : Option ℕ) → q ≡ r → i ≡ d → o ≡ Some k → IsParentEntry (record { key = q.key; block = q.block; children = set q.children i o; anchor = q.anchor; parent = q.parent }) r d k
 parent_written q r i d k o same at is = record {
-  origin = ap (λ x. x.origin) same;
+  origin = ap origin_of same;
   key = ap (λ x. x.key.0) same;
   block = ap (λ x. x.block.0) same;
   anchor = ap (λ x. x.anchor) same;
@@ -127,8 +127,8 @@ child_grows : {ns : List Name} (es : List Entry) (ss : List (Option ℕ)) (p d :
 child_grows {ns} es ss p d e f rows all inside small new parent = record {
   longer = length-set (es ++ e ∷ []) p f ∙ longer;
   old = old;
-  from = ap (λ g. name_from ns g) (ap (λ x. x.origin) behind ∙ new.origin);
-  before = subst (λ g. IsBefore (length es) g) (sym (ap (λ x. x.origin) behind ∙ new.origin)) (inside, small);
+  from = ap (λ g. name_from ns g) (ap origin_of behind ∙ new.origin);
+  before = subst (λ g. IsBefore (length es) g) (sym (ap origin_of behind ∙ new.origin)) (inside, small);
   key = ap (λ x. x.key.0) behind ∙ new.key;
   block = ap (λ x. x.block.0) behind ∙ new.block;
   anchor = rw behind new.anchor;
@@ -155,7 +155,7 @@ child_grows {ns} es ss p d e f rows all inside small new parent = record {
       where
         by : (k ≡ p) ⊎ (k ≡ p → ⊥) → IsSameEntry (entry_at (set (es ++ e ∷ []) p f) k) (entry_at es k)
         by (inl at) = subst (λ j. IsSameEntry (entry_at (set (es ++ e ∷ []) p f) j) (entry_at es j)) (sym at) (record {
-          origin = ap (λ x. x.origin) here ∙ parent.origin;
+          origin = ap origin_of here ∙ parent.origin;
           key = ap (λ x. x.key.0) here ∙ parent.key;
           block = ap (λ x. x.block.0) here ∙ parent.block;
           anchor = ap (λ x. x.anchor) here ∙ parent.anchor;
@@ -181,10 +181,10 @@ child_grows {ns} es ss p d e f rows all inside small new parent = record {
         by (inr ne) digit = kept (λ same. ne (parents same).0) (ap (λ x. get_or x.children c None) (there k h ne))
 
 -- the name of a child behind the others
-pub put_child_names : (es ls : List Entry) (p d : ℕ) (e f : Entry) → ls ≡ es ++ e ∷ [] → p < length es → e.origin ≡ Child d p → f.origin ≡ (entry_at es p).origin → names_of (set ls p f) ≡ names_of es ++ child_name (name_at (names_of es) p) d ∷ []
+pub put_child_names : (es ls : List Entry) (p d : ℕ) (e f : Entry) → ls ≡ es ++ e ∷ [] → p < length es → origin_of e ≡ Child d p → origin_of f ≡ origin_of (entry_at es p) → names_of (set ls p f) ≡ names_of es ++ child_name (name_at (names_of es) p) d ∷ []
 put_child_names es ls p d e f pushed inside origin parent =
     ap (λ l. names_of (set l p f)) pushed
-    ∙ names_of-set (es ++ e ∷ []) p f (parent ∙ ap (λ x. x.origin) (sym (entry_at-old es e p inside)))
+    ∙ names_of-set (es ++ e ∷ []) p f (parent ∙ ap origin_of (sym (entry_at-old es e p inside)))
     ∙ names_of-push es e ∙ ap (λ g. names_of es ++ name_from (names_of es) g ∷ []) origin
 
 pub child_proper : (n : Name) (d : ℕ) → IsName n → d < 4 → depth n < MAX_DEPTH → IsName (child_name n d)

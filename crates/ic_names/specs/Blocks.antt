@@ -1,5 +1,5 @@
 -- Blocks of digits: those of a name behind an ancestor that stands for the digits before them.
-use Rattle.std.specs.Prelude.{ℕ, ◌-◌, ◌*◌, ◌/◌, List, length, take, drop}
+use Rattle.std.specs.Prelude.{ℕ, ◌-◌, ◌*◌, ◌/◌, ◌%◌, List, length, take, drop}
 use Rattle.ic_name.specs.Names.{Name, depth}
 use Rattle.ic_names.specs.Keys.{front_of}
 
@@ -18,3 +18,7 @@ number_of ds = front_of (length ds) ds
 -- the digits of a name behind its anchor, in one number
 abbrev pub block_of : Name → ℕ
 block_of n = number_of (drop (anchor_depth n) n.digits)
+
+-- the last of the digits in such a number
+abbrev pub last_of : ℕ → ℕ
+last_of b = b % 4

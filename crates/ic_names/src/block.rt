@@ -2,7 +2,7 @@ ghost use Rattle.std.specs.Prelude.{◌≡◌, ◌*◌, ◌<◌, ◌≤◌, ◌+
 ghost use Rattle.ic_name.specs.Names.{Name, depth as depth_of, start_name, child_name};
 ghost use Rattle.ic_name.specs.NameTexts.{digits_text};
 ghost use Rattle.ic_names.specs.Keys.{IsProper};
-ghost use Rattle.ic_names.specs.Blocks.{anchor_depth, number_of, block_of};
+ghost use Rattle.ic_names.specs.Blocks.{anchor_depth, number_of, block_of, last_of};
 ghost use Rattle.ic_names.specs.DigitTexts.{HasDots};
 
 /// The number of digits in a block, at most: so many fit in 64 bits. At each multiple of it there is an anchor.
@@ -39,6 +39,14 @@ impl Block {
             return Block(u64::from(digit));
         }
         Block(4 * self.0 + u64::from(digit))
+    }
+
+    /// The last digit of a name of this block, if it has digits: that of a child among the children of its parent.
+    pub fn last_digit(self) -> u8
+        ensures number { result ≡ last_of self.0 }
+        ensures child { (n : Name) (d : ℕ) → d < 4 → self.0 ≡ block_of (child_name n d) → result ≡ d }
+    {
+        (self.0 % 4) as u8
     }
 
     /// The block of these digits.

@@ -1,4 +1,4 @@
-ghost use Rattle.std.specs.Prelude.{◌≡◌, ◌+◌, ◌*◌, ◌<◌, ◌≤◌, ◌↔◌, ◌^◌, ◌++◌, ◌∷◌, [], ℕ, length, Some, None, IsTrue, IfOk, OnOk, OnErr};
+ghost use Rattle.std.specs.Prelude.{◌≡◌, ◌+◌, ◌*◌, ◌<◌, ◌≤◌, ◌↔◌, ◌^◌, ◌++◌, ◌∷◌, [], ℕ, length, All, Some, None, IsTrue, IfOk, OnOk, OnErr};
 ghost use Rattle.std.specs.Ordering.{nat_cmp};
 ghost use Rattle.std.specs.Cmp.Lexicographic.{slice_cmp};
 ghost use Rattle.ic_name.specs.Names.{depth as depth_of, start_name, child_name};
@@ -84,6 +84,35 @@ impl Rows {
         self.entries[place as usize].children[usize::from(digit)].get()
     }
 
+    /// Where the name of this start number and these digits stands, in time in proportion to the number of digits.
+    pub fn place_of(&self, start: u16, digits: &[u8]) -> Option<u32>
+        requires { All (λ d. d < 4) digits.now }
+        ensures { IsPlaceOf self.now.names (record { start = start; digits = digits.now }) result }
+    {
+        self.lawful();
+        let mut place = self.start(start)?;
+        for digit in digits {
+            place = self.child(place, *digit)?;
+        }
+        Some(place)
+    }
+
+    /// Where the name at a place of other rows stands here, in time in proportion to its depth. It has at most 32 digits.
+    pub fn place_from(&self, others: &Rows, place: u32) -> Option<u32>
+        requires inside { place < length others.now.names }
+        requires short { depth_of (name_at others.now.names place) ≤ 32 }
+        ensures { IsPlaceOf self.now.names (name_at others.now.names place) result }
+    {
+        others.lawful();
+        let key = others.key(place);
+        let depth = key.depth() as usize;
+        let mut digits = [0; BLOCK as usize];
+        if depth > 0 {
+            others.block(place).put_digits(&mut digits, depth);
+        }
+        self.place_of(key.start_number(), &digits[..depth])
+    }
+
     /// The key of the name at a place.
     pub fn key(&self, place: u32) -> NameKey
         requires { place < length self.now.names }
@@ -98,7 +127,14 @@ impl Rows {
         ensures named { name_at self.now.names place ≡ name_from self.now.names result }
         ensures before { IsBefore place result }
     {
-        self.entries[place as usize].origin
+        let entry = &self.entries[place as usize];
+        if entry.key.depth() == 0 {
+            return Origin::Start(entry.key.start_number());
+        }
+        Origin::Child {
+            digit: entry.block.last_digit(),
+            parent: entry.parent,
+        }
     }
 
     /// Where the anchor of the name at a place stands.
@@ -167,7 +203,8 @@ impl Rows {
         name.lawful();
         self.lawful();
         let digits = name.digits();
-        if self.key(place).depth() as usize != digits.len() {
+        let key = self.key(place);
+        if key.depth() as usize != digits.len() {
             return false;
         }
         let mut at = place;
@@ -180,10 +217,7 @@ impl Rows {
             at = self.anchor(at);
             behind = first;
         }
-        let Origin::Start(number) = self.origin(at) else {
-            unreachable!()
-        };
-        number == name.start_number()
+        key.start_number() == name.start_number()
     }
 
     /// Makes room for so many further names. It is an error where memory runs out, or where there would be more names
@@ -227,7 +261,7 @@ impl Rows {
     {
         let place = self.entries.len() as u32;
         let key = NameKey::start(number);
-        let entry = Entry::new(key, Block::start(), place, Origin::Start(number));
+        let entry = Entry::new(key, Block::start(), place, place);
         let Ok(_) = self.entries.push(entry) else {
             unreachable!()
         };
@@ -251,7 +285,7 @@ impl Rows {
         let key = self.entries[parent as usize].key.child(digit);
         let block = self.child_block(parent, digit);
         let anchor = self.child_anchor(parent);
-        let entry = Entry::new(key, block, anchor, Origin::Child { digit, parent });
+        let entry = Entry::new(key, block, anchor, parent);
         let Ok(_) = self.entries.push(entry) else {
             unreachable!()
         };
@@ -317,17 +351,15 @@ impl Rows {
         ensures { IfOk result (λ name. name ≡ name_at self.now.names place) }
     {
         self.lawful();
-        let mut behind = self.key(place).depth() as usize;
+        let key = self.key(place);
+        let mut behind = key.depth() as usize;
         let mut digits = SmallVec::from_elem(self.alloc(), 0, behind)?;
         let mut at = place;
         while behind > 0 {
             behind = self.block(at).put_digits(&mut digits, behind);
             at = self.anchor(at);
         }
-        let Origin::Start(number) = self.origin(at) else {
-            unreachable!()
-        };
-        Ok(AgentName::of_digits(number, digits))
+        Ok(AgentName::of_digits(key.start_number(), digits))
     }
 
     /// Writes the digits of the name at a place into a text of dots, each after its dot, the last one first.

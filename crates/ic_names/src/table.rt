@@ -4,6 +4,7 @@ ghost use Rattle.ic_name.specs.NameTexts.{name_text};
 ghost use Rattle.ic_names.specs.Keys.{key_of};
 ghost use Rattle.ic_names.specs.Tables.{name_at, StandsAt, IsAbsent, IsTable, Enters, GrowsUpTo};
 
+use crate::block::BLOCK;
 use crate::key::NameKey;
 use crate::known::KnownNames;
 use crate::rows::Rows;
@@ -23,7 +24,7 @@ pub struct NameId {
 
 /// Names of agents, each under its place: a list that only grows, in which each name stands once.
 ///
-/// A name is kept as a link to its parent and takes 48 bytes, however many digits it has. So it can be found, compared
+/// A name is kept as a link to its parent and takes 40 bytes, however many digits it has. So it can be found, compared
 /// and extended without a copy of its digits.
 #[derive(Drop)]
 pub struct NameTable {
@@ -145,13 +146,25 @@ impl NameTable {
         ensures absent { IfNone result (IsAbsent self.now name.now) }
     {
         name.lawful();
-        self.rows.lawful();
-        let mut place = self.rows.start(name.start_number())?;
-        let digits = name.digits();
-        for digit in digits {
-            place = self.rows.child(place, *digit)?;
-        }
+        let place = self.rows.place_of(name.start_number(), name.digits())?;
         Some(NameId { place })
+    }
+
+    /// The place of the name that stands at a place of another table, in time in proportion to its depth; `None` if it isn't in
+    /// this one. It takes memory only for a name of more than 32 digits, and at an error there was none.
+    pub fn find_from(&self, others: &NameTable, id: NameId) -> Result<Option<NameId>, AllocError>
+        requires { id.place < length others.now }
+        ensures found { IfOk result (λ here. IfSome here (λ h. StandsAt self.now (name_at others.now id.place) h.place)) }
+        ensures absent { IfOk result (λ here. IfNone here (IsAbsent self.now (name_at others.now id.place))) }
+    {
+        if others.depth(id) as u64 > BLOCK {
+            let Some(name) = others.name(id)? else {
+                unreachable!()
+            };
+            return Ok(self.find(&name));
+        }
+        let place = self.rows.place_from(&others.rows, id.place);
+        Ok(place.map(|place| NameId { place }))
     }
 
     /// Whether the place is one of the table and its name is this one. It takes constant time if their depths differ. Else it

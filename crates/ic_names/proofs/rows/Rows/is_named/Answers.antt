@@ -22,6 +22,7 @@ loop-behind-preserved c =
     let same = anchors_same m n (name_at ns c.anchor-at.result) k first (place_proper ns c.lawful-2.ensures c.loop-behind.at) (name_proper n c.lawful.ensures) here.behind here.high refl block up.named in
     record {
       inside = up.within;
+      start = ap (λ a. a.start) up.named ∙ here.start;
       behind = omega (arith, here.behind, anchor_deep m, ap (λ a. depth a) up.named);
       high = omega (arith, here.high);
       same = (λ e. same.0 (here.same.0 e), λ e. here.same.1 (same.1 e));

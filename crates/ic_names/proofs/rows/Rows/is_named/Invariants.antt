@@ -7,6 +7,7 @@ use Rattle.ic_names.proofs.rows.Rows.is_named.Given as goal
 abbrev pub invariant-loop-behind : goal.invariant-loop-behind
 invariant-loop-behind l = record {
   inside : l.at < length l.self.names;
+  start : (name_at l.self.names l.at).start ≡ (name_at l.self.names l.place).start;
   behind : l.behind ≡ depth (name_at l.self.names l.at);
   high : l.behind ≤ depth l.name;
   same : (name_at l.self.names l.place ≡ l.name) ↔ (name_at l.self.names l.at ≡ front_name l.name l.behind);

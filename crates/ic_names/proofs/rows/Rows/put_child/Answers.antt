@@ -2,10 +2,11 @@ use Rattle.std.proofs.Common.{◌∙◌, ap, arith, Some}
 use Rattle.std.proofs.lemmas.List.{get_or_read}
 use Rattle.ic_name.specs.Names.{start_name}
 use Rattle.ic_names.specs.Tables.{name_at}
-use Rattle.ic_names.specs.Rows.{names_of}
+use Rattle.ic_names.specs.Rows.{names_of, origin_of}
 use Rattle.ic_names.proofs.KeyOrders.{name_proper}
 use Rattle.ic_names.proofs.Grown.{stands_old}
 use Rattle.ic_names.proofs.RowNames.{counted, place_inside}
+use Rattle.ic_names.proofs.Origins.{child_told}
 use Rattle.ic_names.proofs.PutRows.{new_entry, parent_read, parent_written, put_child_names, put_child_rows}
 use Rattle.ic_names.proofs.rows.Rows.put_child.Goals as goal
 
@@ -51,18 +52,27 @@ invariant_of-self c =
     let key = c.child-key.ensures (name_at (names_of es) c.args.parent) proper (ap (λ e. e.key.0) read ∙ c.self.invariant.keys c.args.parent within) in
     let block = rw (← c.self.view_is) at c.child_block-block.ensures in
     let anchor = rw (← c.self.view_is) at c.child_anchor-anchor.ensures in
+    let new = c.new-entry.ensures in
+    let origin = child_told c.new-entry.result (name_at (names_of es) c.args.parent) c.args.digit c.args.parent proper c.requires.small (ap (λ e. e.key.0) new ∙ key) (ap (λ e. e.block.0) new ∙ block) (ap (λ e. e.parent) new) in
     let parent = parent_read es c.push.new.self.items c.args.parent c.new-entry.result c.index_mut-entry.result.now c.in-Ok.ensures.items within c.index_mut-entry.ensures.value in
     put_child_rows es c.push.new.self.items c.self.inside.starts.items c.args.parent c.args.digit c.new-entry.result _ c.self.invariant c.in-Ok.ensures.items within c.requires.small shallow
-    (new_entry _ _ _ _ _ _ c.new-entry.ensures key block (stands_old _ _ _ _ (anchor c.args.digit)))
+    (new_entry _ _ _ _ _ _ _ c.new-entry.ensures key block (stands_old _ _ _ _ (anchor c.args.digit)) origin)
     (parent_written c.index_mut-entry.result.now _ c.from.result c.args.digit _ c.some.result parent c.from.ensures (c.some.ensures ∙ ap Some (c.len-place.ensures ∙ c.self.inside.entries.ok.0)))
     absent few
 
 pub returns-clause-names : goal.returns-clause-names
 returns-clause-names c =
     let es = c.self.inside.entries.items in
-    let within = place_inside es c.args.parent (rw (← c.self.view_is) at c.requires.inside) in
+    let inside = rw (← c.self.view_is) at c.requires.inside in
+    let within = place_inside es c.args.parent inside in
+    let read = get_or_read es c.args.parent c.index.result.now within c.index.ensures _ in
+    let proper = name_proper _ (c.self.invariant.table.proper c.args.parent (start_name 0) inside) in
+    let key = c.child-key.ensures (name_at (names_of es) c.args.parent) proper (ap (λ e. e.key.0) read ∙ c.self.invariant.keys c.args.parent within) in
+    let block = rw (← c.self.view_is) at c.child_block-block.ensures in
+    let new = c.new-entry.ensures in
+    let origin = child_told c.new-entry.result (name_at (names_of es) c.args.parent) c.args.digit c.args.parent proper c.requires.small (ap (λ e. e.key.0) new ∙ key) (ap (λ e. e.block.0) new ∙ block) (ap (λ e. e.parent) new) in
     let parent = parent_read es c.push.new.self.items c.args.parent c.new-entry.result c.index_mut-entry.result.now c.in-Ok.ensures.items within c.index_mut-entry.ensures.value in
-    rw (← c.self.view_is) (put_child_names es c.push.new.self.items c.args.parent c.args.digit c.new-entry.result _ c.in-Ok.ensures.items within (ap (λ x. x.origin) c.new-entry.ensures) (ap (λ x. x.origin) parent))
+    rw (← c.self.view_is) (put_child_names es c.push.new.self.items c.args.parent c.args.digit c.new-entry.result _ c.in-Ok.ensures.items within origin (ap origin_of parent))
 
 pub returns-clause-place : goal.returns-clause-place
 returns-clause-place c = rw (← c.self.view_is) (counted c.self.inside.entries.items c.len-place.result _ c.len-place.ensures c.self.inside.entries.ok.0)
