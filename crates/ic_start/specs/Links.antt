@@ -1,5 +1,5 @@
 -- The links of a start, each by its two ends.
-use Rattle.std.specs.Prelude.{◌≡◌, ℕ, ◌+◌, List, [], ◌∷◌}
+use Rattle.std.specs.Prelude.{◌≡◌, ℕ, ◌+◌, List, [], ◌∷◌, Option, Some, None}
 use Rattle.ic_name.specs.declared.ids.Spot.{Spot}
 use Rattle.ic_name.specs.declared.ids.Spot.TheVariants as spots
 use Rattle.ic_name.specs.declared.ids.MakerId.TheVariants as makers
@@ -17,10 +17,31 @@ spot_of (the_ends.Name number) = spots.Name number
 abbrev pub link_of : ℕ → End → End → Link
 link_of number a b = record { id = record { maker = makers.Start; place = number }; a = spot_of a; b = spot_of b }
 
+-- the end with this port and this number: an agent's, or without a port a name
+abbrev pub end_of : Option ℕ → ℕ → End
+end_of (Some port) number = the_ends.Agent port number
+end_of None number = the_ends.Name number
+
+-- the port of an end, and its number
+abbrev pub port_of : End → Option ℕ
+port_of (the_ends.Agent port number) = Some port
+port_of (the_ends.Name number) = None
+
+abbrev pub number_of : End → ℕ
+number_of (the_ends.Agent port number) = number
+number_of (the_ends.Name number) = number
+
+-- the two ends that are kept
+abbrev pub first_end : Ends → End
+first_end e = end_of e.a_port e.a_number
+
+abbrev pub second_end : Ends → End
+second_end e = end_of e.b_port e.b_number
+
 -- the links with these ends, numbered from k on
 abbrev pub links_from : ℕ → List Ends → List Link
 links_from k [] = []
-links_from k (e ∷ es) = link_of k e.a e.b ∷ links_from (k + 1) es
+links_from k (e ∷ es) = link_of k (first_end e) (second_end e) ∷ links_from (k + 1) es
 
 -- a spot of a start: its agent, if it is one's, has the serial number 0
 abbrev pub IsOfStart : Spot → Type 0

@@ -1,5 +1,5 @@
 ghost use Rattle.std.specs.Prelude.{◌≡◌, ◌≤◌, ◌<◌, ◌^◌, ◌++◌, ◌∷◌, ◌↔◌, [], length, slice_get, IsTrue, OnOk, OnErr};
-ghost use Rattle.ic_start.specs.Links.{spot_of, link_of, AreNumbered};
+ghost use Rattle.ic_start.specs.Links.{spot_of, link_of, end_of, port_of, number_of, first_end, second_end, AreNumbered};
 
 use ic_name::{AgentId, Link, LinkId, MakerId, Spot};
 use std::alloc::{AllocError, Global};
@@ -14,6 +14,36 @@ pub enum End {
 }
 
 impl End {
+    /// The end with this port and this number: an agent's, or without a port a name.
+    fn new(port: Option<u8>, number: u32) -> End
+        ensures { result ≡ end_of port number }
+    {
+        match port {
+            Some(port) => End::Agent { port, number },
+            None => End::Name(number),
+        }
+    }
+
+    /// The port of the agent, where the end is one's.
+    fn port(self) -> Option<u8>
+        ensures { result ≡ port_of self }
+    {
+        match self {
+            End::Agent { port, .. } => Some(port),
+            End::Name(_) => None,
+        }
+    }
+
+    /// The number of the agent or of the name.
+    fn number(self) -> u32
+        ensures { result ≡ number_of self }
+    {
+        match self {
+            End::Agent { number, .. } => number,
+            End::Name(number) => number,
+        }
+    }
+
     /// The spot that the end is: the agent's slot is its number.
     fn spot(self) -> Spot
         ensures { result ≡ spot_of self }
@@ -31,15 +61,48 @@ impl End {
     }
 }
 
-/// The two ends of a link of a start.
+/// The two ends of a link of a start: the number of each, and beside both their ports, none where an end is a name.
 #[derive(Clone, Copy, PartialEq, Eq)]
 struct Ends {
-    a: End,
-    b: End,
+    a_number: u32,
+    b_number: u32,
+    a_port: Option<u8>,
+    b_port: Option<u8>,
 }
 
-// A third of what a link takes, whose number is its place.
-const _: () = prove!(3 * size_of::<Ends>() == size_of::<Link>());
+const _: () = prove!(size_of::<Ends>() == 12);
+
+// A quarter of what a link takes, whose number is its place.
+const _: () = prove!(4 * size_of::<Ends>() == size_of::<Link>());
+
+impl Ends {
+    /// These two ends.
+    fn new(a: End, b: End) -> Ends
+        ensures first { first_end result ≡ a }
+        ensures second { second_end result ≡ b }
+    {
+        Ends {
+            a_number: a.number(),
+            b_number: b.number(),
+            a_port: a.port(),
+            b_port: b.port(),
+        }
+    }
+
+    /// The first end.
+    fn a(&self) -> End
+        ensures { result ≡ first_end self.now }
+    {
+        End::new(self.a_port, self.a_number)
+    }
+
+    /// The second end.
+    fn b(&self) -> End
+        ensures { result ≡ second_end self.now }
+    {
+        End::new(self.b_port, self.b_number)
+    }
+}
 
 /// The links of a start, numbered by place. Each is kept by its ends alone.
 #[derive(Drop)]
@@ -83,7 +146,7 @@ impl StartLinks {
         ensures link { OnOk result (self.new ≡ self.old ++ link_of (length self.old) a b ∷ []) }
         ensures error { OnErr result (self.new ≡ self.old) }
     {
-        self.ends.push(Ends { a, b })?;
+        self.ends.push(Ends::new(a, b))?;
         Ok(())
     }
 
@@ -111,8 +174,8 @@ impl StartLinks {
                 maker: MakerId::Start,
                 place: number as u32,
             },
-            a: ends.a.spot(),
-            b: ends.b.spot(),
+            a: ends.a().spot(),
+            b: ends.b().spot(),
         })
     }
 

@@ -9,4 +9,4 @@ returns-in_err-ends c =
 pub returns : goal.returns
 returns c =
     let found = link_read c.self.inside.ends.items c.deref.result.now c.args.number c.in_ok-ends.ends.now c.deref.ensures.value c.in_ok-ends.ensures.lookup.0 c.in_ok-ends.ensures.lookup.1 in
-    rw (← c.self.view_is, c.spot.ensures, c.spot-2.ensures) (sym found)
+    rw (← c.self.view_is, c.spot.ensures, c.spot-2.ensures, c.a.ensures, c.b.ensures) (sym found)
