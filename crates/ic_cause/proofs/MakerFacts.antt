@@ -1,11 +1,11 @@
 -- The makers of the links of a path.
-use Rattle.std.proofs.Common.{◌≡◌, List, [], ◌∷◌, ◌⊎◌, inl, inr, refl, sym, ◌∙◌, ap, subst}
+use Rattle.std.proofs.Common.{◌≡◌, ◌≤◌, List, [], ◌∷◌, ◌⊎◌, length, inl, inr, refl, sym, ◌∙◌, ap, subst, arith}
 use Rattle.std.specs.List.{dedup}
 use Rattle.std.specs.List.Sorted.{IsPermutation, IsSorted}
 use Rattle.std.proofs.lemmas.List.Kept.{Contains-dedup, Contains-from_dedup, IsStrictlySortedBy-dedup}
 use Rattle.std.proofs.lemmas.List.Sorted.{IsPermutation-sym, Contains-permutation}
 use Rattle.ic_path.specs.Orders.{IsIn}
-use Rattle.ic_path.proofs.Picks.{none_in, in_first, in_more, in-cons_cases, in-contains, contains-in}
+use Rattle.ic_path.proofs.Picks.{length-pick, none_in, in_first, in_more, in-cons_cases, in-contains, contains-in}
 use Rattle.ic_name.specs.declared.ids.EventId.{EventId}
 use Rattle.ic_name.specs.declared.ids.LinkId.{LinkId}
 use Rattle.ic_name.specs.declared.ids.MakerId.{MakerId}
@@ -74,4 +74,12 @@ makers_once ids es sorted has moved rises = record {
   each = λ e m. contains-in e _ (Contains-dedup event_equivalence same_event_true sorted e (Contains-permutation es sorted e moved (in-contains (has.each e m))));
   only = λ e i. has.only e (contains-in e es (Contains-permutation sorted es e (IsPermutation-sym es sorted moved) (Contains-from_dedup same_event sorted e (in-contains i))));
   once = strict_once event_total (dedup same_event sorted) (IsStrictlySortedBy-dedup event_total (λ a b. sym (event_at a b)) sorted rises);
+}
+
+-- fewer than two are there once each
+pub few_makers : (ids : List LinkId) (es : List EventId) → HasMakers ids es → length es ≤ 1 → AreMakers ids es
+few_makers ids es has few = record {
+  each = has.each;
+  only = has.only;
+  once = λ e rest p i. let long = length-pick p in let more = length-pick i.1 in omega (arith, few, long, more);
 }

@@ -5,6 +5,7 @@ ghost use Rattle.ic_path.specs.Orders.{IsIn};
 use crate::{RankedEvent, canonical_cmp, direct_causes, journal_text, rank_of};
 use ic_link::{Far, LinkRows, LinkStore, has_room};
 use ic_name::{AgentId, AgentName, Event, EventId, Kind, Link, LinkId, MakerId, Spot};
+use smallvec::SmallVec;
 use std::alloc::{AllocError, Global};
 use std::cmp::Ordering;
 use std::test::Fail;
@@ -56,7 +57,7 @@ fn path(alloc: Global) -> Result<LinkRows, AllocError> {
 }
 
 /// The direct causes of the event of the two agents, where a path joins their principal ports.
-fn causes_of_the_pair(store: &LinkRows) -> Option<Vec<EventId>> {
+fn causes_of_the_pair(store: &LinkRows) -> Option<SmallVec<EventId, 4>> {
     match store.far(Spot::Agent(NEAR, 0)) {
         Far::End(Spot::Agent(FAR, 0)) => direct_causes(store, NEAR, FAR).ok(),
         _ => None,

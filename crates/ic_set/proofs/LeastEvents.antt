@@ -11,12 +11,17 @@ use Rattle.ic_theory.proofs.Replies.{canonical_total}
 use Rattle.ic_path.proofs.ListEnds.{in-end_cases, in_end, in_before}
 use Rattle.ic_roster.specs.Rosters.{Stander, HaveOwnLines}
 use Rattle.ic_set.specs.Removal.{AreNoted, TellsOrder, IsLeastOf}
-use Rattle.ic_set.proofs.Namings.{same_stander}
+use Rattle.ic_set.proofs.Namings.{same_stander, same_lead}
 use Rattle.ic_name.proofs.Orderings.{lt_less}
 
 -- an event of the list has this id, is this event, and has this rank
 abbrev IsTold : List Stander → EventId → Event → ℕ → Type 0
 IsTold ss d e rank = (z : Stander) × IsIn z ss × (z.id ≡ d) × (z.event ≡ e) × (z.rank ≡ rank)
+
+-- events that are told of and have one lead are one
+pub one_told : (ss : List Stander) → HaveOwnLines ss → (d f : EventId) (a b : Event) (m n : ℕ) → IsTold ss d a m → IsTold ss f b n → a.lead ≡ b.lead → a ≡ b
+one_told ss own d f a b m n s t same =
+    sym s.3 ∙ ap (λ (z : Stander). z.event) (same_lead ss s.0 t.0 own s.1 t.1 (ap (λ (e : Event). e.lead) s.3 ∙ same ∙ sym (ap (λ (e : Event). e.lead) t.3))) ∙ t.3
 
 -- what compares two events by the ranks that are told of them compares those under their ids
 pub compared : (ss : List Stander) → HaveOwnLines ss → (x y : Stander) (d f : EventId) (a b : Event) (m n : ℕ) (rank : Event → ℕ) (o : Ordering) → IsIn x ss → IsIn y ss → IsTold ss d a m → IsTold ss f b n → x.id ≡ d → y.id ≡ f → AreNoted ss rank

@@ -36,9 +36,7 @@ placed_so v placed same h = record {
   };
   canonical = h.canonical;
   ids = h.ids;
-  events = h.events;
-  ranks = h.ranks;
-  named = h.named;
+  standing = h.standing;
 }
 
 -- the ids of events that have lines of their own are there once

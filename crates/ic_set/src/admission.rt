@@ -103,8 +103,9 @@ impl<L: LinkStore> BareSet<L> {
         }
     }
 
-    /// The standing events that the event of an active pair has as direct causes.
-    pub fn causes_of_pair(&self, pair: ActivePair) -> Result<Vec<EventId>, AllocError>
+    /// The standing events that the event of an active pair has as direct causes. They take memory only if events made more
+    /// than four links of the pair's wire.
+    pub fn causes_of_pair(&self, pair: ActivePair) -> Result<SmallVec<EventId, 4>, AllocError>
         requires { IsActivePair self.now.set pair }
         ensures { IfOk result (λ causes. (e : AnEvent) → IsPairOf self.now.set e pair → AreCausesOf self.now.set e causes.items) }
     {

@@ -6,10 +6,10 @@ ghost use Rattle.ic_theory.specs.Listed.{shown, IsListing};
 ghost use Rattle.ic_theory.specs.Nets.{IsSameNet, net_of};
 ghost use Rattle.ic_theory.specs.Steps.{AreDefined, steps};
 ghost use Rattle.ic_cause.specs.Journals.{Ranked, IsJournal, journal_line, journal_text};
-ghost use Rattle.ic_roster.specs.Rosters.{event_in, IsNamed};
+ghost use Rattle.ic_roster.specs.Rosters.{Stander, Stands, IsNamed};
 ghost use Rattle.ic_set.specs.Views.{standing};
 ghost use Rattle.ic_set.specs.Orders.{AreCanonical};
-ghost use Rattle.ic_set.specs.Placed.{ranked_in};
+ghost use Rattle.ic_set.specs.Placed.{noted, ranked_in, AreUnder};
 
 use crate::bare::BareSet;
 use crate::orders::Placed;
@@ -18,7 +18,7 @@ use ic_link::LinkStore;
 use ic_name::Event;
 use ic_names::NameTable;
 use ic_net::{Net, NetMaker, NetSheet};
-use ic_roster::Roster;
+use ic_roster::{EventEntry, Roster};
 use std::alloc::{AllocError, Global};
 
 /// So many agents are more than a net counts.
@@ -74,37 +74,43 @@ impl<L: LinkStore> BareSet<L> {
     }
 }
 
-/// The journal of these events.
+/// The journal of these standing events, each of which is looked up.
 fn journal_of(alloc: Global, roster: &Roster, placed: &[Placed]) -> Result<Vec<u8>, AllocError>
-    requires { All (λ p. IsNamed roster.now.names p.interaction) placed.now }
-    ensures { IfOk result (λ text. text.items ≡ journal_text (map (ranked_in roster.now.names) placed.now)) }
+    requires { All (λ p. Stands roster.now.events p.id) placed.now }
+    ensures { IfOk result (λ text. (xs : List Stander) × AreUnder roster.now.events placed.now xs × (text.items ≡ journal_text (map noted xs))) }
 {
     let mut text = journal_head(alloc, placed.len())?;
     for standing in placed {
-        push_line(&mut text, roster.names(), standing)?;
+        let Some(entry) = roster.event(standing.id) else {
+            unreachable!()
+        };
+        push_line(&mut text, roster.names(), &entry)?;
     }
     Ok(text)
 }
 
 /// Puts the line of an event at the end. At an error memory ran out, and a front of the line may stand there.
-fn push_line(text: &mut Vec<u8>, names: &NameTable, standing: &Placed) -> Result<(), AllocError>
-    requires { IsNamed names.now standing.now.interaction }
-    ensures { OnOk result (text.new.items ≡ text.old.items ++ journal_line (ranked_in names.now standing.now)) }
+fn push_line(text: &mut Vec<u8>, names: &NameTable, entry: &EventEntry) -> Result<(), AllocError>
+    requires { IsNamed names.now entry.now.interaction }
+    ensures { OnOk result (text.new.items ≡ text.old.items ++ journal_line (ranked_in names.now entry.now)) }
 {
-    names.write_to(standing.interaction.lead, text)?;
+    names.write_to(entry.interaction.lead, text)?;
     text.push(b' ')?;
-    names.write_to(standing.interaction.other, text)?;
-    push_rank(text, standing.rank)
+    names.write_to(entry.interaction.other, text)?;
+    push_rank(text, entry.rank)
 }
 
-/// These events, by their names.
+/// These standing events, by their names, each of which is looked up.
 fn events_of(alloc: Global, roster: &Roster, placed: &[Placed]) -> Result<Vec<Event>, AllocError>
-    requires { All (λ p. IsNamed roster.now.names p.interaction) placed.now }
-    ensures { IfOk result (λ events. events.items ≡ map (λ p. event_in roster.now.names p.interaction) placed.now) }
+    requires { All (λ p. Stands roster.now.events p.id) placed.now }
+    ensures { IfOk result (λ events. (xs : List Stander) × AreUnder roster.now.events placed.now xs × (events.items ≡ map (λ x. x.event) xs)) }
 {
     let mut events = Vec::with_capacity(alloc, placed.len())?;
     for standing in placed {
-        let event = roster.read(standing.interaction)?;
+        let Some(entry) = roster.event(standing.id) else {
+            unreachable!()
+        };
+        let event = roster.read(entry.interaction)?;
         events.push(event)?;
     }
     Ok(events)

@@ -1,8 +1,7 @@
-ghost use Rattle.std.specs.Prelude.{◌≡◌, All, map, IfOk};
+ghost use Rattle.std.specs.Prelude.{◌≡◌, ◌<◌, All, length, map, IfOk};
 ghost use Rattle.ic_name.specs.declared.ids.EventId.{EventId as AnEventId};
 ghost use Rattle.ic_path.specs.Orders.{IsIn, IsOnce};
 ghost use Rattle.ic_set.specs.Orders.{AreInOrder, IsAny, IsCauseOf, DependsOn};
-ghost use Rattle.ic_roster.specs.Rosters.{IsNamed};
 ghost use Rattle.ic_set.specs.Placed.{keyed_cmp, place, IsKeyed, IsPlaced, ArePlaced};
 ghost use Rattle.ic_set.specs.Removal.{Stands};
 
@@ -10,19 +9,22 @@ use crate::bare::BareSet;
 use crate::by_rank::put_in_order;
 use ic_link::LinkStore;
 use ic_name::EventId;
-use ic_names::{NameKey, NameTable};
-use ic_roster::Interaction;
+use ic_names::{NameId, NameKey, NameTable};
 use std::alloc::{AllocError, Global};
 use std::cmp::Ordering;
+use std::mem::size_of;
 
-/// A standing event that is put in order, with the key of its lead's name.
+/// A standing event that is put in order, with the place and the key of its lead's name. Its other agent is looked up by its
+/// id where it is needed.
 #[derive(Clone, Copy)]
 pub(crate) struct Placed {
     pub id: EventId,
-    pub interaction: Interaction,
+    pub lead: NameId,
     pub rank: u32,
     pub key: NameKey,
 }
+
+const _: () = prove!(size_of::<Placed>() == 24);
 
 impl<L: LinkStore> BareSet<L> {
     /// All standing events, in canonical order.
@@ -90,42 +92,36 @@ impl<L: LinkStore> BareSet<L> {
             let Some(entry) = self.roster.event(*id) else {
                 unreachable!()
             };
-            placed.push(placed_event(names, *id, entry.interaction, entry.rank))?;
+            placed.push(placed_event(names, *id, entry.interaction.lead, entry.rank))?;
         }
         Ok(placed)
     }
 }
 
 /// A standing event with what it is put in order by. It takes no memory.
-pub(crate) fn placed_event(
-    names: &NameTable,
-    id: EventId,
-    interaction: Interaction,
-    rank: u32,
-) -> Placed
+pub(crate) fn placed_event(names: &NameTable, id: EventId, lead: NameId, rank: u32) -> Placed
     ensures id { result.id ≡ id }
-    ensures interaction { result.interaction ≡ interaction }
+    ensures lead { result.lead ≡ lead }
     ensures rank { result.rank ≡ rank }
-    ensures keyed { IsNamed names.now interaction → IsKeyed names.now result }
+    ensures keyed { lead.place < length names.now → IsKeyed names.now result }
 {
     Placed {
         id,
-        interaction,
+        lead,
         rank,
-        key: names.key(interaction.lead),
+        key: names.key(lead),
     }
 }
 
-/// The canonical order of two standing events: by rank, then lead, then other. The table is asked only if ranks and keys
-/// are the same. It takes no memory.
+/// The canonical order of two standing events: by rank, then lead. No two have the same lead, so that others are not asked.
+/// The table is asked only if ranks and keys are the same. It takes no memory.
 pub(crate) fn canonical_order(names: &NameTable, a: &Placed, b: &Placed) -> Ordering
     ensures { result ≡ keyed_cmp (place names.now a.now) (place names.now b.now) }
 {
     a.rank
         .cmp(&b.rank)
         .then_with(|| a.key.number().cmp(&b.key.number()))
-        .then_with(|| names.cmp(a.interaction.lead, b.interaction.lead))
-        .then_with(|| names.cmp(a.interaction.other, b.interaction.other))
+        .then_with(|| names.cmp(a.lead, b.lead))
 }
 
 /// The ids of these events.

@@ -85,7 +85,7 @@ fn comes_before(roster: &Roster, first: EventId, second: EventId) -> bool
         return false;
     };
     let names = roster.names();
-    let a = placed_event(names, first, x.interaction, x.rank);
-    let b = placed_event(names, second, y.interaction, y.rank);
+    let a = placed_event(names, first, x.interaction.lead, x.rank);
+    let b = placed_event(names, second, y.interaction.lead, y.rank);
     canonical_order(names, &a, &b).is_lt()
 }

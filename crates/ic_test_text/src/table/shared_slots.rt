@@ -7,6 +7,7 @@ use crate::table::side_by_side::Both;
 use ic_link::{Far, LinkRows, LinkStore};
 use ic_name::{AgentId, EventId, Link, LinkId, MakerId, Spot};
 use ic_table::PortTable;
+use smallvec::SmallVec;
 use std::alloc::AllocError;
 use std::test::Fail;
 
@@ -34,7 +35,7 @@ fn link(joined: Joined) -> Link {
 }
 
 /// The events that made links of the path from a loose spot.
-fn makers<L: LinkStore>(store: &L, spot: Spot) -> Option<Vec<EventId>> {
+fn makers<L: LinkStore>(store: &L, spot: Spot) -> Option<SmallVec<EventId, 4>> {
     if store.degree(spot) != 1 {
         return None;
     }

@@ -52,7 +52,7 @@ pub(crate) fn fire_beside(
     ensures kept { OnOk result ((d : ADeepEvent) × (d.event ≡ event.now) × AreCausesOf set.now.set event.now d.causes.items × (deep.new.items ≡ deep.old.items ++ d ∷ [])) }
     ensures unchanged { OnErr result (deep.new.items ≡ deep.old.items) }
 {
-    let causes = set.causes_of_pair(pair)?;
+    let causes = set.causes_of_pair(pair)?.into_vec()?;
     let event = event.copy()?;
     let Ok(()) = deep.push(DeepEvent { event, causes }) else {
         return Err(AllocError);

@@ -30,7 +30,7 @@ pub rank_over-rank-requires-clause-low : goal.rank_over-rank-requires-clause-low
 rank_over-rank-requires-clause-low g c = ranks_fit c.args.self.now.set (subst (λ (w : NamedView). IsStandingSet w.set) c.self.view_is c.self.invariant.set) c.requires.few_events
 
 pub rank_over-rank-requires-clause-standing : goal.rank_over-rank-requires-clause-standing
-rank_over-rank-requires-clause-standing g c = λ d i. (let y = (c.in_ok-causes.ensures c.requires.active.0 c.requires.active.1).only d (rw c.deref.ensures.value at i) in (y.0, y.1, y.2))
+rank_over-rank-requires-clause-standing g c = λ d i. (let y = (c.in_ok-causes.ensures c.requires.active.0 c.requires.active.1).only d (rw c.deref.ensures at i) in (y.0, y.1, y.2))
 
 pub enter_born-requires-clause-shallow : goal.enter_born-requires-clause-shallow
 enter_born-requires-clause-shallow g c =
@@ -77,7 +77,7 @@ put_event-requires-clause-can g c =
     let ends = ends_same c.outcome-rules.ensures.links c.profile.ensures (ap (λ (e : Event). e.lead_kind) same) (ap (λ (e : Event). e.other_kind) same) in
     let enters : Enters v.agents (born_agents (event_in view.roster.names c.args.event)) (c.args.line + 1) c.in_ok-born.born.items c.enter_born.new.roster.agents = c.in_ok-born.ensures.entered in
     let lawful : IsLawful ls = record { slim = c.lawful.ensures.slim; own_ids = c.lawful.ensures.own_ids } in
-    rw (its, c.as_slice.ensures, ends, c.deref-2.ensures.value, events)
+    rw (its, c.as_slice.ensures, ends, c.deref-2.ensures, events)
     (can_put_in v c.args.self.now.set (ap (λ (w : NamedView). w.set) c.self.view_is) ls c.self.invariant e c.args.pair active c.args.line c.requires.new_line
     _ (ap born_agents same) c.in_ok-born.born.items _ enters c.lawful-2.ensures.names
     c.rank_over-rank.result c.in_ok-causes.causes.items (c.in_ok-causes.ensures e active) lawful)
@@ -94,8 +94,8 @@ invariant_of-self-2 g c =
     let events = c.enter_born.ensures.events in
     let ends = ends_same c.outcome-rules.ensures.links c.profile.ensures (ap (λ (e : Event). e.lead_kind) same) (ap (λ (e : Event). e.other_kind) same) in
     let enters : Enters v.agents (born_agents (event_in view.roster.names c.args.event)) (c.args.line + 1) c.in_ok-born.born.items c.enter_born.new.roster.agents = c.in_ok-born.ensures.entered in
-    let over = rw c.deref.ensures.value at c.rank_over-rank.ensures in
-    let puts = rw (its, c.as_slice.ensures, ends, c.deref-2.ensures.value, events) at c.in_ok-id.ensures.put.1 in
+    let over = rw c.deref.ensures at c.rank_over-rank.ensures in
+    let puts = rw (its, c.as_slice.ensures, ends, c.deref-2.ensures, events) at c.in_ok-id.ensures.put.1 in
     rw c.in_ok-id.ensures.agents
     (put_keeps v c.args.self.now.set (ap (λ (w : NamedView). w.set) c.self.view_is) ls c.self.invariant e c.args.pair active c.args.line c.requires.new_line
     _ (ap born_agents same) c.in_ok-born.born.items _ enters c.lawful-2.ensures.names
@@ -112,8 +112,8 @@ returns-clause-admitted g c = λ e active. (
     let events = c.enter_born.ensures.events in
     let ends = ends_same c.outcome-rules.ensures.links c.profile.ensures (ap (λ (e : Event). e.lead_kind) same) (ap (λ (e : Event). e.other_kind) same) in
     let enters : Enters v.agents (born_agents (event_in view.roster.names c.args.event)) (c.args.line + 1) c.in_ok-born.born.items c.enter_born.new.roster.agents = c.in_ok-born.ensures.entered in
-    let over = rw c.deref.ensures.value at c.rank_over-rank.ensures in
-    let puts = rw (its, c.as_slice.ensures, ends, c.deref-2.ensures.value, events) at c.in_ok-id.ensures.put.1 in
+    let over = rw c.deref.ensures at c.rank_over-rank.ensures in
+    let puts = rw (its, c.as_slice.ensures, ends, c.deref-2.ensures, events) at c.in_ok-id.ensures.put.1 in
     rw c.in_ok-id.ensures.agents
     (put_admits v c.args.self.now.set (ap (λ (w : NamedView). w.set) c.self.view_is) ls c.self.invariant e c.args.pair active c.args.line c.requires.new_line
     _ (ap born_agents same) c.in_ok-born.born.items _ enters c.lawful-2.ensures.names
@@ -132,8 +132,8 @@ returns-clause-awoken g c =
     let events = c.enter_born.ensures.events in
     let ends = ends_same c.outcome-rules.ensures.links c.profile.ensures (ap (λ (e : Event). e.lead_kind) same) (ap (λ (e : Event). e.other_kind) same) in
     let enters : Enters v.agents (born_agents (event_in view.roster.names c.args.event)) (c.args.line + 1) c.in_ok-born.born.items c.enter_born.new.roster.agents = c.in_ok-born.ensures.entered in
-    let over = rw c.deref.ensures.value at c.rank_over-rank.ensures in
-    let puts = rw (its, c.as_slice.ensures, ends, c.deref-2.ensures.value, events) at c.in_ok-id.ensures.put.1 in
+    let over = rw c.deref.ensures at c.rank_over-rank.ensures in
+    let puts = rw (its, c.as_slice.ensures, ends, c.deref-2.ensures, events) at c.in_ok-id.ensures.put.1 in
     let joins = rw (c.as_slice.ensures, ends) at c.in_ok-id.ensures.joins in
     let act = rw c.in_ok-id.ensures.agents at c.active_joins.ensures in
     rw c.in_ok-id.ensures.agents

@@ -15,12 +15,12 @@ ordered-requires g c =
     let k = subst (λ (w : NamedView). IsKept w.set (g.L.LinkStore.links c.self.inside.store)) c.self.view_is c.self.invariant in
     let (ids, joins, are) = c.in_ok-makers.ensures in
     record {
-      once = rw c.deref.ensures.value are.once;
-      standing = rw c.deref.ensures.value (makers_stand _ _ k c.args.spot c.requires.0 c.requires.1 joins.0 ids joins.1 _ are);
+      once = rw c.deref.ensures are.once;
+      standing = rw c.deref.ensures (makers_stand _ _ k c.args.spot c.requires.0 c.requires.1 joins.0 ids joins.1 _ are);
     }
 
 pub returns : goal.returns
 returns g c =
     let k = subst (λ (w : NamedView). IsKept w.set (g.L.LinkStore.links c.self.inside.store)) c.self.view_is c.self.invariant in
     let (ids, joins, are) = c.in_ok-makers.ensures in
-    IfOk-weaker c.ordered.result _ _ (λ makers o p loose. in_order_so _ makers.items (makers_made _ _ k c.args.spot p loose joins.0 ids joins.1 _ are) o) (rw c.deref.ensures.value at c.ordered.ensures)
+    IfOk-weaker c.ordered.result _ _ (λ makers o p loose. in_order_so _ makers.items (makers_made _ _ k c.args.spot p loose joins.0 ids joins.1 _ are) o) (rw c.deref.ensures at c.ordered.ensures)
