@@ -23,3 +23,5 @@ pub mod NamedCauses
 pub mod OwnEvents
 pub mod NameOrders
 pub mod ReadEvents
+pub mod OnceBelow
+pub mod CauseLines

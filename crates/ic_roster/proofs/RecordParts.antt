@@ -11,7 +11,7 @@ use Rattle.ic_roster.specs.Records.{has}
 use Rattle.std.specs.List.{remove}
 use Rattle.ic_roster.specs.KeptEvents.{KeptEvent}
 use Rattle.ic_roster.specs.declared.interaction.Interaction.{Interaction}
-use Rattle.std.proofs.lemmas.List.{take-append-le, drop-append-le, take-take, drop-take, drop-drop, length-take-le, length-drop, take_at, drop_at, take_all, drop_all, length-append}
+use Rattle.std.proofs.lemmas.List.{take-append-le, drop-append-le, take-take, drop-take, drop-drop, length-take-le, length-drop}
 
 -- what comes behind leaves the front
 module _ (xs ys : List ℕ) (b c : ℕ) (fits : b + c ≤ length xs) where
@@ -53,23 +53,6 @@ module _ (xs : List ℕ) (b c i : ℕ) (inside : b + c + i < length xs) where
       end_longer (take (b + c + i) xs) (drop (suc (b + c + i)) xs) b c fits
       ∙ ap (λ ys. ys ++ drop (suc (b + c + i)) xs) (drop-take (b + c) i xs)
       ∙ ap (λ ys. take i (drop (b + c) xs) ++ ys) (ap (λ n. drop n xs) (sym number) ∙ sym (drop-drop (suc i) (b + c) xs))
-
--- two lists that were put together
-module _ (xs ys : List ℕ) (b c : ℕ) (front : length xs ≡ b) (middle : length ys ≡ c) where
-  -- the first is the front
-  pub made_front : take b (xs ++ ys) ≡ xs
-  made_front = take_at xs ys b front
-
-  -- the second is the middle
-  pub made_middle : take c (drop b (xs ++ ys)) ≡ ys
-  made_middle = ap (take c) (drop_at xs ys b front) ∙ take_whole
-    where
-      take_whole : take c ys ≡ ys
-      take_whole = take_all c ys (omega (arith, middle))
-
-  -- and there is no end
-  pub made_end : drop (b + c) (xs ++ ys) ≡ []
-  made_end = let long = length-append xs ys in drop_all (b + c) (xs ++ ys) (omega (arith, long, front, middle))
 
 -- a record without dependents, by its parts
 abbrev pub lone_of : Interaction → ℕ → ℕ → List ℕ → List ℕ → KeptEvent

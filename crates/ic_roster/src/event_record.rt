@@ -1,4 +1,5 @@
 ghost use Rattle.std.specs.Prelude.{◌≡◌, ◌+◌, ◌<◌, ◌≤◌, ◌++◌, ◌∷◌, [], length, map, IfOk, OnOk, OnErr};
+ghost use Rattle.ic_path.specs.Orders.{IsOnce};
 ghost use Rattle.ic_roster.specs.KeptEvents.{lone};
 ghost use Rattle.ic_roster.specs.RecordChanges.{Takes};
 
@@ -49,10 +50,11 @@ impl Model for EventRecord {
 }
 
 impl EventRecord {
-    /// The record of an event of this line that has no dependents yet. It is an error if memory runs out, or if there are more
-    /// causes than can be counted in 32 bits.
+    /// The record of an event of this line that has no dependents yet. Its causes are of other lines, and no two of them are of
+    /// one line, so there are fewer causes than lines. It is an error if memory runs out.
     pub fn new(alloc: Global, line: u32, event: &NewEvent<'_>) -> Result<EventRecord, AllocError>
         requires four { length event.now.born.now ≤ 4 }
+        requires lines { IsOnce (line ∷ map (λ d. d.line) event.now.causes.now) }
         ensures interaction { IfOk result (λ r. r.interaction ≡ event.now.interaction) }
         ensures line { IfOk result (λ r. r.line ≡ line) }
         ensures rank { IfOk result (λ r. r.rank ≡ event.now.rank) }
@@ -61,16 +63,17 @@ impl EventRecord {
         ensures none { IfOk result (λ r. r.dependents ≡ []) }
     {
         let born = event.born.len() as u8;
-        let Ok(causes) = u32::try_from(event.causes.len()) else {
-            return Err(AllocError);
-        };
         let mut slots = SmallVec::new(alloc);
+        slots.reserve(event.born.len() + event.causes.len())?;
         for child in event.born {
-            slots.push(child.slot)?;
+            slots.push_reserved(child.slot);
         }
         for cause in event.causes {
-            slots.push(cause.slot)?;
+            // A line fits in 32 bits. No two causes are of one line, so the number of causes fits, too.
+            prove!(cause.line <= u32::MAX);
+            slots.push_reserved(cause.slot);
         }
+        let causes = event.causes.len() as u32;
         let Interaction {
             lead,
             other,

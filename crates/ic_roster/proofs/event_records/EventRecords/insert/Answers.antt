@@ -8,6 +8,7 @@ use Rattle.ic_roster.specs.Placed.{PlacedEvent, IsNewKey, AreKept}
 use Rattle.ic_roster.specs.Slots.{slot_at, HoldsOneMore}
 use Rattle.ic_roster.specs.EventSlots.{id_in, event_by, events_in, event_line, event_lead}
 use Rattle.ic_roster.proofs.Slots.{filled_by_insert}
+use Rattle.ic_roster.proofs.CauseLines.{lines_once}
 use Rattle.ic_roster.proofs.EventFacts.{keys_entered}
 use Rattle.ic_roster.proofs.RecordFacts.{same_events}
 use Rattle.ic_roster.proofs.RecordLoops.{slots_of}
@@ -15,6 +16,13 @@ use Rattle.ic_roster.proofs.SameLinks.{same_linked, same_indexed, still_kept, st
 use Rattle.ic_roster.proofs.LinkedEvents.{kept_filled, kept_ids, once_before}
 use Rattle.ic_roster.proofs.AddedEvents.{rooms_with_event, event_linked, event_entered, event_made}
 use Rattle.ic_roster.proofs.event_records.EventRecords.insert.Goals as goal
+
+pub new-requires-clause-lines : goal.new-requires-clause-lines
+new-requires-clause-lines c =
+    lines_once c.self.inside.records.slots c.self.inside.leads c.args.line _ c.args.event.now.causes.now c.self.invariant.0
+    (subst (λ xs. IsNewKey xs c.args.line c.args.event.now.interaction.lead.place) (sym c.self.view_is) c.requires.is_new)
+    (subst (λ (xs : List PlacedEvent). AreKept xs c.args.event.now.causes.now) (sym c.self.view_is) c.requires.kept)
+    c.requires.once
 
 pub reserve_places-requires : goal.reserve_places-requires
 reserve_places-requires c = kept_filled c.self.inside.records.slots c.args.event.now.causes.now (subst (λ (xs : List PlacedEvent). AreKept xs c.args.event.now.causes.now) (sym c.self.view_is) c.requires.kept)
