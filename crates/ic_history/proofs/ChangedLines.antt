@@ -2,11 +2,14 @@
 use Rattle.std.proofs.Common.{◌≡◌, ◌≢◌, ◌↔◌, ℕ, ◌+◌, ◌<◌, ◌≤◌, List, [], ◌∷◌, ◌++◌, length, map, option_map, slice_get, Option, Some, None, inl, inr, refl, sym, ap, subst, arith, ◌∙◌}
 use Rattle.std.proofs.lemmas.Bool.{cases_lt}
 use Rattle.std.proofs.lemmas.Option.{slice_get-map, slice_get_within, slice_get-get_or}
+use Rattle.std.specs.Prelude.{All, IfSome, IfNone}
 use Rattle.ic_name.specs.Names.{Name, start_name}
 use Rattle.ic_name.specs.Events.{Event}
 use Rattle.ic_name.specs.declared.lines.Call.TheVariants.{Fire, Undo}
 use Rattle.ic_name.specs.declared.lines.Reply.TheVariants.{Fired, Undone}
 use Rattle.ic_name.specs.declared.lines.Line.{Line}
+use Rattle.ic_names.specs.Tables.{name_at}
+use Rattle.ic_names.specs.declared.table.NameId.{NameId}
 use Rattle.ic_path.specs.Orders.{IsIn}
 use Rattle.ic_path.proofs.Picks.{none_in, in_first, in-cons_cases, pick_before}
 use Rattle.ic_path.proofs.InLists.{in_behind, in-append_cases}
@@ -20,7 +23,7 @@ use Rattle.ic_history.specs.Kept.{line_of}
 use Rattle.ic_history.specs.Noted as seen
 use Rattle.ic_history.specs.Noted.{NotedLine, line_in, AreLinesNamed}
 use Rattle.ic_history.specs.Limits.{reply_of}
-use Rattle.ic_history.specs.Changed.{IsFiredIn, IsChangedIn, IsChanged, IsLeadFiredIn, IsLeadChangedIn}
+use Rattle.ic_history.specs.Changed.{AreChangedLeads, IsFiredIn, IsChangedIn, IsChanged, IsLeadFiredIn, IsLeadChangedIn, name_told}
 use Rattle.ic_history.proofs.NotedLines.{image_at, noted_named}
 
 -- one value is held
@@ -99,6 +102,19 @@ module _ (names : List Name) (ls : List NotedLine) (k : ℕ) where
 
       here : r ≡ Some (event_in names i).lead
       here = read ∙ slice_get-get_or names i.lead.place (start_name 0) (noted_named names ls k _ at all).lead
+
+  -- the place that is found for the lead of what a line fired is one of a name
+  pub told_inside : AreLinesNamed names ls → (r : Option NameId) → IfSome r (λ lead. (i : Interaction) × (slice_get ls k ≡ Some (seen.Fired i)) × (i.lead ≡ lead)) → IfSome r (λ lead. lead.place < length names)
+  told_inside all None found = tt
+  told_inside all (Some d) found = subst (λ (a : NameId). a.place < length names) found.2 (noted_named names ls k _ found.1 all).lead
+
+  -- and the name there is that of the agent that leads it
+  pub lead_told : AreLinesNamed names ls → (r : Option NameId) → IfSome r (λ lead. (i : Interaction) × (slice_get ls k ≡ Some (seen.Fired i)) × (i.lead ≡ lead)) → IfNone r ((i : Interaction) → slice_get ls k ≢ Some (seen.Fired i))
+      → (n : Name) → (name_told names r ≡ Some n) ↔ IsLeadFiredIn (map (line_in names) ls) k n
+  lead_told all None found none = none_fired none
+  lead_told all (Some d) found none =
+      let inside = told_inside all (Some d) found in
+      lead_read all found.0 found.1 (Some (name_at names d.place)) (sym (ap (λ (a : NameId). slice_get names a.place) found.2 ∙ slice_get-get_or names d.place (start_name 0) inside))
 
 -- a line between these two fired or undid an event that the agent leads
 abbrev pub IsLeadChangedBetween : List Line → ℕ → ℕ → Name → Type 0

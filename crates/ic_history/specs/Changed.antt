@@ -1,10 +1,13 @@
 -- The events that lines of a history changed.
-use Rattle.std.specs.Prelude.{◌≡◌, ℕ, ◌≤◌, ◌⊎◌, List, Some, slice_get}
+use Rattle.std.specs.Prelude.{◌≡◌, ℕ, ◌<◌, ◌≤◌, ◌⊎◌, ◌↔◌, List, length, map, All, Option, Some, option_map, slice_get}
 use Rattle.ic_name.specs.Names.{Name}
 use Rattle.ic_name.specs.Events.{Event}
 use Rattle.ic_name.specs.declared.lines.Call.TheVariants.{Fire, Undo}
 use Rattle.ic_name.specs.declared.lines.Reply.TheVariants.{Fired, Undone}
 use Rattle.ic_name.specs.declared.lines.Line.{Line}
+use Rattle.ic_names.specs.Tables.{name_at}
+use Rattle.ic_names.specs.declared.table.NameId.{NameId}
+use Rattle.ic_path.specs.Orders.{IsIn}
 
 -- the line at this place fired the event
 abbrev pub IsFiredIn : List Line → ℕ → Event → Type 0
@@ -29,3 +32,12 @@ IsLeadFiredIn lines k n = (e : Event) × IsFiredIn lines k e × (e.lead ≡ n)
 -- the agent of this name leads an event that the line at this place fired or undid
 abbrev pub IsLeadChangedIn : List Line → ℕ → Name → Type 0
 IsLeadChangedIn lines k n = (e : Event) × IsChangedIn lines k e × (e.lead ≡ n)
+
+-- the name at a place, if there is a place
+abbrev pub name_told : List Name → Option NameId → Option Name
+name_told ns d = option_map (λ (a : NameId). name_at ns a.place) d
+
+-- the places are those of the names of the agents that lead an event that a line from this one on fired or undid
+pub record AreChangedLeads (ns : List Name) (lines : List Line) (from : ℕ) (leads : List NameId) : Type 0 where
+  pub inside : All (λ d. d.place < length ns) leads
+  pub each : (n : Name) → IsIn n (map (λ d. name_at ns d.place) leads) ↔ ((e : Event) × IsChanged lines from e × (e.lead ≡ n))

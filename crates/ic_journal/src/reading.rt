@@ -30,7 +30,7 @@ use crate::standing::renewing::agents_in;
 use ic_history::Proposal;
 use ic_link::LinkStore;
 use ic_name::{AgentId, AgentName, Event, EventId, EventName, Kind, Line, Port};
-use ic_names::NameTable;
+use ic_names::{NameId, NameTable};
 use ic_net::{Net, NetSheet};
 use ic_roster::AgentEntry;
 use ic_set::{ActivePair, Wire};
@@ -68,6 +68,23 @@ impl<L: LinkStore> Bench<L> {
             unreachable!()
         };
         roster.led_by(entry.name)
+    }
+
+    /// The names that are known, each at its place.
+    pub fn known_names(&self) -> &NameTable
+        ensures { result.now ≡ self.now.names }
+    {
+        self.set.bare().roster().names()
+    }
+
+    /// The id of the standing event that the agent leads whose name is at this place; `None` if it leads none. It takes no
+    /// memory.
+    pub fn event_led_at(&self, lead: NameId) -> Option<EventId>
+        requires { lead.place < length self.now.names }
+        ensures found { IfSome result (λ id. (x : Stander) × IsIn x self.now.events × (x.id ≡ id) × (x.event.lead ≡ name_at self.now.names lead.place)) }
+        ensures absent { IfNone result ((x : Stander) → IsIn x self.now.events → x.event.lead ≢ name_at self.now.names lead.place) }
+    {
+        self.set.bare().roster().led_by(lead)
     }
 
     /// The active pair of this event's agents; `None` if the event isn't active. It takes no memory.

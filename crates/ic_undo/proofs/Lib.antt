@@ -34,6 +34,7 @@ pub mod SameHistories
 mod StoodSince
 mod RepeatsDropped
 mod LedPlaces
-mod LentEvents
+mod KeptEvents
+mod PlacedMarks
 mod OutsideOrders
 mod MissingOrders

@@ -24,17 +24,12 @@ use Rattle.ic_undo.specs.GoingBack.{AreMissing, IsMissing}
 use Rattle.ic_undo.specs.Marks.{MarkView, IsMark}
 use Rattle.ic_path.proofs.InLists.{in-map, map_cases}
 use Rattle.ic_undo.proofs.LedPlaces.{in_at}
-use Rattle.ic_undo.proofs.LentEvents.{lent, lent-append}
 use Rattle.ic_undo.proofs.MarkedEvents.{one_led, stands_led, led_stands}
 use Rattle.ic_undo.proofs.Places.{once_sorted, parts, in_part}
 
 -- one value is held
 one_value : {X : Type 0} {x y : X} → Some x ≡ Some y → x ≡ y
 one_value h = cc
-
--- one place more
-pub read_more : (es : List Event) (ps : List ℕ) (came : List (Bor Event)) (p : ℕ) (e : Bor Event) → map (slice_get es) ps ≡ map Some (lent came) → slice_get es p ≡ Some e.now → map (slice_get es) (ps ++ p ∷ []) ≡ map Some (lent (came ++ e ∷ []))
-read_more es ps came p e read at = map-append (slice_get es) ps (p ∷ []) ∙ (λ i. read i ++ at i ∷ []) ∙ sym (map-append Some (lent came) (e.now ∷ [])) ∙ ap (map Some) (sym (lent-append came (e ∷ [])))
 
 -- what is read at ascending places of a sorted list is sorted
 sorted_read : {X : Type 0} (cmp : X → X → Ordering) (xs : List X) → IsStrictlySortedBy cmp xs → (ps : List ℕ) → IsStrictlySortedBy nat_cmp ps → (ys : List X) → map (slice_get xs) ps ≡ map Some ys → IsStrictlySortedBy cmp ys

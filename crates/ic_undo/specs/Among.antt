@@ -1,13 +1,19 @@
 -- The differences from a mark, found by the names of agents that lead some events.
-use Rattle.std.specs.Prelude.{◌≡◌, ℕ, List, Some, slice_get}
+use Rattle.std.specs.Prelude.{◌≡◌, ℕ, List, Some, map, slice_get}
 use Rattle.ic_name.specs.Names.{Name}
 use Rattle.ic_name.specs.Events.{Event}
 use Rattle.ic_name.specs.declared.ids.EventId.{EventId}
+use Rattle.ic_names.specs.Tables.{name_at}
+use Rattle.ic_names.specs.declared.table.NameId.{NameId}
 use Rattle.ic_path.specs.Orders.{IsIn}
 use Rattle.ic_roster.specs.Rosters.{Stander}
 use Rattle.ic_journal.specs.Views.{BenchView}
 use Rattle.ic_undo.specs.GoingBack.{IsOutside, IsMissing}
 use Rattle.ic_undo.specs.Marks.{MarkView}
+
+-- the names at these places
+abbrev pub names_at : List Name → List NameId → List Name
+names_at ns places = map (λ (a : NameId). name_at ns a.place) places
 
 -- the ids of the standing events that one of these agents leads and that aren't in the mark are there, and all ids are
 -- those of standing events that aren't in the mark

@@ -1,5 +1,6 @@
 -- Going back to a mark.
-use Rattle.std.specs.Prelude.{◌≡◌, ◌≢◌, ℕ, ◌+◌, ◌<◌, ◌≤◌, ◌⊎◌, List, [], ◌∷◌, ◌++◌, length, map}
+use Rattle.std.specs.Prelude.{◌≡◌, ◌≢◌, ℕ, ◌+◌, ◌<◌, ◌≤◌, ◌⊎◌, List, [], ◌∷◌, ◌++◌, length, map, slice_get}
+use Rattle.std.specs.List.{filter_map}
 use Rattle.std.specs.List.Sorted.{IsStrictlySortedBy}
 use Rattle.ic_name.specs.Events.{Event}
 use Rattle.ic_name.specs.declared.limits.TheConstants.{MAX_LINES}
@@ -38,6 +39,15 @@ IsMissing v m e = IsIn e m.events × ¬ (IsIn e (standing (set_of v)))
 pub record AreMissing (v : BenchView) (m : MarkView) (came : List Event) : Type 0 where
   pub each : HasEachOnce (IsMissing v m) came
   pub canonical : (rank : Event → ℕ) → IsRank m.start m.events rank → IsStrictlySortedBy (canonical_cmp rank) came
+
+-- the events at these places of a list
+abbrev pub events_at : List Event → List ℕ → List Event
+events_at es places = filter_map (slice_get es) places
+
+-- the places in the mark of the events that don't stand, in canonical order
+pub record AreMissingAt (v : BenchView) (m : MarkView) (places : List ℕ) : Type 0 where
+  pub within : (p : ℕ) → IsIn p places → p < length m.events
+  pub missing : AreMissing v m (events_at m.events places)
 
 -- each of these events can be fired after those before it
 abbrev pub AreFirable : Start → List Event → List Event → Type 0

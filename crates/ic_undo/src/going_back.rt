@@ -1,10 +1,10 @@
-ghost use Rattle.std.specs.Prelude.{◌≡◌, ◌+◌, ◌≤◌, IfErr, IfOk, OnOk, length, map};
+ghost use Rattle.std.specs.Prelude.{◌≡◌, ◌+◌, ◌<◌, ◌≤◌, ℕ, IfErr, IfOk, OnOk, length};
 ghost use Rattle.ic_name.specs.declared.limits.TheConstants.{MAX_LINES};
-ghost use Rattle.ic_path.specs.Orders.{Alike};
+ghost use Rattle.ic_path.specs.Orders.{Alike, IsIn};
 ghost use Rattle.ic_set.specs.Orders.{AreInOrder};
 ghost use Rattle.ic_set.specs.Views.{standing};
 ghost use Rattle.ic_journal.specs.Views.{set_of};
-ghost use Rattle.ic_undo.specs.GoingBack.{AreFirable, AreFired, AreMissing, AreSomeFired, IsBack, IsOutside, IsntBack};
+ghost use Rattle.ic_undo.specs.GoingBack.{AreFirable, AreFired, AreMissingAt, AreSomeFired, IsBack, IsOutside, IsntBack, events_at};
 
 use crate::backwards::undo_each;
 use crate::faults::{BackFault, Counts};
@@ -12,7 +12,7 @@ use crate::marks::Mark;
 use crate::missing::missing_events;
 use crate::outside::outside_events;
 use ic_journal::{Bench, LinkStore, PairFault, ReserveFault};
-use ic_name::{Event, EventId};
+use ic_name::EventId;
 use std::alloc::Global;
 
 /// Nothing was undone, and nothing fired.
@@ -47,20 +47,20 @@ pub fn back<L: LinkStore>(
     let Ok(missing) = missing_events(alloc, bench, mark) else {
         return Err(BackFault::Memory(NOTHING));
     };
-    go_over(bench, mark, &gone, missing)
+    go_over(bench, mark, &gone, &missing)
 }
 
-/// Undoes `gone`, the events that stand and aren't in the mark, the last one first. Then it fires `missing`, the events of the
-/// mark that don't stand. Its answers are those of `back`.
+/// Undoes `gone`, the events that stand and aren't in the mark, the last one first. Then it fires the events of the mark that
+/// don't stand, whose places are `missing`. Its answers are those of `back`.
 pub(crate) fn go_over<L: LinkStore>(
     bench: &mut Bench<L>,
     mark: &Mark,
     gone: &[EventId],
-    missing: Vec<&Event>,
+    missing: &[u32],
 ) -> Result<Counts, BackFault>
     requires start { mark.now.start ≡ bench.old.start }
     requires outside { AreInOrder (set_of bench.old) (IsOutside mark.now) gone.now }
-    requires missing { AreMissing bench.old mark.now (map (λ e. e.now) missing.items) }
+    requires missing { AreMissingAt bench.old mark.now missing.now }
     ensures back { IfOk result (λ counts. IsBack bench.old mark.now counts bench.new) }
     ensures stands { OnOk result (Alike mark.now.events (standing (set_of bench.new))) }
     ensures fault { IfErr result (λ fault. IsntBack bench.old mark.now fault bench.new) }
@@ -76,23 +76,28 @@ pub(crate) fn go_over<L: LinkStore>(
     undo_each(bench, gone);
     bench.lawful();
     let undone = gone.len() as u32;
-    match fire_each(bench, missing) {
+    match fire_each(bench, mark, missing) {
         Ok(fired) => Ok(Counts { undone, fired }),
         Err(fired) => Err(BackFault::Memory(Counts { undone, fired })),
     }
 }
 
-/// Fires these events, the first one first, and answers how many they are; if memory runs out, how many were fired.
-fn fire_each<L: LinkStore>(bench: &mut Bench<L>, events: Vec<&Event>) -> Result<u32, u32>
-    requires firable { AreFirable bench.old.start (standing (set_of bench.old)) (map (λ e. e.now) events.items) }
-    requires fit { length bench.old.lines + length events.items ≤ MAX_LINES }
-    ensures all { IfOk result (λ count. AreFired bench.old (map (λ e. e.now) events.entry.items) bench.new × (count ≡ length events.entry.items)) }
-    ensures some { IfErr result (λ count. AreSomeFired bench.old (map (λ e. e.now) events.entry.items) count bench.new) }
+/// Fires the events at these places of the mark, the first one first, and answers how many they are; if memory runs out, how many
+/// were fired.
+fn fire_each<L: LinkStore>(bench: &mut Bench<L>, mark: &Mark, places: &[u32]) -> Result<u32, u32>
+    requires within { (p : ℕ) → IsIn p places.now → p < length mark.now.events }
+    requires firable { AreFirable bench.old.start (standing (set_of bench.old)) (events_at mark.now.events places.now) }
+    requires fit { length bench.old.lines + length places.now ≤ MAX_LINES }
+    ensures all { IfOk result (λ count. AreFired bench.old (events_at mark.now.events places.now) bench.new × (count ≡ length places.now)) }
+    ensures some { IfErr result (λ count. AreSomeFired bench.old (events_at mark.now.events places.now) count bench.new) }
 {
     let mut fired = 0;
-    for event in events {
+    for place in places {
         bench.lawful();
-        let Some(pair) = bench.pair_of(event) else {
+        let Ok(event) = mark.event(*place) else {
+            return Err(fired);
+        };
+        let Some(pair) = bench.pair_of(&event) else {
             unreachable!()
         };
         match bench.fire_pair(pair) {

@@ -29,7 +29,11 @@ pub fn back_since<L: LinkStore>(
     bench.lawful();
     mark.lawful();
     let lines = (bench.lines() as usize).saturating_sub(since);
-    if lines > bench.standing_count().saturating_add(mark.events().len()) {
+    if lines
+        > bench
+            .standing_count()
+            .saturating_add(mark.event_count() as usize)
+    {
         return back(alloc, bench, mark);
     }
     let Ok(leads) = bench.changed_leads_since(since) else {
@@ -38,5 +42,5 @@ pub fn back_since<L: LinkStore>(
     let Ok(Differences { outside, missing }) = differences_among(alloc, bench, mark, &leads) else {
         return Err(BackFault::Memory(NOTHING));
     };
-    go_over(bench, mark, &outside, missing)
+    go_over(bench, mark, &outside, &missing)
 }

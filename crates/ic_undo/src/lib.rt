@@ -5,11 +5,11 @@
 pub mod absorbing;
 mod among;
 mod backwards;
-mod event_places;
 pub mod faults;
 pub mod going_back;
 pub mod going_back_since;
 pub mod laws;
+mod marked_events;
 pub mod marking;
 pub mod marks;
 mod missing;

@@ -1,7 +1,7 @@
 ghost use Rattle.std.specs.Prelude.{IfOk};
 ghost use Rattle.ic_undo.specs.Marks.{Marks};
 
-use crate::event_places::places_of;
+use crate::marked_events::MarkedEvents;
 use crate::marks::Mark;
 use ic_journal::{Bench, LinkStore};
 use std::alloc::{AllocError, Global};
@@ -14,10 +14,6 @@ pub fn mark<L: LinkStore>(alloc: Global, bench: &Bench<L>) -> Result<Mark, Alloc
     let start = bench.start().copy()?;
     start.lawful();
     let events = bench.events()?;
-    let places = places_of(alloc, &events)?;
-    Ok(Mark {
-        start,
-        events,
-        places,
-    })
+    let events = MarkedEvents::of(alloc, &events)?;
+    Ok(Mark { start, events })
 }

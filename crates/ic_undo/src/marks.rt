@@ -1,12 +1,15 @@
-ghost use Rattle.std.specs.Prelude.{◌≡◌, ◌≢◌, ◌↔◌, IsTrue, IfNone, IfSome, Some, length, slice_get};
+ghost use Rattle.std.specs.Prelude.{◌≡◌, ◌≢◌, ◌<◌, ◌↔◌, IsTrue, IfNone, IfOk, IfSome, Some, length, slice_get};
 ghost use Rattle.ic_name.specs.Events.{Event as AnEvent};
+ghost use Rattle.ic_names.specs.Tables.{name_at};
 ghost use Rattle.ic_path.specs.Orders.{IsIn};
 ghost use Rattle.ic_undo.specs.Marks.{IsMark};
 
-use crate::event_places::EventPlaces;
+use crate::marked_events::MarkedEvents;
 use ic_journal::{Bench, LinkStore};
 use ic_name::{AgentName, Event};
+use ic_names::{NameId, NameTable};
 use ic_start::Start;
+use std::alloc::AllocError;
 use std::marker::Model;
 
 /// What stood on a bench at one time, with its start: a place to go back to. It finds an event by its lead, since no two of
@@ -14,18 +17,17 @@ use std::marker::Model;
 #[derive(Drop)]
 pub struct Mark {
     pub(crate) start: Start,
-    pub(crate) events: Vec<Event>,
-    pub(crate) places: EventPlaces,
+    pub(crate) events: MarkedEvents,
 }
 
 impl Model for Mark {
-    ghost use Rattle.ic_undo.specs.Marks.{MarkView, IsMark, ArePlaces};
+    ghost use Rattle.ic_undo.specs.Marks.{MarkView, IsMark};
 
     ghost Value = { MarkView };
 
-    ghost view = { λ m. record { start = m.start; events = m.events.items } };
+    ghost view = { λ m. record { start = m.start; events = m.events } };
 
-    ghost invariant = { λ m. IsMark (record { start = m.start; events = m.events.items }) × ArePlaces m.events.items m.places.leads m.places.places };
+    ghost invariant = { λ m. IsMark (record { start = m.start; events = m.events }) };
 }
 
 impl Mark {
@@ -50,11 +52,12 @@ impl Mark {
         self.start.same(bench.start())
     }
 
-    /// The events, in canonical order.
-    pub(crate) fn events(&self) -> &[Event]
-        ensures { result.now ≡ self.now.events }
+    /// The event at a place of the canonical order.
+    pub(crate) fn event(&self, place: u32) -> Result<Event, AllocError>
+        requires { place < length self.now.events }
+        ensures { IfOk result (λ event. slice_get self.now.events place ≡ Some event) }
     {
-        &self.events
+        self.events.read(place)
     }
 
     /// The place of the event that this agent leads, in time that grows as the depth of its name; `None` if it leads none
@@ -63,8 +66,21 @@ impl Mark {
         ensures found { IfSome result (λ place. (e : AnEvent) × (slice_get self.now.events place ≡ Some e) × (e.lead ≡ lead.now)) }
         ensures absent { IfNone result ((e : AnEvent) → IsIn e self.now.events → e.lead ≢ lead.now) }
     {
-        self.places.leads.lawful();
-        let name = self.places.leads.find(lead)?;
-        self.places.places.get(name.place)
+        self.events.find(lead)
+    }
+
+    /// The place of the event that the agent leads whose name is at a place of these names, in time that grows as the depth of
+    /// that name; `None` if it leads none of them. It takes memory only for a name of more than 32 digits, and at an error there
+    /// was none.
+    pub(crate) fn place_at(
+        &self,
+        names: &NameTable,
+        lead: NameId,
+    ) -> Result<Option<u32>, AllocError>
+        requires { lead.place < length names.now }
+        ensures found { IfOk result (λ place. IfSome place (λ p. (e : AnEvent) × (slice_get self.now.events p ≡ Some e) × (e.lead ≡ name_at names.now lead.place))) }
+        ensures absent { IfOk result (λ place. IfNone place ((e : AnEvent) → IsIn e self.now.events → e.lead ≢ name_at names.now lead.place)) }
+    {
+        self.events.find_from(names, lead)
     }
 }

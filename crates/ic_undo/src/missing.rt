@@ -1,30 +1,31 @@
-ghost use Rattle.std.specs.Prelude.{◌≡◌, ◌↔◌, IsTrue, IfOk, map};
+ghost use Rattle.std.specs.Prelude.{◌≡◌, ◌↔◌, IsTrue, IfOk};
 ghost use Rattle.ic_path.specs.Orders.{IsIn};
 ghost use Rattle.ic_roster.specs.Rosters.{Stander};
-ghost use Rattle.ic_undo.specs.GoingBack.{AreMissing};
+ghost use Rattle.ic_undo.specs.GoingBack.{AreMissingAt};
 
 use crate::marks::Mark;
 use ic_journal::{Bench, LinkStore};
 use ic_name::Event;
 use std::alloc::{AllocError, Global};
 
-/// The events of the mark that don't stand, in canonical order.
-pub(crate) fn missing_events<'a, L: LinkStore>(
+/// The places of the mark's events that don't stand, in canonical order.
+pub(crate) fn missing_events<L: LinkStore>(
     alloc: Global,
     bench: &Bench<L>,
-    mark: &'a Mark,
-) -> Result<Vec<&'a Event>, AllocError>
+    mark: &Mark,
+) -> Result<Vec<u32>, AllocError>
     requires { mark.now.start ≡ bench.now.start }
-    ensures { IfOk result (λ events. AreMissing bench.now mark.now (map (λ e. e.now) events.items)) }
+    ensures { IfOk result (λ places. AreMissingAt bench.now mark.now places.items) }
 {
     bench.lawful();
     mark.lawful();
     let mut missing = Vec::new(alloc);
-    for event in mark.events() {
-        if stands(bench, event) {
+    for place in 0..mark.event_count() {
+        let event = mark.event(place)?;
+        if stands(bench, &event) {
             continue;
         }
-        missing.push(event)?;
+        missing.push(place)?;
     }
     Ok(missing)
 }

@@ -1,76 +1,104 @@
-use Rattle.std.proofs.Common.{◌≡◌, ℕ, ◌+◌, ◌≤◌, List, [], ◌∷◌, Bor, length, refl, ap, sym, subst, arith, ◌∙◌, length-append, append_assoc}
+use Rattle.std.proofs.Common.{◌≡◌, ◌+◌, ◌<◌, ◌≤◌, ℕ, List, [], ◌∷◌, ◌++◌, length, take, drop, get_or, refl, ap, sym, subst, arith, ◌∙◌, length-append}
+use Rattle.std.proofs.lemmas.List.{take_all, length-drop}
 use Rattle.ic_name.specs.Events.{Event}
 use Rattle.ic_name.specs.declared.limits.TheConstants.{MAX_LINES}
-use Rattle.ic_undo.specs.GoingBack.{AreFired, firing}
+use Rattle.ic_undo.specs.GoingBack.{AreFired, firing, events_at}
 use Rattle.ic_undo.proofs.FiredInTurn.{none_fired, fired_still, fired_more, firable_later, only_memory}
-use Rattle.ic_undo.proofs.LentEvents.{lent, length-lent, lent-append}
+use Rattle.ic_undo.proofs.Places.{in_at}
+use Rattle.ic_undo.proofs.PlacedMarks.{is_at, all_at, length_first, length_rest, next_at, rest_at}
 use Rattle.ic_undo.proofs.going_back.fire_each.Goals as goal
 
--- as many lines fit as there are events
-lent_fit : (n : ℕ) (b : Bor Event) (bs cs : List (Bor Event)) → cs ≡ b ∷ bs → n + length cs ≤ MAX_LINES → n + length (b.now ∷ lent bs) ≤ MAX_LINES
-lent_fit n b bs cs is fit = let long = ap length is in let same = length-lent bs in omega (arith, long, same, fit)
+-- what isn't empty
+more : {xs ys : List Event} {e : Event} → xs ≡ e ∷ ys → xs ≡ [] → ⊥
+more h n = let q = sym h ∙ n in cc
 
-pub loop-event-init : goal.loop-event-init
-loop-event-init g c =
-    let gives = c.into_iter-event-iterator.ensures.into_iter_gives.0 in
+-- lines for all that are left fit
+fits : (lines n : ℕ) (xs ys : List Event) → xs ≡ ys → length xs ≡ n → lines + n ≤ MAX_LINES → lines + length ys ≤ MAX_LINES
+fits lines n xs ys same long fit = let q = ap length same in omega (arith, q, long, fit)
+
+pub loop-place-init : goal.loop-place-init
+loop-place-init g c =
     let fit = c.requires.fit in
+    record { did = none_fired c.args.bench.now; firable = c.requires.firable; fit = fit; few = omega (arith, fit); count = refl }
+
+pub event-requires : goal.event-requires
+event-requires g c = c.requires.within (get_or c.args.places.now c.loop-place.place-index 0) (in_at c.args.places.now c.loop-place.place-index 0 _ c.loop-place-test.true refl)
+
+pub returns-in_default-clause-some : goal.returns-in_default-clause-some
+returns-in_default-clause-some g c =
+    let es = c.args.mark.now.events in
+    let ps = c.args.places.now in
+    let k = c.loop-place.place-index in
+    let inside = c.loop-place-test.true in
+    let there = is_at es (get_or ps k 0) (c.requires.within (get_or ps k 0) (in_at ps k 0 _ inside refl)) in
     record {
-      whole = gives;
-      did = none_fired c.args.bench.now;
-      firable = rw gives c.requires.firable;
-      fit = rw gives fit;
-      few = rw gives (omega (arith, fit));
-      count = refl;
+      came = events_at es (take k ps);
+      behind = events_at es (drop k ps);
+      parts = all_at es ps k;
+      left = more (rest_at es ps k there.0 inside there.1);
+      fired = c.loop-place.invariant.did;
+      fired_count = c.loop-place.invariant.count ∙ sym (length_first es ps k c.requires.within (omega (arith, inside)));
     }
 
 pub returns-in-Err-Memory-clause-some : goal.returns-in-Err-Memory-clause-some
 returns-in-Err-Memory-clause-some g c =
-    let i = c.loop-event.invariant in
-    let steps = c.in-Some.ensures.steps.0 in
-    let wanting = (rw c.in-Err-Memory.field-0-is at c.in-Err-Memory.ensures) c.in-Some.event.now c.in-Some-pair_of.ensures.found in
+    let es = c.args.mark.now.events in
+    let ps = c.args.places.now in
+    let k = c.loop-place.place-index in
+    let inside = c.loop-place-test.true in
+    let wanting = (rw c.in-Err-Memory.field-0-is at c.in-Err-Memory.ensures) c.in-Ok.event c.in-Some.ensures.found in
     record {
-      came = lent c.loop-event.yielded;
-      behind = lent (c.in-Some.event ∷ c.next.new.self.rest.items);
-      parts = sym (lent-append c.loop-event.yielded (c.in-Some.event ∷ c.next.new.self.rest.items)) ∙ ap lent (rw steps at i.whole);
-      left = λ e. cc;
-      fired = fired_still c.args.bench.now c.loop-event.bench c.fire_pair.new.self (lent c.loop-event.yielded) i.did wanting.1;
-      fired_count = i.count ∙ sym (length-lent c.loop-event.yielded);
+      came = events_at es (take k ps);
+      behind = events_at es (drop k ps);
+      parts = all_at es ps k;
+      left = more (rest_at es ps k c.in-Ok.event inside c.in-Ok.ensures);
+      fired = fired_still c.args.bench.now c.loop-place.bench c.fire_pair.new.self (events_at es (take k ps)) c.loop-place.invariant.did wanting.1;
+      fired_count = c.loop-place.invariant.count ∙ sym (length_first es ps k c.requires.within (omega (arith, inside)));
     }
 
 pub unreachable-requires-in-Err-Deep : goal.unreachable-requires-in-Err-Deep
 unreachable-requires-in-Err-Deep g c =
-    let steps = c.in-Some.ensures.steps.0 in
-    let i = c.loop-event.invariant in
+    let es = c.args.mark.now.events in
+    let ps = c.args.places.now in
+    let k = c.loop-place.place-index in
+    let i = c.loop-place.invariant in
+    let rest = rest_at es ps k c.in-Ok.event c.loop-place-test.true c.in-Ok.ensures in
     let is = c.in-Err-Deep.field-0-is in
-    only_memory c.loop-event.bench c.fire_pair.new.self c.lawful.ensures c.in-Some.event.now (lent c.next.new.self.rest.items) (rw steps at i.firable) c.in-Err-Deep.field-0
-    (lent_fit (length c.loop-event.bench.lines) c.in-Some.event c.next.new.self.rest.items _ steps i.fit) (λ e. cc) (c.in-Err-Deep.ensures c.in-Some.event.now c.in-Some-pair_of.ensures.found)
+    only_memory c.loop-place.bench c.fire_pair.new.self c.lawful.ensures c.in-Ok.event (events_at es (drop (k + 1) ps)) (rw rest at i.firable) c.in-Err-Deep.field-0
+    (fits (length c.loop-place.bench.lines) (length (drop k ps)) (events_at es (drop k ps)) (c.in-Ok.event ∷ events_at es (drop (k + 1) ps)) rest (length_rest es ps k c.requires.within) i.fit) (λ e. cc) (c.in-Err-Deep.ensures c.in-Ok.event c.in-Some.ensures.found)
 
 pub unreachable-requires-in-Err-Full : goal.unreachable-requires-in-Err-Full
 unreachable-requires-in-Err-Full g c =
-    let steps = c.in-Some.ensures.steps.0 in
-    let i = c.loop-event.invariant in
+    let es = c.args.mark.now.events in
+    let ps = c.args.places.now in
+    let k = c.loop-place.place-index in
+    let i = c.loop-place.invariant in
+    let rest = rest_at es ps k c.in-Ok.event c.loop-place-test.true c.in-Ok.ensures in
     let is = c.in-Err-Full.field-0-is in
-    only_memory c.loop-event.bench c.fire_pair.new.self c.lawful.ensures c.in-Some.event.now (lent c.next.new.self.rest.items) (rw steps at i.firable) c.in-Err-Full.field-0
-    (lent_fit (length c.loop-event.bench.lines) c.in-Some.event c.next.new.self.rest.items _ steps i.fit) (λ e. cc) (c.in-Err-Full.ensures c.in-Some.event.now c.in-Some-pair_of.ensures.found)
+    only_memory c.loop-place.bench c.fire_pair.new.self c.lawful.ensures c.in-Ok.event (events_at es (drop (k + 1) ps)) (rw rest at i.firable) c.in-Err-Full.field-0
+    (fits (length c.loop-place.bench.lines) (length (drop k ps)) (events_at es (drop k ps)) (c.in-Ok.event ∷ events_at es (drop (k + 1) ps)) rest (length_rest es ps k c.requires.within) i.fit) (λ e. cc) (c.in-Err-Full.ensures c.in-Ok.event c.in-Some.ensures.found)
 
-pub loop-event-preserved : goal.loop-event-preserved
-loop-event-preserved g c =
-    let i = c.loop-event.invariant in
-    let e = c.in-Some.event in
-    let steps = c.in-Some.ensures.steps.0 in
-    let fires = (c.in-Ok.ensures e.now c.in-Some-pair_of.ensures.found).0 in
-    let long = ap length steps in
+pub loop-place-preserved : goal.loop-place-preserved
+loop-place-preserved g c =
+    let es = c.args.mark.now.events in
+    let ps = c.args.places.now in
+    let k = c.loop-place.place-index in
+    let i = c.loop-place.invariant in
+    let e = c.in-Ok.event in
+    let inside = c.loop-place-test.true in
+    let fires = (c.in-Ok-fire_pair.ensures e c.in-Some.ensures.found).0 in
     let noted = ap length fires.0.lines in
-    let one = length-append c.loop-event.bench.lines (firing e.now ∷ []) in
+    let one = length-append c.loop-place.bench.lines (firing e ∷ []) in
     let fit = i.fit in
     let few = i.few in
     let count = i.count in
-    let more = length-append c.loop-event.yielded (e ∷ []) in record {
-      whole = append_assoc c.loop-event.yielded (e ∷ []) c.next.new.self.rest.items ∙ (rw steps at i.whole);
-      did = subst (λ es. AreFired c.args.bench.now es c.fire_pair.new.self) (sym (lent-append c.loop-event.yielded (e ∷ [])))
-          (fired_more c.loop-event.bench c.fire_pair.new.self e.now c.in-Ok.field-0.id fires c.args.bench.now (lent c.loop-event.yielded) i.did);
-      firable = firable_later c.loop-event.bench c.fire_pair.new.self e.now c.in-Ok.field-0.id fires (lent c.next.new.self.rest.items) (rw steps at i.firable);
-      fit = omega (arith, noted, one, long, fit);
-      few = omega (arith, long, few);
-      count = omega (arith, count, more);
+    let here = length-drop k ps in
+    let next = length-drop (k + 1) ps in
+    record {
+      did = subst (λ fs. AreFired c.args.bench.now fs c.fire_pair.new.self) (sym (next_at es ps k e inside c.in-Ok.ensures))
+          (fired_more c.loop-place.bench c.fire_pair.new.self e c.in-Ok-fire_pair.field-0.id fires c.args.bench.now (events_at es (take k ps)) i.did);
+      firable = firable_later c.loop-place.bench c.fire_pair.new.self e c.in-Ok-fire_pair.field-0.id fires (events_at es (drop (k + 1) ps)) (rw (rest_at es ps k e inside c.in-Ok.ensures) at i.firable);
+      fit = omega (arith, noted, one, fit, here, next, inside);
+      few = omega (arith, few, here, next, inside);
+      count = ap (λ n. n + 1) count;
     }

@@ -1,5 +1,6 @@
 use Rattle.std.proofs.Common.{length, refl, sym, arith, ◌∙◌}
-use Rattle.ic_undo.proofs.LentEvents.{lent, length-lent}
+use Rattle.ic_undo.specs.GoingBack.{events_at}
+use Rattle.ic_undo.proofs.PlacedMarks.{length_at}
 use Rattle.ic_undo.proofs.StayedBenches.{unchanged}
 use Rattle.ic_undo.proofs.WaysBack.{nothing_done, dont_fit_back, free_ids, missing_firable, missing_fit, is_back, back_stands, is_part_way}
 use Rattle.ic_undo.proofs.going_back.go_over.Goals as goal
@@ -8,10 +9,8 @@ pub returns-in-Err-HistoryFull-clause-fault : goal.returns-in-Err-HistoryFull-cl
 returns-in-Err-HistoryFull-clause-fault g c =
     let e = rw c.in-Err-HistoryFull.field-0-is at c.in-Err-HistoryFull.ensures in
     let l = e.0 in
-    let two = c.len.ensures in
-    let four = c.args.missing.ok.0 in
-    let five = length-lent c.args.missing.items in (
-      dont_fit_back c.args.bench.now c.lawful.ensures c.args.mark.now c.requires.start c.lawful-2.ensures c.args.gone.now (lent c.args.missing.items) c.requires.outside c.requires.missing (omega (arith, l, two, four, five)),
+    let five = length_at c.args.mark.now.events c.args.missing.now c.requires.missing.within in (
+      dont_fit_back c.args.bench.now c.lawful.ensures c.args.mark.now c.requires.start c.lawful-2.ensures c.args.gone.now (events_at c.args.mark.now.events c.args.missing.now) c.requires.outside c.requires.missing.missing (omega (arith, l, five)),
       e.1,
     )
 
@@ -22,34 +21,32 @@ returns-in-Err-Memory-clause-fault g c =
 
 pub undo_each-requires-clause-free : goal.undo_each-requires-clause-free
 undo_each-requires-clause-free g c =
-    free_ids c.args.bench.now c.lawful.ensures c.args.mark.now c.requires.start c.lawful-2.ensures c.args.gone.now (lent c.args.missing.items) c.requires.outside c.requires.missing c.reserve.new.self c.in-Ok.ensures.0
+    free_ids c.args.bench.now c.lawful.ensures c.args.mark.now c.requires.start c.lawful-2.ensures c.args.gone.now (events_at c.args.mark.now.events c.args.missing.now) c.requires.outside c.requires.missing.missing c.reserve.new.self c.in-Ok.ensures.0
 
 pub fire_each-requires-clause-firable : goal.fire_each-requires-clause-firable
 fire_each-requires-clause-firable g c =
-    missing_firable c.args.bench.now c.lawful.ensures c.args.mark.now c.requires.start c.lawful-2.ensures c.args.gone.now (lent c.args.missing.items) c.requires.outside c.requires.missing c.reserve.new.self c.in-Ok.ensures.0
+    missing_firable c.args.bench.now c.lawful.ensures c.args.mark.now c.requires.start c.lawful-2.ensures c.args.gone.now (events_at c.args.mark.now.events c.args.missing.now) c.requires.outside c.requires.missing.missing c.reserve.new.self c.in-Ok.ensures.0
     c.undo_each.new.bench c.lawful-4.ensures c.undo_each.ensures
 
 pub fire_each-requires-clause-fit : goal.fire_each-requires-clause-fit
 fire_each-requires-clause-fit g c =
     let room = c.in-Ok.ensures.1 in
-    let two = c.len.ensures in
-    let four = c.args.missing.ok.0 in
-    let five = length-lent c.args.missing.items in
-    let fit = missing_fit c.args.bench.now c.lawful.ensures c.args.mark.now c.requires.start c.lawful-2.ensures c.args.gone.now (lent c.args.missing.items) c.requires.outside c.requires.missing c.reserve.new.self c.in-Ok.ensures.0
-    c.undo_each.new.bench c.lawful-4.ensures c.undo_each.ensures c.lawful-3.ensures (omega (arith, room, two, four, five)) in
+    let five = length_at c.args.mark.now.events c.args.missing.now c.requires.missing.within in
+    let fit = missing_fit c.args.bench.now c.lawful.ensures c.args.mark.now c.requires.start c.lawful-2.ensures c.args.gone.now (events_at c.args.mark.now.events c.args.missing.now) c.requires.outside c.requires.missing.missing c.reserve.new.self c.in-Ok.ensures.0
+    c.undo_each.new.bench c.lawful-4.ensures c.undo_each.ensures c.lawful-3.ensures (omega (arith, room, five)) in
     omega (arith, fit, five)
 
 pub returns-in-Ok-fire_each-clause-back : goal.returns-in-Ok-fire_each-clause-back
 returns-in-Ok-fire_each-clause-back g c =
-    is_back c.args.bench.now c.lawful.ensures c.args.mark.now c.requires.start c.lawful-2.ensures c.args.gone.now (lent c.args.missing.items) c.requires.outside c.requires.missing c.reserve.new.self c.in-Ok.ensures.0
-    c.undo_each.new.bench c.lawful-4.ensures c.undo_each.ensures c.fire_each.new.bench (record { undone = length c.args.gone.now; fired = c.in-Ok-fire_each.fired }) c.in-Ok-fire_each.ensures.all.0 refl (c.in-Ok-fire_each.ensures.all.1 ∙ sym (length-lent c.args.missing.items))
+    is_back c.args.bench.now c.lawful.ensures c.args.mark.now c.requires.start c.lawful-2.ensures c.args.gone.now (events_at c.args.mark.now.events c.args.missing.now) c.requires.outside c.requires.missing.missing c.reserve.new.self c.in-Ok.ensures.0
+    c.undo_each.new.bench c.lawful-4.ensures c.undo_each.ensures c.fire_each.new.bench (record { undone = length c.args.gone.now; fired = c.in-Ok-fire_each.fired }) c.in-Ok-fire_each.ensures.all.0 refl (c.in-Ok-fire_each.ensures.all.1 ∙ sym (length_at c.args.mark.now.events c.args.missing.now c.requires.missing.within))
 
 pub returns-in-Ok-fire_each-clause-stands : goal.returns-in-Ok-fire_each-clause-stands
 returns-in-Ok-fire_each-clause-stands g c =
-    back_stands c.args.bench.now c.lawful.ensures c.args.mark.now c.requires.start c.lawful-2.ensures c.args.gone.now (lent c.args.missing.items) c.requires.outside c.requires.missing c.reserve.new.self c.in-Ok.ensures.0
+    back_stands c.args.bench.now c.lawful.ensures c.args.mark.now c.requires.start c.lawful-2.ensures c.args.gone.now (events_at c.args.mark.now.events c.args.missing.now) c.requires.outside c.requires.missing.missing c.reserve.new.self c.in-Ok.ensures.0
     c.undo_each.new.bench c.lawful-4.ensures c.undo_each.ensures c.fire_each.new.bench c.in-Ok-fire_each.ensures.all.0
 
 pub returns-in-Err-clause-fault : goal.returns-in-Err-clause-fault
 returns-in-Err-clause-fault g c =
-    is_part_way c.args.bench.now c.lawful.ensures c.args.mark.now c.requires.start c.lawful-2.ensures c.args.gone.now (lent c.args.missing.items) c.requires.outside c.requires.missing c.reserve.new.self c.in-Ok.ensures.0
+    is_part_way c.args.bench.now c.lawful.ensures c.args.mark.now c.requires.start c.lawful-2.ensures c.args.gone.now (events_at c.args.mark.now.events c.args.missing.now) c.requires.outside c.requires.missing.missing c.reserve.new.self c.in-Ok.ensures.0
     c.undo_each.new.bench c.lawful-4.ensures c.undo_each.ensures c.fire_each.new.bench (record { undone = length c.args.gone.now; fired = c.in-Err.fired }) c.in-Err.ensures.some refl

@@ -1,6 +1,7 @@
 use Rattle.std.proofs.Common.{List, refl, sym, subst}
-use Rattle.ic_name.specs.Names.{Name}
+use Rattle.ic_names.specs.declared.table.NameId.{NameId}
 use Rattle.ic_path.specs.Orders.{IsIn}
+use Rattle.ic_undo.specs.Among.{names_at}
 use Rattle.ic_undo.proofs.StayedBenches.{unchanged}
 use Rattle.ic_undo.proofs.StoodSince.{outside_changed, missing_changed}
 use Rattle.ic_undo.proofs.WaysBack.{nothing_done}
@@ -11,13 +12,13 @@ returns-in_default-clause-fault g c = nothing_done c.args.bench.now c.lawful.ens
 
 pub differences_among-requires-clause-outside : goal.differences_among-requires-clause-outside
 differences_among-requires-clause-outside g c = λ x i out.
-    subst (λ (ns : List Name). IsIn x.event.lead ns) (sym c.deref.ensures.value)
-    ((c.in-Ok.ensures x.event.lead).1 (x.event, outside_changed c.args.bench.now c.lawful.ensures c.args.mark.now c.args.since c.requires.stood x i out, refl))
+    subst (λ (leads : List NameId). IsIn x.event.lead (names_at c.args.bench.now.names leads)) (sym c.deref.ensures.value)
+    ((c.in-Ok.ensures.each x.event.lead).1 (x.event, outside_changed c.args.bench.now c.lawful.ensures c.args.mark.now c.args.since c.requires.stood x i out, refl))
 
 pub differences_among-requires-clause-missing : goal.differences_among-requires-clause-missing
 differences_among-requires-clause-missing g c = λ e missing.
-    subst (λ (ns : List Name). IsIn e.lead ns) (sym c.deref.ensures.value)
-    ((c.in-Ok.ensures e.lead).1 (e, missing_changed c.args.bench.now c.lawful.ensures c.args.mark.now c.args.since c.requires.stood e missing, refl))
+    subst (λ (leads : List NameId). IsIn e.lead (names_at c.args.bench.now.names leads)) (sym c.deref.ensures.value)
+    ((c.in-Ok.ensures.each e.lead).1 (e, missing_changed c.args.bench.now c.lawful.ensures c.args.mark.now c.args.since c.requires.stood e missing, refl))
 
 pub returns-in_default-differences_among-clause-fault : goal.returns-in_default-differences_among-clause-fault
 returns-in_default-differences_among-clause-fault g c = nothing_done c.args.bench.now c.lawful.ensures c.args.mark.now c.requires.start c.lawful-2.ensures c.args.bench.now (unchanged c.args.bench.now)

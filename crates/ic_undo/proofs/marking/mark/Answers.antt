@@ -1,11 +1,9 @@
-use Rattle.std.proofs.Common.{◌≡◌, List, length, subst, ap, arith, ◌∙◌}
-use Rattle.ic_name.specs.Events.{Event}
-use Rattle.ic_undo.specs.Marks.{ArePlaces}
+use Rattle.std.proofs.Common.{◌≡◌, length, ap, arith, ◌∙◌}
 use Rattle.ic_undo.proofs.MarkedBenches.{bench_mark}
 use Rattle.ic_undo.proofs.marking.mark.Goals as goal
 
-pub places_of-requires : goal.places_of-requires
-places_of-requires g c =
+pub of-requires : goal.of-requires
+of-requires g c =
     let few = rw (c.in_ok-start.ensures ∙ c.start.ensures) at c.lawful-2.ensures.few_agents in
     let short = (bench_mark c.args.bench.now c.lawful.ensures few c.in_ok-events.events.items c.in_ok-events.ensures).few_events in
     let same = ap length c.deref.ensures.value in
@@ -14,7 +12,5 @@ places_of-requires g c =
 pub invariant_of-result : goal.invariant_of-result
 invariant_of-result g c =
     let same : c.in_ok-start.start ≡ c.args.bench.now.start = c.in_ok-start.ensures ∙ c.start.ensures in
-    let few = rw same at c.lawful-2.ensures.few_agents in (
-      rw same (bench_mark c.args.bench.now c.lawful.ensures few c.in_ok-events.events.items c.in_ok-events.ensures),
-      subst (λ (es : List Event). ArePlaces es c.in_ok-places.places.leads c.in_ok-places.places.places) c.deref.ensures.value c.in_ok-places.ensures,
-    )
+    let few = rw same at c.lawful-2.ensures.few_agents in
+    rw (same, c.in_ok-events-2.ensures, c.deref.ensures.value) (bench_mark c.args.bench.now c.lawful.ensures few c.in_ok-events.events.items c.in_ok-events.ensures)
