@@ -15,17 +15,23 @@ const NOTHING_DONE: [&[u8]; 3] = [
     b"refused 25 memory after 0 undone 0 fired\n",
 ];
 
-/// A desk over the net `G(E,a) = D(b,E);`, which ends with four events.
-fn desk<L: LinkStore>(alloc: Global) -> Option<Desk<L>> {
-    let start = read_net(alloc, b"G(E,a) = D(b,E);\n").ok()?;
+/// A net, and lines with what each is answered.
+struct Session {
+    net: &'static [u8],
+    lines: &'static [(&'static [u8], &'static [u8])],
+}
+
+/// A desk over a net.
+fn desk<L: LinkStore>(alloc: Global, net: &[u8]) -> Option<Desk<L>> {
+    let start = read_net(alloc, net).ok()?;
     Desk::over(alloc, start).ok()
 }
 
 /// A desk over it, at the first try or the second.
-fn desk_at_last<L: LinkStore>(alloc: Global) -> Option<Desk<L>> {
-    match desk(alloc) {
+fn desk_at_last<L: LinkStore>(alloc: Global, net: &[u8]) -> Option<Desk<L>> {
+    match desk(alloc, net) {
         Some(desk) => Some(desk),
-        None => desk(alloc),
+        None => desk(alloc, net),
     }
 }
 
@@ -90,28 +96,30 @@ fn shows_the_same<L: LinkStore>(
     Some(net && answer_alike(alloc, desk, other, b"journal")?)
 }
 
-/// Whether the desk shows what another one shows on which these lines were carried out.
+/// Whether the desk shows what another one shows on which the lines before this place were carried out.
 fn shows_what_follows<L: LinkStore>(
     alloc: Global,
     desk: &mut Desk<L>,
-    lines: &[(&[u8], &[u8])],
+    session: &Session,
+    place: usize,
 ) -> Option<bool> {
-    let mut other = desk_at_last::<LinkRows>(alloc)?;
-    shows_the_same(alloc, desk, &mut other, lines)
+    let before = session.lines.get(..place)?;
+    let mut other = desk_at_last::<LinkRows>(alloc, session.net)?;
+    shows_the_same(alloc, desk, &mut other, before)
 }
 
-/// Whether the desk, which answered the line so because memory ran out, is as before where the answer says so, and whether it
-/// then answers the line as it should. Where something was done, it answers it somehow.
+/// Whether the desk, which answered the line in this place so because memory ran out, is as before where the answer says so,
+/// and whether it then answers the line as it should. Where something was done, it answers it somehow.
 fn answers_again<L: LinkStore>(
     alloc: Global,
     desk: &mut Desk<L>,
-    before: &[(&[u8], &[u8])],
-    line: &[u8],
-    text: &[u8],
+    session: &Session,
+    place: usize,
     first: &[u8],
 ) -> Option<bool> {
+    let (line, text) = *session.lines.get(place)?;
     let nothing = NOTHING_DONE.contains(&first);
-    let stayed = !nothing || shows_what_follows(alloc, desk, before)?;
+    let stayed = !nothing || shows_what_follows(alloc, desk, session, place)?;
     let second = answer(alloc, desk, line)?;
     let right = second.bytes() == text || !nothing && !second.bytes().starts_with(b"refused");
     Some(stayed && right)
@@ -121,78 +129,108 @@ fn answers_again<L: LinkStore>(
 fn answers<L: LinkStore>(
     alloc: Global,
     desk: &mut Desk<L>,
-    lines: &[(&[u8], &[u8])],
+    session: &Session,
     place: usize,
 ) -> Option<bool> {
-    let (line, text) = *lines.get(place)?;
+    let (line, text) = *session.lines.get(place)?;
     match answer(alloc, desk, line) {
         None => Some(true),
         Some(first) if first.bytes().starts_with(b"refused 25 ") => {
-            answers_again(alloc, desk, lines.get(..place)?, line, text, first.bytes())
+            answers_again(alloc, desk, session, place, first.bytes())
         }
         Some(first) => Some(first.bytes() == text),
     }
 }
 
-/// Whether the desk answers each of these lines as it should, at the first try or the second.
-fn answers_all<L: LinkStore>(
-    alloc: Global,
-    desk: &mut Desk<L>,
-    lines: &[(&[u8], &[u8])],
-) -> Option<bool> {
+/// Whether the desk answers each line as it should, at the first try or the second.
+fn answers_all<L: LinkStore>(alloc: Global, desk: &mut Desk<L>, session: &Session) -> Option<bool> {
     let mut right = true;
-    for place in 0..lines.len() {
-        right = right && answers(alloc, desk, lines, place)?;
+    for place in 0..session.lines.len() {
+        right = right && answers(alloc, desk, session, place)?;
     }
     Some(right)
 }
 
 /// Whether a new desk does.
-fn plays<L: LinkStore>(alloc: Global, lines: &[(&[u8], &[u8])]) -> Option<bool> {
-    let mut desk = desk_at_last::<L>(alloc)?;
-    answers_all(alloc, &mut desk, lines)
+fn plays<L: LinkStore>(alloc: Global, session: &Session) -> Option<bool> {
+    let mut desk = desk_at_last::<L>(alloc, session.net)?;
+    answers_all(alloc, &mut desk, session)
 }
 
+/// A net that ends with four events.
+const FOUR_EVENTS: &[u8] = b"G(E,a) = D(b,E);\n";
+
 /// Firings, undoings and an unwinding.
-const FIRING: [(&[u8], &[u8]); 8] = [
-    (b"fire 0 2", b"fired 0 2\n"),
-    (b"fire 1 0.0", b"fired 1 0.0\n"),
-    (b"undo 0 2", b"refused 32 held by 1 0.0\n"),
-    (b"undo 1 0.0", b"undone 1 0.0\n"),
-    (b"fire 3 0.3", b"fired 3 0.3\n"),
-    (b"active", b"active 1\n1 0.0\n"),
-    (b"unwind 0 2", b"unwound 2\n3 0.3\n0 2\n"),
-    (b"journal", b"journal 0\n"),
-];
+const FIRING: Session = Session {
+    net: FOUR_EVENTS,
+    lines: &[
+        (b"fire 0 2", b"fired 0 2\n"),
+        (b"fire 1 0.0", b"fired 1 0.0\n"),
+        (b"undo 0 2", b"refused 32 held by 1 0.0\n"),
+        (b"undo 1 0.0", b"undone 1 0.0\n"),
+        (b"fire 3 0.3", b"fired 3 0.3\n"),
+        (b"active", b"active 1\n1 0.0\n"),
+        (b"unwind 0 2", b"unwound 2\n3 0.3\n0 2\n"),
+        (b"journal", b"journal 0\n"),
+    ],
+};
 
 /// A mark, and ways back to it.
-const GOING_BACK: [(&[u8], &[u8]); 6] = [
-    (b"fire 0 2", b"fired 0 2\n"),
-    (b"mark m", b"marked m 1\n"),
-    (b"back m", b"back m undone 0 fired 0\n"),
-    (b"undo 0 2", b"undone 0 2\n"),
-    (b"back m", b"back m undone 0 fired 1\n"),
-    (b"journal", b"journal 1\n0 2 rank 0\n"),
-];
+const GOING_BACK: Session = Session {
+    net: FOUR_EVENTS,
+    lines: &[
+        (b"fire 0 2", b"fired 0 2\n"),
+        (b"mark m", b"marked m 1\n"),
+        (b"back m", b"back m undone 0 fired 0\n"),
+        (b"undo 0 2", b"undone 0 2\n"),
+        (b"back m", b"back m undone 0 fired 1\n"),
+        (b"journal", b"journal 1\n0 2 rank 0\n"),
+    ],
+};
 
 /// A reduction to the end, and all undone.
-const REDUCING: [(&[u8], &[u8]); 6] = [
-    (b"undo-all", b"undone-all 0\n"),
-    (b"reduce 0", b"reduced 0 budget\n"),
-    (b"reduce 9", b"reduced 4 normal\n"),
-    (b"reduce 9", b"reduced 0 normal\n"),
-    (b"undo-all", b"undone-all 4\n"),
-    (b"journal", b"journal 0\n"),
-];
+const REDUCING: Session = Session {
+    net: FOUR_EVENTS,
+    lines: &[
+        (b"undo-all", b"undone-all 0\n"),
+        (b"reduce 0", b"reduced 0 budget\n"),
+        (b"reduce 9", b"reduced 4 normal\n"),
+        (b"reduce 9", b"reduced 0 normal\n"),
+        (b"undo-all", b"undone-all 4\n"),
+        (b"journal", b"journal 0\n"),
+    ],
+};
 
 /// Absorbing events one by one.
-const ABSORBING: [(&[u8], &[u8]); 5] = [
-    (b"1 0.0", b"refused 51 1 0.0\n"),
-    (b"0 2", b"absorbed 1\n"),
-    (b"0 2", b"absorbed 0\n"),
-    (b"1 0.0", b"absorbed 1\n"),
-    (b"journal", b"journal 2\n0 2 rank 0\n1 0.0 rank 1\n"),
-];
+const ABSORBING: Session = Session {
+    net: FOUR_EVENTS,
+    lines: &[
+        (b"1 0.0", b"refused 51 1 0.0\n"),
+        (b"0 2", b"absorbed 1\n"),
+        (b"0 2", b"absorbed 0\n"),
+        (b"1 0.0", b"absorbed 1\n"),
+        (b"journal", b"journal 2\n0 2 rank 0\n1 0.0 rank 1\n"),
+    ],
+};
+
+/// A firing closes a ring, an older one is taken back and opens it, and comes again by a mark.
+const RINGS: Session = Session {
+    net: b"D(x,p) = D(y,q); D(x,r) = D(y,s);\n",
+    lines: &[
+        (b"fire 0 1", b"fired 0 1\n"),
+        (b"fire 2 3", b"fired 2 3\n"),
+        (b"mark m", b"marked m 2\n"),
+        (b"net", RING_CLOSED),
+        (b"undo 0 1", b"undone 0 1\n"),
+        (b"net", RING_OPEN),
+        (b"back m", b"back m undone 0 fired 1\n"),
+        (b"net", RING_CLOSED),
+    ],
+};
+
+const RING_CLOSED: &[u8] = b"# agents 0 wires 2 rings 1\np = q;\nr = s;\n_0 = _0;\n";
+
+const RING_OPEN: &[u8] = b"# agents 2 wires 5 rings 0\nD(_0,p) = _1;\nD(_0,q) = _1;\nr = s;\n";
 
 #[test]
 fn firing_over_the_table(rt: HostRuntime) -> Result<(), Fail> {
@@ -225,6 +263,12 @@ fn reducing_over_the_table(rt: HostRuntime) -> Result<(), Fail> {
 }
 
 #[test]
+fn reducing_over_rows(rt: HostRuntime) -> Result<(), Fail> {
+    assert_eq!(rt; plays::<LinkRows>(rt.alloc(), &REDUCING), Some(true));
+    Ok(())
+}
+
+#[test]
 fn absorbing_over_the_table(rt: HostRuntime) -> Result<(), Fail> {
     assert_eq!(rt; plays::<Store>(rt.alloc(), &ABSORBING), Some(true));
     Ok(())
@@ -233,5 +277,17 @@ fn absorbing_over_the_table(rt: HostRuntime) -> Result<(), Fail> {
 #[test]
 fn absorbing_over_rows(rt: HostRuntime) -> Result<(), Fail> {
     assert_eq!(rt; plays::<LinkRows>(rt.alloc(), &ABSORBING), Some(true));
+    Ok(())
+}
+
+#[test]
+fn rings_over_the_table(rt: HostRuntime) -> Result<(), Fail> {
+    assert_eq!(rt; plays::<Store>(rt.alloc(), &RINGS), Some(true));
+    Ok(())
+}
+
+#[test]
+fn rings_over_rows(rt: HostRuntime) -> Result<(), Fail> {
+    assert_eq!(rt; plays::<LinkRows>(rt.alloc(), &RINGS), Some(true));
     Ok(())
 }
